@@ -133,8 +133,9 @@ class Keeping(Applying):
         looked = self.run_again(["export", "--db", "office.db", "nonet", "0"])
         if looked != Answer(b"", b"not found\n", 1):
             raise ValueError(f"a look at what it left: {looked}")
+        # A look makes no tables: where there are none, no line was carried out.
         tables = tables_of(self.room)
-        kept = [count for count, those in enumerate(self.tables) if those == tables]
+        kept = [0] if tables is None else [count for count, those in enumerate(self.tables) if those == tables]
         if not kept:
             raise ValueError("the tables are those of no beginning of the script")
         return kept
@@ -291,10 +292,54 @@ EVERY_TABLE_ROWS = {
     "msg": 2, "sig": 2, "receiver": 1, "sigvalue": 2, "part": 8,
 }
 
+# What is shown of that office.
+STATE = b"""network     truck
+kind        j1939
+phase       review
+submitted   engine
+approved    brake
+lacking     0 of 1
+releases    1
+added       0
+removed     1
+changed     1
+held        1
+blocks      3
+nodes       1
+messages    2
+signals     2
+"""
+MESSAGES = b"""       256 std 00000100      -    2    1 engine           1 -       Engine Lamps
+2364538880 ext 0cf00000  61440    8    1 engine           1 changed Engine EngineState
+messages 2 signals 2
+"""
+REQUESTS = b"""a1                       done                     <- add_node net=truck name=Engine
+a2                       bundle 5                 <- bundle net=truck file=state.txt ..
+a2                       number 61440             <- command 1
+a2                       start 0                  <- command 2
+a2                       start 16                 <- command 3
+a2                       number 500               <- command 4
+a2                       number 501               <- command 5
+a3                       bundle 3                 <- bundle net=truck file=lamps.txt ..
+a3                       number 256               <- command 1
+a3                       start 0                  <- command 2
+a3                       done                     <- command 3
+a4                       refused 62 BundleRefused 50 2 <- bundle net=truck file=taken.txt ..
+a5                       number 257               <- take_ident net=truck form=std name=Doors length=1
+a6                       done                     <- remove_signal net=truck message=EngineState signal=Torque
+a7                       done                     <- retire net=truck message=Doors
+a8                       refused 54 InReview      <- retire net=truck message=Lamps
+r1                       done                     <- submit net=truck
+r4                       done                     <- submit net=truck
+requests 10 refused 2
+"""
+
 RELEASED = b'VERSION ""\nNS_ :\nBS_:\nBU_:\nBO_ 256 E3: 8 Vector__XXX\nBO_ 257 E2: 8 Vector__XXX\n'
 LIVE = RELEASED.replace(b"257 E2", b"258 E4")
 
-# A port that is taken, so that `serve` ends where it would begin to listen.
+# A port at which nothing listens, as far as a moment ago; and one that is taken, so that `serve` ends where it would begin to listen.
+with socket.create_server(("127.0.0.1", 0)) as listener:
+    FREE = listener.getsockname()[1]
 TAKEN = socket.create_server(("127.0.0.1", 0))
 SERVE = ["serve", "--db", "office.db", "--port", str(TAKEN.getsockname()[1])]
 
@@ -341,6 +386,14 @@ COMMANDS = {
     "export_live": Looking(FREED_AND_HELD, ["export", "--db", "office.db", "truck", "0"], Answer(LIVE)),
     "export_release": Looking(FREED_AND_HELD, ["export", "--db", "office.db", "truck", "1"], Answer(RELEASED)),
     "export_new": InNewDatabase(["export", "--db", "office.db", "truck", "0"], {}, Answer(b"", b"not found\n", 1)),
+    "show_new": InNewDatabase(["show", "--db", "office.db"], {}, Answer(b"", b"not found\n", 1)),
+    "show_state": Looking(EVERY_TABLE, ["show", "--db", "office.db", "truck"], Answer(STATE)),
+    "show_messages": Looking(EVERY_TABLE, ["show", "--db", "office.db", "truck", "messages"], Answer(MESSAGES)),
+    "show_who": Looking(
+        EVERY_TABLE, ["show", "--db", "office.db", "truck", "who", "Nobody"], Answer(b"", b"not found\n", 1)),
+    "show_no_desk": Printing(
+        ["show", "--port", str(FREE)], {}, Answer(b"", f"no desk answers on port {FREE}\n".encode(), 3)),
+    "requests": Looking(EVERY_TABLE, ["requests", "--db", "office.db", "engine"], Answer(REQUESTS)),
     "serve_taken": InNewDatabase(SERVE, {}, Answer(b"", b"cannot listen\n", 3)),
     "migrate": Migrating(
         "tests/database_before_signal_rows/older.base64", "tests/database_before_signal_rows/script.txt",

@@ -10,7 +10,8 @@ use desk::{Routes, ServeFault, listen, serve};
 use office_history::Arrival;
 use sqlite::{Connection, File, FileStore};
 use std::alloc::{AllocError, Global};
-use std::io::Write;
+use std::io::{ErrorKind, Write};
+use std::rt::Files;
 use store::{Look, Lost, StoredOffice};
 
 /// The machine's database files, as SQLite has them. Nothing is known of them, since no contract speaks of the
@@ -30,6 +31,14 @@ fn open(rt: &HostRuntime, path: &str) -> Result<Connection<FileStore<File>>, Los
         Ok(conn) if conn.is_autocommit() => Ok(conn),
         Ok(_) => Err(Lost::Store),
         Err(error) => Err(Lost::from(error)),
+    }
+}
+
+/// Whether there is no file at the path, as far as the machine says, or an empty one. Opening it would make a database.
+fn is_absent(rt: &HostRuntime, path: &str) -> bool {
+    match rt.metadata(path) {
+        Ok(found) => found.is_file() && found.len() == 0,
+        Err(error) => error.kind() == ErrorKind::NotFound,
     }
 }
 
@@ -135,6 +144,9 @@ impl Databases for HostDatabases<'_> {
     }
 
     fn look(&mut self, alloc: Global, path: &str, look: &Look) -> Result<Option<Vec<u8>>, Lost> {
+        if is_absent(self.rt, path) {
+            return Ok(None);
+        }
         let conn = open(self.rt, path)?;
         let (shown, conn) = look_on(alloc, conn, look);
         let closed = close(conn);

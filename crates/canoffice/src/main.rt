@@ -1,13 +1,15 @@
-//! The program `canoffice`: the words of its command line, the machine's files and databases, and the two streams,
-//! given to the program's library.
+//! The program `canoffice`: the words of its command line, the machine's files, databases and desks, and the two
+//! streams, given to the program's library.
 #![tactic(auto)]
 
 mod databases;
+mod desks;
 
 use canoffice_cli::{
     HostFiles, JobFault, Progress, Status, deliver, fault_report, not_utf8_fault, perform,
 };
 use databases::HostDatabases;
+use desks::HostDesks;
 use std::alloc::AllocError;
 use std::env;
 use std::io::{ErrorKind, IsTerminal};
@@ -47,6 +49,7 @@ fn run_words(rt: &HostRuntime, words: &[&str]) -> Status {
         words,
         &HostFiles { rt },
         &mut HostDatabases { rt },
+        &mut HostDesks { rt },
         &mut rt.stdout(),
         &mut rt.stderr(),
         &mut progress,

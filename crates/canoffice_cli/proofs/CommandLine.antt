@@ -17,7 +17,7 @@ use Rattle.clap.specs.Words.{raw_values, first_value, fault_of, first_of, is_sim
 use Rattle.clap.specs.declared.error.kind.ErrorKind.{ErrorKind}
 use Rattle.clap.specs.declared.error.kind.ErrorKind.TheVariants.{OutOfMemory, ValueValidation}
 use Rattle.canoffice_cli.specs.CommandLine.{HasSome, HasWrongNumber, IsEntered, IsFaultOfKind, IsJobFault, IsWhole}
-use Rattle.canoffice_cli.specs.CommandLine.{canoffice_app, is_set, line_faults}
+use Rattle.canoffice_cli.specs.CommandLine.{LooksWrongly, canoffice_app, is_set, line_faults}
 use Rattle.canoffice_cli.specs.declared.job.JobFault.{JobFault}
 use Rattle.canoffice_cli.specs.declared.job.JobFault.TheVariants.{Help, Usage, Memory}
 use Rattle.clap.specs.declared.parser.matches.Found.{Found}
@@ -75,8 +75,16 @@ pub wrong_number_of : (words : List Text) (word : Text) (fault : JobFault) → H
     → IsFaultOfKind ValueValidation fault → IsJobFault words fault
 wrong_number_of words word (Help text) has (inl help) = cc
 wrong_number_of words word (Help text) has (inr version) = cc
-wrong_number_of words word (Usage text) has is = inr (word, has)
+wrong_number_of words word (Usage text) has is = inr (inl (word, has))
 wrong_number_of words word Memory has is = tt
+
+-- and so is what looks wrongly in it
+pub wrong_look_of : (words : List Text) (fault : JobFault) → LooksWrongly words → IsFaultOfKind ValueValidation fault
+    → IsJobFault words fault
+wrong_look_of words (Help text) has (inl help) = cc
+wrong_look_of words (Help text) has (inr version) = cc
+wrong_look_of words (Usage text) has is = inr (inr has)
+wrong_look_of words Memory has is = tt
 
 is_simple_line : is_simple_and_free canoffice_app ≡ true
 is_simple_line = refl

@@ -9,8 +9,8 @@ use Rattle.clap.specs.declared.parser.matches.ArgMatches.{ArgMatches}
 use Rattle.clap.specs.Walk.{Text, answers_to, rows_after}
 use Rattle.clap.specs.Words.{Row}
 use Rattle.clap.specs.Simple.{App, HasMatchesOf, Shape, subcommand_rows_of, built, label_of, subcommand_of}
-use Rattle.canoffice_cli.specs.CommandLine.{HasSome, HasWrongNumber, IsEntered, IsJob, IsJobIn, IsWrongNumber}
-use Rattle.canoffice_cli.specs.CommandLine.{canoffice_app, line_faults}
+use Rattle.canoffice_cli.specs.CommandLine.{HasSome, HasWrongNumber, IsEntered, IsJob, IsJobIn, IsWrongLook}
+use Rattle.canoffice_cli.specs.CommandLine.{IsWrongNumber, LooksWrongly, canoffice_app, line_faults}
 use Rattle.canoffice_cli.specs.declared.job.Job.{Job}
 use Rattle.canoffice_cli.proofs.NoFault.{Among}
 use Rattle.canoffice_cli.proofs.FilledWalk.{IsNoHelp}
@@ -67,6 +67,11 @@ own_entered s called rest (inr (inr (inr (inr (inr (inl same)))))) answers no_he
     let database = needed s rest (codes "db") passes (ap (λ x. needs_value x.rules (codes "db")) same) in
     subst (λ n. IsEntered (Some (n, rows_after s.rules [] rest))) (sym name) ((λ _. database), tt)
 own_entered s called rest (inr (inr (inr (inr (inr (inr (inl same))))))) answers no_help passes =
+    let name : s.name ≡ codes "requests" = ap (λ x. x.name) same in
+    let team = needed s rest (codes "TEAM") passes (ap (λ x. needs_value x.rules (codes "TEAM")) same) in
+    subst (λ n. IsEntered (Some (n, rows_after s.rules [] rest))) (sym name)
+    ((λ never. absurd (true≢false (sym never))), ((λ never. absurd (true≢false (sym never))), ((λ _. team), tt)))
+own_entered s called rest (inr (inr (inr (inr (inr (inr (inr (inl same)))))))) answers no_help passes =
     let name : s.name ≡ codes "serve" = ap (λ x. x.name) same in
     let database = needed s rest (codes "db") passes (ap (λ x. needs_value x.rules (codes "db")) same) in
     subst (λ n. IsEntered (Some (n, rows_after s.rules [] rest))) (sym name) (
@@ -76,18 +81,33 @@ own_entered s called rest (inr (inr (inr (inr (inr (inr (inl same))))))) answers
         ((λ never. absurd (true≢false (sym never))), tt),
       ),
     )
-own_entered s called rest (inr (inr (inr (inr (inr (inr (inr (inl same)))))))) answers no_help passes =
+own_entered s called rest (inr (inr (inr (inr (inr (inr (inr (inr (inl same))))))))) answers no_help passes =
+    let name : s.name ≡ codes "show" = ap (λ x. x.name) same in
+    subst (λ n. IsEntered (Some (n, rows_after s.rules [] rest))) (sym name) (
+      (λ never. absurd (true≢false (sym never))),
+      (
+        (λ never. absurd (true≢false (sym never))),
+        (
+          (λ never. absurd (true≢false (sym never))),
+          (
+            (λ never. absurd (true≢false (sym never))),
+            ((λ never. absurd (true≢false (sym never))), tt),
+          ),
+        ),
+      ),
+    )
+own_entered s called rest (inr (inr (inr (inr (inr (inr (inr (inr (inr (inl same)))))))))) answers no_help passes =
     let name : s.name ≡ codes "table" = ap (λ x. x.name) same in
     let file = needed s rest (codes "FILE") passes (ap (λ x. needs_value x.rules (codes "FILE")) same) in
     subst (λ n. IsEntered (Some (n, rows_after s.rules [] rest))) (sym name) ((λ _. file), tt)
-own_entered s called rest (inr (inr (inr (inr (inr (inr (inr (inr (inl same))))))))) answers no_help passes =
+own_entered s called rest (inr (inr (inr (inr (inr (inr (inr (inr (inr (inr (inl same))))))))))) answers no_help passes =
     let called_help = help_called called (subst (λ (x : Shape). answers_to called (label_of x) ≡ true) same answers) in
     absurd (true≢false (sym called_help ∙ and_true _ no_help))
   where
     and_true : (b : Bool) → (b && true) ≡ false → b ≡ false
     and_true true e = e
     and_true false e = refl
-own_entered s called rest (inr (inr (inr (inr (inr (inr (inr (inr (inr none))))))))) answers no_help passes =
+own_entered s called rest (inr (inr (inr (inr (inr (inr (inr (inr (inr (inr (inr none))))))))))) answers no_help passes =
     absurd none
 
 pub line_is_entered : (words : List Text) → line_faults words ≡ [] → IsEntered (subcommand_of canoffice_app words)
@@ -122,3 +142,9 @@ pub wrong_number_read : (words : List Text) (m : ArgMatches) (word : Text) → I
     → ((name : Text) × (rows : List Row) × (subcommand_rows_of m ≡ Some (name, rows)) × IsWrongNumber name rows word)
     → HasWrongNumber words word
 wrong_number_read words m word read w = (read.faultless, w.0, w.1, sym read.same ∙ w.2, w.3)
+
+-- and so is what looks wrongly in such matches
+pub wrong_look_read : (words : List Text) (m : ArgMatches) → IsLineRead words m
+    → ((name : Text) × (rows : List Row) × (subcommand_rows_of m ≡ Some (name, rows)) × IsWrongLook name rows)
+    → LooksWrongly words
+wrong_look_read words m read w = (read.faultless, w.0, w.1, sym read.same ∙ w.2, w.3)

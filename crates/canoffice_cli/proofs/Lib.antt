@@ -19,3 +19,4 @@ pub mod CanAnswer
 pub mod LongestLines
 pub mod Opened
 pub mod Applied
+pub mod LookRows

@@ -109,6 +109,50 @@ a_serve : line_faults (codes "canoffice" ∷ codes "serve" ∷ codes "--db" ∷ 
 unfolding clap_on_literals
 a_serve = refl
 
+-- ---- `show` and `requests`
+
+-- clap leaves it to `IsPlace` that one of `--db` and `--port` is given
+no_place : line_faults (codes "canoffice" ∷ codes "show" ∷ []) ≡ []
+unfolding clap_on_literals
+no_place = refl
+
+no_team : line_faults (codes "canoffice" ∷ codes "requests" ∷ codes "--port" ∷ codes "8089" ∷ [])
+    ≡ MissingRequiredArgument ∷ []
+unfolding clap_on_literals
+no_team = refl
+
+some_requests : line_faults (codes "canoffice" ∷ codes "requests" ∷ codes "--db" ∷ codes "office.db" ∷ codes "brakes"
+    ∷ []) ≡ []
+unfolding clap_on_literals
+some_requests = refl
+
+abbrev a_show : List Text
+a_show = codes "canoffice" ∷ codes "show" ∷ codes "--db" ∷ codes "office.db" ∷ codes "truck" ∷ codes "blocks"
+    ∷ codes "brakes" ∷ []
+
+one_show : line_faults a_show ≡ []
+unfolding clap_on_literals
+one_show = refl
+
+abbrev shown_words : Option (Text × List Row) → Option (List (Option Text))
+shown_words = option_map (λ found. first_of (codes "db") found.1 ∷ first_of (codes "port") found.1
+    ∷ first_of (codes "NET") found.1 ∷ first_of (codes "WHAT") found.1 ∷ first_of (codes "NAME") found.1 ∷ [])
+
+its_words : shown_words (subcommand_of canoffice_app a_show)
+    ≡ Some (Some (codes "office.db") ∷ None ∷ Some (codes "truck") ∷ Some (codes "blocks") ∷ Some (codes "brakes") ∷ [])
+unfolding clap_on_literals
+its_words = refl
+
+a_look_at_a_desk : shown_words (subcommand_of canoffice_app (codes "canoffice" ∷ codes "show" ∷ codes "truck"
+    ∷ codes "--port=8089" ∷ [])) ≡ Some (None ∷ Some (codes "8089") ∷ Some (codes "truck") ∷ None ∷ None ∷ [])
+unfolding clap_on_literals
+a_look_at_a_desk = refl
+
+too_many_words : line_faults (codes "canoffice" ∷ codes "show" ∷ codes "--db=office.db" ∷ codes "truck"
+    ∷ codes "blocks" ∷ codes "brakes" ∷ codes "more" ∷ []) ≡ UnknownArgument ∷ []
+unfolding clap_on_literals
+too_many_words = refl
+
 no_length : line_faults (codes "canoffice" ∷ codes "chart" ∷ []) ≡ MissingRequiredArgument ∷ []
 unfolding clap_on_literals
 no_length = refl

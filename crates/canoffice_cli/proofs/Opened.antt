@@ -4,10 +4,13 @@ use Rattle.std.proofs.Common.{◌∙◌, arith, append-nil}
 use Rattle.std.specs.Prelude.{IfOk, IsSome, IsTrue, OnErr, OnOk, ⊤}
 use Rattle.std.specs.Result.{result_map_both}
 use Rattle.std.proofs.lemmas.Result.{on_err_weaker, on_ok_weaker}
+use Rattle.sqlite.specs.Schema.{Schema}
 use Rattle.sqlite.specs.State.{HasCleanDisk, State}
 use Rattle.sqlite_trees.specs.View.{doubt}
+use Rattle.sqlite_catalog.specs.Listing.{IsSound}
 use Rattle.office_types.specs.declared.state.Office.{Office}
 use Rattle.office_history.specs.History.{Answered, IsLegal}
+use Rattle.store_tables.specs.Schema.{no_schema, office_schema}
 use Rattle.store.specs.declared.lost.Lost.{Lost}
 use Rattle.office_types.specs.declared.look.Look.{Look}
 use Rattle.store.specs.Holding.{Holding}
@@ -15,7 +18,7 @@ use Rattle.store.specs.Looking.{IsShown}
 use Rattle.store.specs.Opening.{HasNone, HoldingInSomeForm}
 use Rattle.canoffice_cli.specs.Answered.{InDatabase}
 use Rattle.canoffice_cli.specs.Databases.{AreKept, Begins, Databases, nothing_known}
-use Rattle.canoffice_cli.specs.Exported.{IsLookedUp}
+use Rattle.canoffice_cli.specs.Looked.{IsLookedUp}
 use Rattle.canoffice_cli.specs.Migrated.{IsMigrated}
 
 -- what is known stays known where nothing is done
@@ -47,6 +50,18 @@ either_way X (Err e) ok err = err
 pub held_or_none : {A E : Type 0} (P Q : A → Type 0) (r : Result A E) → IfOk r P → IfOk r (λ x. P x ⊎ Q x)
 held_or_none P Q (Ok x) h = inl h
 held_or_none P Q (Err e) h = tt
+
+-- no table is not those of an office
+apart : no_schema ≡ office_schema → ⊥
+unfolding office_schema
+apart same = let tables = ap (λ (s : Schema). s.tables) same in cc
+
+-- tables that hold a history are some
+pub no_office_is_new : (h : List Answered) (s : State) → Holding h s
+    → (IsTrue s.is_open → IsSound office_schema s.now.trees → s.now.schema ≡ office_schema)
+    → s.now.schema ≡ no_schema → ⊥
+no_office_is_new h s holding knows new =
+    apart (sym new ∙ knows holding.is_open holding.keeps.office.sound)
 
 -- nothing was answered, since the database was not opened
 pub none_reported : (known : Databases) (path : List ℕ) (reported : List Answered) (lost : Option Lost) → reported ≡ []
@@ -81,44 +96,26 @@ module _ (before after : Databases) (path : List ℕ) (begin end : State)
         ];
   }
 
-  -- nothing was shown, and what was held is
-  pub looked_lost : (look : Look) (lost : Lost)
+  -- this was shown, or the call was lost, of a database that has tables
+  pub looked : {A : Type 0} (text_of : A → Option (List ℕ)) (look : Look) (shown : Result A Lost)
+      → (before.is_new path → ⊥)
+      → (HasCleanDisk end → (h : List Answered) → Holding h begin → (office : Office) → IsLegal h office
+      → IfOk shown (λ x. IsShown h office look (text_of x)))
       → (HasCleanDisk end → (h : List Answered) → Holding h begin → IsTrue end.is_open → Holding h end)
-      → IsLookedUp before after path look (Err lost)
-  looked_lost look lost held = record {
-    of_held = λ h office holds legal sound. tt;
-    of_new = λ office new legal sound. tt;
+      → IsLookedUp before after path look (result_map_both text_of (λ lost. lost) shown)
+  looked text_of look (Ok x) tables shows held = record {
+    of_held = λ h office holds legal sound. shows (closed_sound sound).0 h (opened_held (early sound) h holds) office
+        legal;
     held = λ h holds sound. let s = closed_sound sound in
         closed_held sound h (held s.0 h (opened_held (early sound) h holds) s.1);
-    made = λ new sound. tt;
+    of_none = λ new. absurd (tables new);
   }
-
-  -- this was shown
-  pub looked_up : (look : Look) (shown : Option (List ℕ))
-      → (HasCleanDisk end → (h : List Answered) → Begins h begin → (office : Office) → IsLegal h office
-      → IsShown office look shown)
-      → (HasCleanDisk end → (h : List Answered) → Begins h begin → Holding h end)
-      → IsLookedUp before after path look (Ok shown)
-  looked_up look shown shows begun = record {
-    of_held = λ h office holds legal sound. shows (closed_sound sound).0 h (inl (opened_held (early sound) h holds))
-        office legal;
-    of_new = λ office new legal sound. shows (closed_sound sound).0 [] (inr (refl, opened_none (early sound) new))
-        office legal;
-    held = λ h holds sound. closed_held sound h
-        (begun (closed_sound sound).0 h (inl (opened_held (early sound) h holds)));
-    made = λ new sound. closed_held sound []
-        (begun (closed_sound sound).0 [] (inr (refl, opened_none (early sound) new)));
+  looked text_of look (Err lost) tables shows held = record {
+    of_held = λ h office holds legal sound. tt;
+    held = λ h holds sound. let s = closed_sound sound in
+        closed_held sound h (held s.0 h (opened_held (early sound) h holds) s.1);
+    of_none = λ new. absurd (tables new);
   }
-
-  -- this was shown, or the call was lost
-  pub looked : {A : Type 0} (text_of : A → Option (List ℕ)) (look : Look) (shown : Result A Lost)
-      → (HasCleanDisk end → (h : List Answered) → Begins h begin → (office : Office) → IsLegal h office
-      → IfOk shown (λ x. IsShown office look (text_of x)))
-      → (HasCleanDisk end → (h : List Answered) → Holding h begin → IsTrue end.is_open → Holding h end)
-      → (HasCleanDisk end → (h : List Answered) → Begins h begin → OnOk shown (Holding h end))
-      → IsLookedUp before after path look (result_map_both text_of (λ lost. lost) shown)
-  looked text_of look (Ok x) shows held begun = looked_up look (text_of x) shows begun
-  looked text_of look (Err lost) shows held begun = looked_lost look lost held
 
   -- the tables were made those of this version, or were left
   pub migrated_at : (HasCleanDisk begin → (h : List Answered) → before.holds_in_form path h → HoldingInSomeForm h begin)
@@ -141,16 +138,6 @@ module _ (before after : Databases) (path : List ℕ) (begin end : State)
         (made (closed_sound sound).0 (opened_none (early sound) new));
   }
 
--- a database that was not opened
-pub not_opened : (known : Databases) (path : List ℕ) (look : Look) (lost : Lost)
-    → IsLookedUp known known path look (Err lost)
-not_opened known path look lost = record {
-  of_held = λ h office holds legal sound. tt;
-  of_new = λ office new legal sound. tt;
-  held = λ h holds sound. holds;
-  made = λ new sound. tt;
-}
-
 -- databases of which nothing is known
 
 pub nothing_reported : (path : List ℕ) (reported : List Answered) (lost : Option Lost)
@@ -161,7 +148,6 @@ pub nothing_looked_up : (path : List ℕ) (look : Look) (shown : Result (Option 
     → IsLookedUp nothing_known nothing_known path look shown
 nothing_looked_up path look shown = record {
   of_held = λ h office holds legal sound. absurd holds;
-  of_new = λ office new legal sound. absurd new;
   held = λ h holds sound. absurd holds;
-  made = λ new sound. absurd new;
+  of_none = λ new. absurd new;
 }

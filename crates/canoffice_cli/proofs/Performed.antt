@@ -8,14 +8,15 @@ use Rattle.canoffice_cli.specs.Delivery.{IsDelivered, Writing}
 use Rattle.canoffice_cli.specs.Outcome.{memory_lost, outcome_of, final_outcome}
 use Rattle.office_script.specs.Files.{Files, Holding}
 use Rattle.canoffice_cli.specs.Databases.{Databases}
+use Rattle.canoffice_cli.specs.Desks.{Desks}
 use Rattle.canoffice_cli.specs.Performance.{IsAnswered, IsPerformed}
 
-pub performed : (words : List (List ℕ)) (files : Files) (input : Holding) (before after : Databases)
+pub performed : (words : List (List ℕ)) (files : Files) (input : Holding) (desks : Desks) (before after : Databases)
     (output errors : Writing) (status : Status) (answer : Result Report AllocError)
-    → IfOk answer (λ report. IsAnswered words files input before after (outcome_of report))
+    → IfOk answer (λ report. IsAnswered words files input desks before after (outcome_of report))
     → IsDelivered (final_outcome answer) output errors status
-    → IsPerformed words files input before after output errors status
-performed words files input before after output errors status (Ok report) answered delivered =
+    → IsPerformed words files input desks before after output errors status
+performed words files input desks before after output errors status (Ok report) answered delivered =
     (outcome_of report, inr answered, delivered)
-performed words files input before after output errors status (Err lost) answered delivered =
+performed words files input desks before after output errors status (Err lost) answered delivered =
     (memory_lost, inl refl, delivered)

@@ -12,14 +12,22 @@ use Rattle.clap.specs.declared.error.kind.ErrorKind.{ErrorKind}
 use Rattle.clap.specs.declared.error.kind.ErrorKind.TheVariants.{DisplayHelp, DisplayVersion, OutOfMemory}
 use Rattle.office_views.specs.Word.{length_of}
 use Rattle.canoffice_cli.specs.declared.job.Job.{Job}
-use Rattle.canoffice_cli.specs.declared.job.Job.TheVariants.{Apply, Chart, Check, Export, Format, Migrate, Serve, Table}
+use Rattle.canoffice_cli.specs.declared.job.Job.TheVariants.{Apply, Chart, Check, Export, Format, Migrate, Requests}
+use Rattle.canoffice_cli.specs.declared.job.Job.TheVariants.{Serve, Show, Table}
 use Rattle.canoffice_cli.specs.declared.job.JobFault.{JobFault}
 use Rattle.canoffice_cli.specs.declared.job.JobFault.TheVariants.{Help, Usage, Memory}
 use Rattle.canoffice_cli.specs.declared.job.ValueFault.{ValueFault}
 use Rattle.canoffice_cli.specs.declared.job.ValueFault.TheVariants as value
+use Rattle.canoffice_cli.specs.declared.place.Place.{Place}
 use Rattle.canoffice_cli.specs.Numbers.{count_given, port_given, release_number}
+use Rattle.canoffice_cli.specs.Place.{IsNoPlace, IsPlace}
+use Rattle.canoffice_looks.specs.What.{shown_by}
 
 -- ---- the description for clap
+
+-- a positional argument that may be left out
+abbrev pub optional_word : Text → Rule
+optional_word id = new_rule id
 
 -- a required positional argument
 abbrev pub required_word : Text → Rule
@@ -69,10 +77,27 @@ format_app = with_rule (with_rule (new_app (codes "format")) explain_flag) (requ
 abbrev pub migrate_app : App
 migrate_app = with_rule (new_app (codes "migrate")) (required_option (codes "db"))
 
+-- --db FILE and --port N
+abbrev pub with_place : App → App
+with_place app = with_rule (with_rule app (option_word (codes "db"))) (option_word (codes "port"))
+
+-- requests (--db FILE | --port N) TEAM
+abbrev pub requests_app : App
+requests_app = with_rule (with_place (new_app (codes "requests"))) (required_word (codes "TEAM"))
+
 -- serve --db FILE [--port N] [--count N]
 abbrev pub serve_app : App
 serve_app = with_rule (with_rule (with_rule (new_app (codes "serve")) (required_option (codes "db")))
     (option_word (codes "port"))) (option_word (codes "count"))
+
+-- [NET [WHAT [NAME]]]
+abbrev pub with_sought : App → App
+with_sought app = with_rule (with_rule (with_rule app (optional_word (codes "NET"))) (optional_word (codes "WHAT")))
+    (optional_word (codes "NAME"))
+
+-- show (--db FILE | --port N) [NET [WHAT [NAME]]]
+abbrev pub show_app : App
+show_app = with_sought (with_place (new_app (codes "show")))
 
 -- table FILE
 abbrev pub table_app : App
@@ -86,7 +111,7 @@ with_version = on_top (λ s. record s { has_version = true })
 abbrev pub wants_subcommand : App → App
 wants_subcommand = on_top (λ s. record s { subcommand_required = true; arg_required_else_help = true })
 
--- canoffice apply .., chart .., check .., export .., format .., migrate .., serve .., table ..
+-- canoffice apply .., chart .., check .., export .., format .., migrate .., requests .., serve .., show .., table ..
 abbrev pub canoffice_app : App
 canoffice_app =
     let to_apply = with_subcommand (wants_subcommand (with_version (new_app (codes "canoffice")))) apply_app.top in
@@ -95,8 +120,10 @@ canoffice_app =
     let to_export = with_subcommand to_check export_app.top in
     let to_format = with_subcommand to_export format_app.top in
     let to_migrate = with_subcommand to_format migrate_app.top in
-    let to_serve = with_subcommand to_migrate serve_app.top in
-    with_subcommand to_serve table_app.top
+    let to_requests = with_subcommand to_migrate requests_app.top in
+    let to_serve = with_subcommand to_requests serve_app.top in
+    let to_show = with_subcommand to_serve show_app.top in
+    with_subcommand to_show table_app.top
 
 -- the kinds of fault that clap finds in the words
 abbrev pub line_faults : List Text → Kinds
@@ -116,6 +143,10 @@ HasValues rows id texts = all_of id rows ≡ Some texts
 abbrev pub is_set : List Row → Text → Bool
 is_set rows id = option_map_or (λ value. bytes_eq value (codes "true")) (first_of id rows) false
 
+-- the values of `--db` and `--port` name the place
+abbrev pub IsPlaceIn : Place → List Row → Type 0
+IsPlaceIn place rows = IsPlace place (first_of (codes "db") rows) (first_of (codes "port") rows)
+
 -- the job is the subcommand, with the values of its arguments, and the numbers that they give
 abbrev pub IsJobOf : Job → Text → List Row → Type 0
 IsJobOf (Apply database script explain) name rows =
@@ -133,10 +164,17 @@ IsJobOf (Export database net number) name rows =
 IsJobOf (Format file explain) name rows = (name ≡ codes "format") × HasValue rows (codes "FILE") file.now
     × (explain ≡ is_set rows (codes "explain"))
 IsJobOf (Migrate database) name rows = (name ≡ codes "migrate") × HasValue rows (codes "db") database.now
+IsJobOf (Requests place team) name rows =
+    (name ≡ codes "requests") × IsPlaceIn place rows × HasValue rows (codes "TEAM") team.now
 IsJobOf (Serve database port count) name rows =
     (name ≡ codes "serve") × HasValue rows (codes "db") database.now
     × (port_given (first_of (codes "port") rows) ≡ Some port)
     × (count_given (first_of (codes "count") rows) ≡ Some count)
+IsJobOf (Show place net what named) name rows =
+    (name ≡ codes "show") × IsPlaceIn place rows
+    × (first_of (codes "NET") rows ≡ option_map (λ word. word.now) net)
+    × (first_of (codes "NAME") rows ≡ option_map (λ word. word.now) named)
+    × (shown_by (first_of (codes "WHAT") rows) (first_of (codes "NAME") rows) ≡ Some what)
 IsJobOf (Table file) name rows = (name ≡ codes "table") × HasValue rows (codes "FILE") file.now
 
 -- the job of the subcommand that was found, with its values
@@ -186,10 +224,20 @@ IsWrongNumber name rows word =
     ⊎ ((name ≡ codes "serve") × HasValue rows (codes "count") word × (count_given (Some word) ≡ None)
     × (port : ℕ) × (port_given (first_of (codes "port") rows) ≡ Some port))
 
--- the subcommand with these arguments makes no job: a word is a wrong number, or there was no memory for a chart's
--- signals
+-- the subcommand with these arguments looks at an office, but the values of `--db` and `--port` name no place, or
+-- nothing is shown by the words
+abbrev pub IsWrongLook : Text → List Row → Type 0
+IsWrongLook name rows =
+    (((name ≡ codes "requests") ⊎ (name ≡ codes "show"))
+    × IsNoPlace (first_of (codes "db") rows) (first_of (codes "port") rows))
+    ⊎ ((name ≡ codes "show") × (shown_by (first_of (codes "WHAT") rows) (first_of (codes "NAME") rows) ≡ None))
+
+-- the subcommand with these arguments makes no job: a word is a wrong number, or it looks wrongly, or there was no
+-- memory for a chart's signals
 abbrev pub IsValueFault : Text → List Row → ValueFault → Type 0
 IsValueFault name rows (value.WrongNumber number word) = IsWrongNumber name rows word.now
+IsValueFault name rows (value.WrongPlace command fault) = IsWrongLook name rows
+IsValueFault name rows (value.WrongWhat fault) = IsWrongLook name rows
 IsValueFault name rows value.Memory = name ≡ codes "chart"
 
 abbrev pub IsValueFaultIn : Option (Text × List Row) → ValueFault → Type 0
@@ -202,13 +250,19 @@ HasWrongNumber words word =
     (line_faults words ≡ []) × (name : Text) × (rows : List Row)
     × (subcommand_of canoffice_app words ≡ Some (name, rows)) × IsWrongNumber name rows word
 
--- the words request help, or the version; or they have a fault of another kind, or a wrong number; or memory ran
--- out
+-- clap finds no fault in the words, but they look wrongly
+abbrev pub LooksWrongly : List Text → Type 0
+LooksWrongly words =
+    (line_faults words ≡ []) × (name : Text) × (rows : List Row)
+    × (subcommand_of canoffice_app words ≡ Some (name, rows)) × IsWrongLook name rows
+
+-- the words request help, or the version; or they have a fault of another kind, or a wrong number, or look wrongly; or
+-- memory ran out
 abbrev pub IsJobFault : List Text → JobFault → Type 0
 IsJobFault words (Help text) = IsAmong DisplayHelp (line_faults words) ⊎ IsAmong DisplayVersion (line_faults words)
 IsJobFault words (Usage text) =
     ((kind : ErrorKind) × (kind ≢ DisplayHelp) × (kind ≢ DisplayVersion) × IsAmong kind (line_faults words))
-    ⊎ ((word : Text) × HasWrongNumber words word)
+    ⊎ ((word : Text) × HasWrongNumber words word) ⊎ LooksWrongly words
 IsJobFault words Memory = Unit {0}
 
 -- the words request a job, or have a fault

@@ -1,11 +1,14 @@
 pub mod Numbers
 pub mod Outcome
+pub mod Place
 pub mod CommandLine
 pub mod Holding
 pub mod Databases
 pub mod Answered
 pub mod LongestLines
 pub mod Applied
+pub mod Desks
+pub mod Looked
 pub mod Exported
 pub mod Migrated
 pub mod Served

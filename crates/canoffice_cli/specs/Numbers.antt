@@ -9,6 +9,10 @@ use Rattle.std.proofs.Common.{refl}
 abbrev pub release_number : List ℕ → Option ℕ
 release_number word = option_and_then (between 0 65535) (whole_of word)
 
+-- the number of a port
+abbrev pub port_number : List ℕ → Option ℕ
+port_number word = option_and_then (between 1 65535) (whole_of word)
+
 -- the number from 1 to the limit that a word gives, or that which is taken where there is no word
 abbrev pub number_given : ℕ → ℕ → Option (List ℕ) → Option ℕ
 number_given absent limit None = Some absent
@@ -28,6 +32,12 @@ greatest_port = refl
 
 port_zero : port_given (Some (codes "0")) ≡ None
 port_zero = refl
+
+some_port : port_number (codes "8089") ≡ Some 8089
+some_port = refl
+
+no_such_port : port_number (codes "65536") ≡ None
+no_such_port = refl
 
 live_sheet : release_number (codes "0") ≡ Some 0
 live_sheet = refl

@@ -38,6 +38,10 @@ wrong_input text = record { output = []; errors = text; status = WrongInput }
 abbrev pub failure : List ℕ → Outcome
 failure text = record { output = []; errors = text; status = Failed }
 
+-- what is looked up isn't there
+abbrev pub not_found : Outcome
+not_found = record { output = []; errors = codes "not found\n"; status = FaultFound }
+
 -- the file of this path cannot be read
 abbrev pub unreadable : List ℕ → Outcome
 unreadable path = failure (codes "cannot read " ++ (shown_path path ++ codes "\n"))

@@ -1,4 +1,4 @@
--- The outcome of the program, from its words and from what is known of files, standard input and databases.
+-- The outcome of the program, from its words and from what is known of files, standard input, desks and databases.
 use Rattle.std.specs.Prelude.{◌≡◌, ◌⊎◌, ℕ, false, List, map, option_map, Result, Ok, Err, string_bytes}
 use Rattle.dbc_advice.specs.ShownPath.{shown_path}
 use Rattle.office_script.specs.Files.{Files, Holding, unknown, absent, holding}
@@ -10,8 +10,10 @@ use Rattle.canoffice_cli.specs.Databases.{AreKept, Databases}
 use Rattle.canoffice_cli.specs.Applied.{IsApplyOutcome}
 use Rattle.canoffice_cli.specs.Charted.{IsChartOutcome}
 use Rattle.canoffice_cli.specs.Checked.{IsCheckOutcome}
+use Rattle.canoffice_cli.specs.Desks.{Desks}
 use Rattle.canoffice_cli.specs.Exported.{IsExportOutcome}
 use Rattle.canoffice_cli.specs.Formatted.{IsFormatOutcome}
+use Rattle.canoffice_cli.specs.Looked.{IsRequestsOutcome, IsShowOutcome}
 use Rattle.canoffice_cli.specs.Migrated.{IsMigrateOutcome}
 use Rattle.canoffice_cli.specs.Served.{IsServeOutcome}
 use Rattle.canoffice_cli.specs.Tabled.{IsTableOutcome}
@@ -21,7 +23,8 @@ use Rattle.canoffice_cli.specs.declared.file_jobs.FileJob.{FileJob}
 use Rattle.canoffice_cli.specs.declared.file_jobs.FileTask.{FileTask}
 use Rattle.canoffice_cli.specs.declared.file_jobs.FileTask.TheVariants as task
 use Rattle.canoffice_cli.specs.declared.job.Job.{Job}
-use Rattle.canoffice_cli.specs.declared.job.Job.TheVariants.{Apply, Chart, Check, Export, Format, Migrate, Serve, Table}
+use Rattle.canoffice_cli.specs.declared.job.Job.TheVariants.{Apply, Chart, Check, Export, Format, Migrate, Requests}
+use Rattle.canoffice_cli.specs.declared.job.Job.TheVariants.{Serve, Show, Table}
 use Rattle.canoffice_cli.specs.declared.job.JobFault.{JobFault}
 use Rattle.canoffice_cli.specs.declared.job.JobFault.TheVariants.{Help, Usage, Memory}
 
@@ -51,20 +54,25 @@ IsFileOutcome files input before after job o =
     o
 
 -- the outcome of the job, and what is known of databases before and after
-abbrev pub IsDone : Files → Holding → Databases → Databases → Job → Outcome → Type 0
-IsDone files input before after (Apply database script explain) o =
+abbrev pub IsDone : Files → Holding → Desks → Databases → Databases → Job → Outcome → Type 0
+IsDone files input desks before after (Apply database script explain) o =
     IsFileOutcome files input before after (record { task = task.Apply database; path = script; explain = explain }) o
-IsDone files input before after (Chart length signals) o = IsChartOutcome length (map (λ s. s.now) signals.items) o
+IsDone files input desks before after (Chart length signals) o = IsChartOutcome length (map (λ s. s.now) signals.items) o
     × AreKept before after
-IsDone files input before after (Check file explain) o =
+IsDone files input desks before after (Check file explain) o =
     IsFileOutcome files input before after (record { task = task.Check; path = file; explain = explain }) o
-IsDone files input before after (Export database net number) o =
+IsDone files input desks before after (Export database net number) o =
     IsExportOutcome before after database.now net.now number o
-IsDone files input before after (Format file explain) o =
+IsDone files input desks before after (Format file explain) o =
     IsFileOutcome files input before after (record { task = task.Format; path = file; explain = explain }) o
-IsDone files input before after (Migrate database) o = IsMigrateOutcome before after database.now o
-IsDone files input before after (Serve database port count) o = IsServeOutcome before after database.now count o
-IsDone files input before after (Table file) o =
+IsDone files input desks before after (Migrate database) o = IsMigrateOutcome before after database.now o
+IsDone files input desks before after (Requests place team) o =
+    IsRequestsOutcome desks before after place team.now o
+IsDone files input desks before after (Serve database port count) o = IsServeOutcome before after database.now count o
+IsDone files input desks before after (Show place net what name) o =
+    IsShowOutcome desks before after place (option_map (λ word. word.now) net) what
+    (option_map (λ word. word.now) name) o
+IsDone files input desks before after (Table file) o =
     IsFileOutcome files input before after (record { task = task.Table; path = file; explain = false }) o
 
 -- the outcome of words that request no job: the text of their fault
@@ -74,17 +82,18 @@ IsFaultAnswer (Usage text) o = o ≡ wrong_input (string_bytes text)
 IsFaultAnswer Memory o = o ≡ memory_lost
 
 -- the outcome of a command line
-abbrev pub IsAnswer : Files → Holding → Databases → Databases → Result Job JobFault → Outcome → Type 0
-IsAnswer files input before after (Ok job) o = IsDone files input before after job o
-IsAnswer files input before after (Err fault) o = IsFaultAnswer fault o × AreKept before after
+abbrev pub IsAnswer : Files → Holding → Desks → Databases → Databases → Result Job JobFault → Outcome → Type 0
+IsAnswer files input desks before after (Ok job) o = IsDone files input desks before after job o
+IsAnswer files input desks before after (Err fault) o = IsFaultAnswer fault o × AreKept before after
 
 -- the outcome of the program's words, unless memory runs out before there is one
-abbrev pub IsAnswered : List (List ℕ) → Files → Holding → Databases → Databases → Outcome → Type 0
-IsAnswered words files input before after o = (line : Result Job JobFault) × IsLine words line
-    × IsAnswer files input before after line o
+abbrev pub IsAnswered : List (List ℕ) → Files → Holding → Desks → Databases → Databases → Outcome → Type 0
+IsAnswered words files input desks before after o = (line : Result Job JobFault) × IsLine words line
+    × IsAnswer files input desks before after line o
 
 -- a run of the program: the outcome of its words is delivered, or that memory ran out
-abbrev pub IsPerformed : List (List ℕ) → Files → Holding → Databases → Databases → Writing → Writing → Status → Type 0
-IsPerformed words files input before after output errors status =
-    (o : Outcome) × ((o ≡ memory_lost) ⊎ IsAnswered words files input before after o)
+abbrev pub IsPerformed : List (List ℕ) → Files → Holding → Desks → Databases → Databases → Writing → Writing → Status
+    → Type 0
+IsPerformed words files input desks before after output errors status =
+    (o : Outcome) × ((o ≡ memory_lost) ⊎ IsAnswered words files input desks before after o)
     × IsDelivered o output errors status

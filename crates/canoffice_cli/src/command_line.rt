@@ -3,8 +3,9 @@ ghost use Rattle.std.specs.Prelude.{◌≡◌, IfOk, codes, false};
 ghost use Rattle.clap.specs.Words.{app_of, new_app, rule_of};
 ghost use Rattle.clap.specs.declared.builder.command.Command.TheViews.{out-Command as fields_of};
 ghost use Rattle.canoffice_cli.specs.CommandLine.{apply_app, canoffice_app, chart_app, check_app, explain_flag};
-ghost use Rattle.canoffice_cli.specs.CommandLine.{export_app, format_app, migrate_app, option_word, required_option};
-ghost use Rattle.canoffice_cli.specs.CommandLine.{required_word, required_words, serve_app, table_app};
+ghost use Rattle.canoffice_cli.specs.CommandLine.{export_app, format_app, migrate_app, option_word, optional_word};
+ghost use Rattle.canoffice_cli.specs.CommandLine.{requests_app, required_option, required_word, required_words};
+ghost use Rattle.canoffice_cli.specs.CommandLine.{serve_app, show_app, table_app, with_place, with_sought};
 ghost use Rattle.canoffice_cli.specs.CommandLine.{wants_subcommand, with_version};
 
 use clap::{Arg, ArgAction, Command};
@@ -18,6 +19,14 @@ const DBC_FILE: &str = "The DBC file, or - for standard input";
 
 /// What the help says of the argument of `apply`.
 const SCRIPT: &str = "The script's file, or - for standard input";
+
+/// A positional argument that may be left out.
+fn optional_argument<'a>(alloc: Global, id: &'a str, help: &'a str) -> Arg<'a>
+    ensures rule { rule_of result ≡ optional_word id.entry.now }
+    ensures local { result.global ≡ false }
+{
+    Arg::new(alloc, id).help(help)
+}
 
 /// A required positional argument.
 fn required_argument<'a>(alloc: Global, id: &'a str, help: &'a str) -> Arg<'a>
@@ -142,6 +151,31 @@ fn migrate_command<'a>(alloc: Global) -> Result<Command<'a>, AllocError>
     Ok(migrate)
 }
 
+/// The command with the options `--db FILE` and `--port N`. For clap each may be left out, since its contracts say too
+/// little of rules on two arguments; `place_given` tests that exactly one is given.
+fn with_place<'a>(alloc: Global, command: Command<'a>) -> Result<Command<'a>, AllocError>
+    requires { (fields_of command).has_globals ≡ false }
+    ensures app { IfOk result (λ c. app_of c ≡ with_place (app_of command.entry)) }
+    ensures local { IfOk result (λ c. (fields_of c).has_globals ≡ false) }
+{
+    let with_database = command.arg(option(alloc, "db", "FILE", "The office's database"))?;
+    let port = "The port of this machine, 1 to 65535, at which a desk serves the office";
+    with_database.arg(option(alloc, "port", "N", port))
+}
+
+/// `requests (--db FILE | --port N) TEAM`
+pub(crate) fn requests_command<'a>(alloc: Global) -> Result<Command<'a>, AllocError>
+    ensures app { IfOk result (λ c. app_of c ≡ requests_app) }
+    ensures local { IfOk result (λ c. (fields_of c).has_globals ≡ false) }
+{
+    let named = Command::new(alloc, "requests")
+        .about("Prints the requests of a team with their replies")
+        .override_usage("canoffice requests <--db <FILE>|--port <N>> <TEAM>");
+    let placed = with_place(alloc, named)?;
+    let requests = placed.arg(required_argument(alloc, "TEAM", "The team's name"))?;
+    Ok(requests)
+}
+
 /// `serve --db FILE [--port N] [--count N]`
 pub(crate) fn serve_command<'a>(alloc: Global) -> Result<Command<'a>, AllocError>
     ensures app { IfOk result (λ c. app_of c ≡ serve_app) }
@@ -154,6 +188,33 @@ pub(crate) fn serve_command<'a>(alloc: Global) -> Result<Command<'a>, AllocError
     let with_port = with_database.arg(option(alloc, "port", "N", port))?;
     let serve = with_port.arg(option(alloc, "count", "N", count))?;
     Ok(serve)
+}
+
+/// The command with the arguments `[NET [WHAT [NAME]]]`.
+fn with_sought<'a>(alloc: Global, command: Command<'a>) -> Result<Command<'a>, AllocError>
+    requires { (fields_of command).has_globals ≡ false }
+    ensures app { IfOk result (λ c. app_of c ≡ with_sought (app_of command.entry)) }
+    ensures local { IfOk result (λ c. (fields_of c).has_globals ≡ false) }
+{
+    let net = "The network's name; without it the list of networks is printed";
+    let what = "state (if left out), blocks, messages, message, held, releases, nodes, spns, who";
+    let name = "A team (blocks, messages), a message, a node, or after who a name or a number";
+    let with_net = command.arg(optional_argument(alloc, "NET", net))?;
+    let with_what = with_net.arg(optional_argument(alloc, "WHAT", what))?;
+    with_what.arg(optional_argument(alloc, "NAME", name))
+}
+
+/// `show (--db FILE | --port N) [NET [WHAT [NAME]]]`
+pub(crate) fn show_command<'a>(alloc: Global) -> Result<Command<'a>, AllocError>
+    ensures app { IfOk result (λ c. app_of c ≡ show_app) }
+    ensures local { IfOk result (λ c. (fields_of c).has_globals ≡ false) }
+{
+    let named = Command::new(alloc, "show")
+        .about("Prints what a network has, or the list of networks")
+        .override_usage("canoffice show <--db <FILE>|--port <N>> [NET [WHAT [NAME]]]");
+    let placed = with_place(alloc, named)?;
+    let show = with_sought(alloc, placed)?;
+    Ok(show)
 }
 
 /// `table FILE`
@@ -192,7 +253,9 @@ pub fn canoffice_command<'a>(alloc: Global) -> Result<Command<'a>, AllocError>
     let with_export = with_check.subcommand(export_command(alloc)?)?;
     let with_format = with_export.subcommand(format_command(alloc)?)?;
     let with_migrate = with_format.subcommand(migrate_command(alloc)?)?;
-    let with_serve = with_migrate.subcommand(serve_command(alloc)?)?;
-    let with_table = with_serve.subcommand(table_command(alloc)?)?;
+    let with_requests = with_migrate.subcommand(requests_command(alloc)?)?;
+    let with_serve = with_requests.subcommand(serve_command(alloc)?)?;
+    let with_show = with_serve.subcommand(show_command(alloc)?)?;
+    let with_table = with_show.subcommand(table_command(alloc)?)?;
     Ok(with_table)
 }

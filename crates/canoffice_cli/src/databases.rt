@@ -4,7 +4,7 @@ ghost use Rattle.std.specs.Option.{option_map};
 ghost use Rattle.std.specs.Result.{result_map_both};
 ghost use Rattle.canoffice_cli.specs.Answered.{InDatabase, answered_with};
 ghost use Rattle.canoffice_cli.specs.Databases.{Databases as Known};
-ghost use Rattle.canoffice_cli.specs.Exported.{IsLookedUp};
+ghost use Rattle.canoffice_cli.specs.Looked.{IsLookedUp};
 ghost use Rattle.canoffice_cli.specs.Migrated.{IsMigrated};
 ghost use Rattle.canoffice_cli.specs.Served.{IsServed};
 
@@ -20,7 +20,8 @@ use std::alloc::{AllocError, Global};
 use std::io::Write;
 use store::Lost;
 
-/// Databases that are found by their paths, each with the tables of an office. One is made where there is none.
+/// Databases that are found by their paths, each with the tables of an office. One is made where there is none, unless
+/// it is only looked at.
 pub trait Databases {
     /// What is known of them.
     ghost known: { Self → Known };
@@ -44,7 +45,8 @@ pub trait Databases {
             (λ reported. InDatabase (known self.old) (known self.new) path.now
             (answered_with arrivals.now reported.answers.items) reported.lost) };
 
-    /// What the office in the database at the path shows for the look. The error is why that was lost.
+    /// What the office in the database at the path shows for the look; nothing where there is none. The error is why
+    /// that was lost.
     fn look(&mut self, alloc: Global, path: &str, look: &Look) -> Result<Option<Vec<u8>>, Lost>
         ensures { IsLookedUp (known self.old) (known self.new) path.now look.now
             (result_map_both (option_map (λ text. text.items)) (λ lost. lost) result) };

@@ -6,6 +6,8 @@ ghost use Rattle.canoffice_cli.specs.CommandLine.{IsJobFault, IsValueFault, IsVa
 
 use crate::command_line::canoffice_command;
 use crate::numbers::{Number, count_given, length_given, port_given, release_number};
+use crate::place::{LookCommand, Place, PlaceFault, place_given};
+use canoffice_looks::{What, WhatFault, shown_by};
 use clap::error::ErrorKind;
 use clap::{ArgMatches, Command, Error};
 use std::alloc::{AllocError, Global};
@@ -57,6 +59,13 @@ pub enum Job<'a> {
         /// The path of the office's database.
         database: &'a str,
     },
+    /// Print the requests of a team with their replies.
+    Requests {
+        /// Where the office is looked at.
+        place: Place<'a>,
+        /// The word that names the team.
+        team: &'a str,
+    },
     /// Serve the office over HTTP.
     Serve {
         /// The path of the office's database.
@@ -65,6 +74,17 @@ pub enum Job<'a> {
         port: u16,
         /// The count of connections, 1 to 1000000.
         count: u32,
+    },
+    /// Print what a network has, or the list of networks.
+    Show {
+        /// Where the office is looked at.
+        place: Place<'a>,
+        /// The word that names the network; without one the networks are listed.
+        net: Option<&'a str>,
+        /// What is shown of the network.
+        what: What,
+        /// The word after it, if there is one.
+        name: Option<&'a str>,
     },
     /// Print the table of the messages of the DBC text in the file of this name.
     Table {
@@ -89,15 +109,20 @@ pub enum JobFault {
 enum ValueFault<'a> {
     /// This word gives no such number, in its range.
     WrongNumber(Number, &'a str),
+    /// The values of `--db` and `--port` name no place for this subcommand.
+    WrongPlace(LookCommand, PlaceFault<'a>),
+    /// Nothing is shown by the words of `show`.
+    WrongWhat(WhatFault<'a>),
     /// Memory ran out.
     Memory,
 }
 
 /// The job that the program's words request, each number in its range. The first word is the program's own name.
 ///
-/// The result is a job exactly if clap finds no fault in the words and each word for a number gives one in its range,
-/// unless memory runs out: it is `Help` only if they request help or the version, and `Usage` only if they have
-/// another fault, or a word for a number that gives none in its range. The text is clap's, and no clause describes it.
+/// The result is a job exactly if clap finds no fault in the words, each word for a number gives one in its range, and
+/// the words of a subcommand that looks name a place and something that is shown, unless memory runs out: it is `Help`
+/// only if they request help or the version, and `Usage` only if they have another fault. The text is clap's, and no
+/// clause describes it.
 pub fn job_of<'a>(alloc: Global, words: &'a [&'a str]) -> Result<Job<'a>, JobFault>
     ensures job { IfOk result (IsJob (map (λ s. s.now) words.entry.now)) }
     ensures fault { IfErr result (IsJobFault (map (λ s. s.now) words.entry.now)) }
@@ -109,6 +134,8 @@ pub fn job_of<'a>(alloc: Global, words: &'a [&'a str]) -> Result<Job<'a>, JobFau
         Ok(matches) => match job_in(alloc, &matches) {
             Ok(job) => Ok(job),
             Err(ValueFault::WrongNumber(number, word)) => Err(wrong_number(alloc, number, word)),
+            Err(ValueFault::WrongPlace(command, fault)) => Err(wrong_place(alloc, command, fault)),
+            Err(ValueFault::WrongWhat(fault)) => Err(wrong_what(alloc, fault)),
             Err(ValueFault::Memory) => Err(JobFault::Memory),
         },
         Err(error) => Err(line_fault(alloc, &error)),
@@ -140,6 +167,33 @@ fn wrong_number(alloc: Global, number: Number, word: &str) -> JobFault
     }
 }
 
+/// The fault that the values of `--db` and `--port` name no place: `Usage`, that of the subcommand, unless memory runs
+/// out.
+fn wrong_place(alloc: Global, command: LookCommand, fault: PlaceFault<'_>) -> JobFault
+    ensures { IsFaultOfKind ErrorKind.ValueValidation result }
+{
+    let Ok(message) = fault.message(alloc) else {
+        return JobFault::Memory;
+    };
+    match command.command(alloc) {
+        Ok(command) => validation_fault(alloc, command, &message),
+        Err(AllocError) => JobFault::Memory,
+    }
+}
+
+/// The fault that nothing is shown by the words of `show`: `Usage`, unless memory runs out.
+fn wrong_what(alloc: Global, fault: WhatFault<'_>) -> JobFault
+    ensures { IsFaultOfKind ErrorKind.ValueValidation result }
+{
+    let Ok(message) = fault.message(alloc) else {
+        return JobFault::Memory;
+    };
+    match LookCommand::Show.command(alloc) {
+        Ok(command) => validation_fault(alloc, command, &message),
+        Err(AllocError) => JobFault::Memory,
+    }
+}
+
 /// The fault that a word isn't as it must be, with the text that clap makes of the message and the command's usage.
 fn validation_fault(alloc: Global, command: Command<'_>, message: &str) -> JobFault
     ensures { IsFaultOfKind ErrorKind.ValueValidation result }
@@ -165,9 +219,9 @@ fn line_fault(alloc: Global, error: &Error) -> JobFault
     }
 }
 
-/// The job of the subcommand that was entered, which is one of the program's, with all its required arguments, or the
-/// first word that gives no number in its range. Only the list of a chart's signals takes memory, so no other
-/// subcommand can end as out of memory here.
+/// The job of the subcommand that was entered, which is one of the program's, with all its required arguments. The
+/// error is the first word that gives no number in its range, or why the words of a subcommand that looks name nothing.
+/// Only the list of a chart's signals takes memory, so no other subcommand can end as out of memory here.
 #[tactic(auto, using(crate::proofs::CommandLine::found_pair))]
 fn job_in<'a>(alloc: Global, matches: &ArgMatches<'a>) -> Result<Job<'a>, ValueFault<'a>>
     requires { IsEntered (subcommand_rows_of matches.now) }
@@ -195,8 +249,14 @@ fn job_in<'a>(alloc: Global, matches: &ArgMatches<'a>) -> Result<Job<'a>, ValueF
     if name == "migrate" {
         return Ok(migrate_job(found));
     }
+    if name == "requests" {
+        return requests_job(found);
+    }
     if name == "serve" {
         return serve_job(found);
+    }
+    if name == "show" {
+        return show_job(found);
     }
     if name == "table" {
         return Ok(table_job(found));
@@ -304,6 +364,20 @@ fn migrate_job<'a>(found: &ArgMatches<'a>) -> Job<'a>
     Job::Migrate { database }
 }
 
+/// `requests (--db FILE | --port N) TEAM`
+#[tactic(auto, using(crate::proofs::CommandLine::value_in_rows, crate::proofs::CommandLine::optional_in_rows, crate::proofs::CommandLine::text_is_given))]
+fn requests_job<'a>(found: &ArgMatches<'a>) -> Result<Job<'a>, ValueFault<'a>>
+    requires { HasSome (rows_of (found_of found.now)) (codes "TEAM") }
+    ensures job { IfOk result (λ job. IsJobOf job (codes "requests") (rows_of (found_of found.now))) }
+    ensures fault { IfErr result (IsValueFault (codes "requests") (rows_of (found_of found.now))) }
+{
+    let team = found.get_str("TEAM").unwrap();
+    match place_given(found.get_str("db"), found.get_str("port")) {
+        Ok(place) => Ok(Job::Requests { place, team }),
+        Err(fault) => Err(ValueFault::WrongPlace(LookCommand::Requests, fault)),
+    }
+}
+
 /// `serve --db FILE [--port N] [--count N]`
 #[tactic(auto, using(crate::proofs::CommandLine::value_in_rows, crate::proofs::CommandLine::optional_in_rows, crate::proofs::CommandLine::text_is_given))]
 fn serve_job<'a>(found: &ArgMatches<'a>) -> Result<Job<'a>, ValueFault<'a>>
@@ -323,6 +397,29 @@ fn serve_job<'a>(found: &ArgMatches<'a>) -> Result<Job<'a>, ValueFault<'a>>
             count,
         }),
         Err(word) => Err(ValueFault::WrongNumber(Number::Count, word)),
+    }
+}
+
+/// `show (--db FILE | --port N) [NET [WHAT [NAME]]]`
+#[tactic(auto, using(crate::proofs::CommandLine::optional_in_rows))]
+fn show_job<'a>(found: &ArgMatches<'a>) -> Result<Job<'a>, ValueFault<'a>>
+    ensures job { IfOk result (λ job. IsJobOf job (codes "show") (rows_of (found_of found.now))) }
+    ensures fault { IfErr result (IsValueFault (codes "show") (rows_of (found_of found.now))) }
+{
+    let place = match place_given(found.get_str("db"), found.get_str("port")) {
+        Ok(place) => place,
+        Err(fault) => return Err(ValueFault::WrongPlace(LookCommand::Show, fault)),
+    };
+    let net = found.get_str("NET");
+    let name = found.get_str("NAME");
+    match shown_by(found.get_str("WHAT"), name) {
+        Ok(what) => Ok(Job::Show {
+            place,
+            net,
+            what,
+            name,
+        }),
+        Err(fault) => Err(ValueFault::WrongWhat(fault)),
     }
 }
 

@@ -3,8 +3,10 @@
 //! - `command_line` describes the subcommands and their arguments for clap; with it `job` turns the words into a `Job`
 //!   or a `JobFault`. `numbers` has the ranges of the numbers that words give.
 //! - `files` reads files and standard input: those of the machine, or those of a list in memory. `databases` has the
-//!   offices in databases, of which one in memory is here; those of the machine are in the program itself.
-//! - `apply`, `exporting`, `migrating`, `serving`, `charting`, `checking`, `formatting` and `tabling` do the jobs.
+//!   offices in databases, of which one in memory is here, and `desks` has those that desks serve; those of the machine
+//!   are in the program itself. `place` says which of the two the words name.
+//! - `apply`, `looking`, `exporting`, `migrating`, `serving`, `charting`, `checking`, `formatting` and `tabling` do the
+//!   jobs. What the words of `show` and `requests` look up is in the crate `canoffice_looks`.
 //!   `answering` answers the arrivals of a script, by an office in memory or on a connection to a database, `progress`
 //!   shows how far it is, and `room` is taken before for what is printed after.
 //! - `file_jobs` does the jobs that read a file, and `explaining` says what `--explain` adds to them.
@@ -23,6 +25,7 @@ mod checking;
 mod command_line;
 mod databases;
 mod delivery;
+mod desks;
 mod explaining;
 mod exporting;
 mod file_jobs;
@@ -30,8 +33,10 @@ mod files;
 mod formatting;
 mod job;
 mod lines;
+mod looking;
 mod migrating;
 mod numbers;
+mod place;
 mod program;
 mod progress;
 mod report;
@@ -45,13 +50,16 @@ pub use charting::chart_report;
 pub use checking::check_report;
 pub use databases::{Databases, MemoryDatabase};
 pub use delivery::deliver;
-pub use exporting::{export_report, look_on};
+pub use desks::{Desks, NoDesk};
+pub use exporting::export_report;
 pub use files::{
     FileSource, HostFiles, ListedFiles, NamedFile, PathFault, StandardInput, bytes_at,
 };
 pub use formatting::format_report;
 pub use job::{Job, JobFault, job_of, not_utf8_fault};
+pub use looking::{look_on, requests_report, show_report};
 pub use migrating::{migrate_on, migrate_report};
+pub use place::Place;
 pub use program::{fault_report, perform, report_of};
 pub use progress::Progress;
 pub use report::{LOST_MEMORY, Report, Status, bad_line, bad_word, cannot_read, help, usage};

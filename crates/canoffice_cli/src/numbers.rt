@@ -2,7 +2,7 @@
 ghost use Rattle.std.specs.Prelude.{◌≡◌, ◌≤◌, Some, None, IfOk, IfErr};
 ghost use Rattle.std.specs.Option.{option_map};
 ghost use Rattle.office_views.specs.Word.{length_of};
-ghost use Rattle.canoffice_cli.specs.Numbers.{count_given, number_given, port_given, release_number};
+ghost use Rattle.canoffice_cli.specs.Numbers.{count_given, number_given, port_given, port_number, release_number};
 
 use crate::command_line::{chart_command, export_command, serve_command};
 use clap::Command;
@@ -84,6 +84,16 @@ pub(crate) fn release_number(word: &str) -> Option<u32>
     ensures { result ≡ release_number word.now }
 {
     whole_between(word.as_bytes(), 0, RELEASE_LIMIT)
+}
+
+/// The port that the word gives: digits, from 1 to 65535.
+pub(crate) fn port_number(word: &str) -> Option<u16>
+    ensures { result ≡ port_number word.now }
+{
+    match whole_between(word.as_bytes(), 1, PORT_LIMIT) {
+        Some(port) => Some(port as u16),
+        None => None,
+    }
 }
 
 /// The number from 1 to the limit that the word gives; the other one where there is no word. The error is a word that

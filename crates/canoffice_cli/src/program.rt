@@ -6,10 +6,12 @@ ghost use Rattle.canoffice_cli.specs.Performance.{IsAnswered, IsDone, IsFaultAns
 use crate::charting::chart_report;
 use crate::databases::Databases;
 use crate::delivery::deliver;
+use crate::desks::Desks;
 use crate::exporting::export_report;
 use crate::file_jobs::{FileJob, FileTask, file_report};
 use crate::files::{FileSource, StandardInput};
 use crate::job::{Job, JobFault, job_of};
+use crate::looking::{requests_report, show_report};
 use crate::migrating::migrate_report;
 use crate::progress::Progress;
 use crate::report::{Report, Status, help, usage};
@@ -22,37 +24,49 @@ use std::io::Write;
 ///
 /// The first word is the program's own name. If memory runs out, `LOST_MEMORY` is written instead of anything else;
 /// only if it runs out while an arrival of a script is answered, the answers so far are written before it.
-pub fn perform<'a, F: FileSource + StandardInput, D: Databases, O: Write, E: Write, W: Write>(
+pub fn perform<
+    'a,
+    F: FileSource + StandardInput,
+    D: Databases,
+    K: Desks,
+    O: Write,
+    E: Write,
+    W: Write,
+>(
     alloc: Global,
     words: &'a [&'a str],
     files: &F,
     databases: &mut D,
+    desks: &mut K,
     out: &mut O,
     errors: &mut E,
     progress: &mut Progress<W>,
 ) -> Status
     ensures { IsPerformed (map (λ s. s.now) words.entry.now) (F.held files.now) (F.given files.now)
+        (K.known desks.old)
         (D.known databases.old) (D.known databases.new) (O.contents out.old, O.contents out.new)
         (E.contents errors.old, E.contents errors.new) result }
 {
-    let report = answer(alloc, words, files, databases, progress);
+    let report = answer(alloc, words, files, databases, desks, progress);
     deliver(report, out, errors)
 }
 
 /// The report on the words: that of their job, or of their fault.
-fn answer<'a, F: FileSource + StandardInput, D: Databases, W: Write>(
+fn answer<'a, F: FileSource + StandardInput, D: Databases, K: Desks, W: Write>(
     alloc: Global,
     words: &'a [&'a str],
     files: &F,
     databases: &mut D,
+    desks: &mut K,
     progress: &mut Progress<W>,
 ) -> Result<Report, AllocError>
     ensures { IfOk result (λ report. IsAnswered (map (λ s. s.now) words.entry.now)
         (F.held files.now)
-        (F.given files.now) (D.known databases.old) (D.known databases.new) (outcome_of report)) }
+        (F.given files.now) (K.known desks.old) (D.known databases.old) (D.known databases.new)
+        (outcome_of report)) }
 {
     match job_of(alloc, words) {
-        Ok(job) => report_of(alloc, &job, files, databases, progress),
+        Ok(job) => report_of(alloc, &job, files, databases, desks, progress),
         Err(fault) => fault_report(alloc, fault),
     }
 }
@@ -69,14 +83,16 @@ pub fn fault_report(alloc: Global, fault: JobFault) -> Result<Report, AllocError
 }
 
 /// Does the job, and reports on it.
-pub fn report_of<F: FileSource + StandardInput, D: Databases, W: Write>(
+pub fn report_of<F: FileSource + StandardInput, D: Databases, K: Desks, W: Write>(
     alloc: Global,
     job: &Job<'_>,
     files: &F,
     databases: &mut D,
+    desks: &mut K,
     progress: &mut Progress<W>,
 ) -> Result<Report, AllocError>
     ensures { IfOk result (λ report. IsDone (F.held files.now) (F.given files.now)
+        (K.known desks.old)
         (D.known databases.old)
         (D.known databases.new) job.now (outcome_of report)) }
 {
@@ -105,11 +121,18 @@ pub fn report_of<F: FileSource + StandardInput, D: Databases, W: Write>(
             file_report(alloc, job, files, databases, progress)
         }
         Job::Migrate { database } => migrate_report(alloc, databases, database, progress),
+        Job::Requests { place, team } => requests_report(alloc, databases, desks, *place, team),
         Job::Serve {
             database,
             port,
             count,
         } => serve_report(alloc, databases, database, *port, *count),
+        Job::Show {
+            place,
+            net,
+            what,
+            name,
+        } => show_report(alloc, databases, desks, *place, *net, *what, *name),
         Job::Table { file } => {
             let job = FileJob::new(FileTask::Table, file, false);
             file_report(alloc, job, files, databases, progress)

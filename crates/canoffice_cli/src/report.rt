@@ -11,11 +11,11 @@ use std::alloc::{AllocError, Global};
 pub enum Status {
     /// All went well: 0.
     Success,
-    /// A fault was found in what was checked, formatted or charted: 1.
+    /// A fault was found in what was checked, formatted or charted, or what was looked up isn't there: 1.
     FaultFound,
     /// The command line or a script is wrong: 2.
     WrongInput,
-    /// A file can't be read, a write failed, or memory ran out: 3.
+    /// A file can't be read, a desk gives no answer, a write failed, or memory ran out: 3.
     Failed,
 }
 

@@ -20,8 +20,8 @@ pub enum ServeEnd {
     IsLost(Lost),
 }
 
-/// The report that a port or a connection can't be had.
-fn failed_report(alloc: Global, text: &[u8]) -> Result<Report, AllocError>
+/// The report with this text for standard error, of what could not be done.
+pub(crate) fn failed_report(alloc: Global, text: &[u8]) -> Result<Report, AllocError>
     ensures { IfOk result (λ report. outcome_of report ≡ failure text.now) }
 {
     let text = text.to_vec(alloc)?;

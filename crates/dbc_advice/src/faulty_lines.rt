@@ -94,8 +94,8 @@ struct Runaway {
     end: usize,
 }
 
-/// Whether a fault of the code, in the statement that begins at `statement`, may come of this text: no quote closes some
-/// text, or the text ends in that statement.
+/// Whether a fault of the code, in the statement that begins at `statement`, may come of this text: no quote closes
+/// some text, or the text ends in that statement.
 fn concerns(text: &[u8], runaway: &Runaway, code: ReadCode, statement: usize) -> bool
     requires { runaway.now.end ≤ length text.now }
 {

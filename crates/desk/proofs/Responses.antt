@@ -70,7 +70,7 @@ pub try_again : (h : List Answered) (requested : Requested) (s : State) → (IsT
 try_again h requested s held left = inr (refl, held, left)
 
 pub looked : (h : List Answered) (l : Look) (found : Option (List ℕ)) (s : State)
-    → ((office : Office) → IsLegal h office → IsShown office l found) → Holding h s → Leaves (Keeps h) s
+    → ((office : Office) → IsLegal h office → IsShown h office l found) → Holding h s → Leaves (Keeps h) s
     → Responds h (shows l) (shown_response (body_kind_of l) found) s
 looked h l found s shown held left = inl (h, (refl, λ office legal. (found, shown office legal, refl)), held, left)
 

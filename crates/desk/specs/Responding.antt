@@ -36,10 +36,10 @@ abbrev pub shown_response : BodyKind → Option (List ℕ) → List ℕ
 shown_response content None = problem_response NotFound
 shown_response content (Some text) = text_response content text
 
--- the text is the response that shows this of the office
-abbrev pub IsLookResponse : Office → Look → List ℕ → Type 0
-IsLookResponse office l text =
-    (found : Option (List ℕ)) × IsShown office l found × (text ≡ shown_response (body_kind_of l) found)
+-- the text is the response that shows this of the office, after the history that left it
+abbrev pub IsLookResponse : List Answered → Office → Look → List ℕ → Type 0
+IsLookResponse h office l text =
+    (found : Option (List ℕ)) × IsShown h office l found × (text ≡ shown_response (body_kind_of l) found)
 
 -- the arrival, which comes today, with its answer
 abbrev pub answered_as : ArrivalSeen → Answer → Answered
@@ -50,7 +50,7 @@ answered_as a answer =
 -- the answer that the text shows, or the same. Where the tables hold h2, it is legal: so the answer is the office's.
 abbrev pub IsResponse : List Answered → Requested → List ℕ → List Answered → Type 0
 IsResponse h (fails problem) text h2 = (h2 ≡ h) × (text ≡ problem_response problem)
-IsResponse h (shows l) text h2 = (h2 ≡ h) × ((office : Office) → IsLegal h office → IsLookResponse office l text)
+IsResponse h (shows l) text h2 = (h2 ≡ h) × ((office : Office) → IsLegal h office → IsLookResponse h office l text)
 IsResponse h (arrives a) text h2 =
     (answer : Answer) × (h2 ≡ h ++ answered_as a answer ∷ []) × (text ≡ answer_response answer)
 

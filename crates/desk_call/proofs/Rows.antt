@@ -9,6 +9,8 @@ use Rattle.desk_head.specs.declared.endpoint.Posting.TheVariants.{Import}
 use Rattle.desk_head.specs.declared.endpoint.Showing.TheVariants as showing
 use Rattle.desk_call.specs.Call.{arrives, arrival_of, call_by, fails, look_of}
 use Rattle.office_types.specs.declared.look.Look.TheVariants as look
+use Rattle.office_types.specs.declared.look.NetLook.TheVariants as of_net
+use Rattle.office_types.specs.declared.sought.Sought.TheVariants as sought
 
 abbrev headers : List ℕ → List ℕ → Headers
 headers team key = (codes "Team", team) ∷ (codes "Request-Key", key) ∷ []
@@ -56,6 +58,30 @@ looks : look_of showing.Nets (codes "/nets")
     ∷ Some (look.Chart (codes "truck") (codes "E1")) ∷ None ∷ None ∷ []
 unfolding is_name
 looks = refl
+
+of_a_network : look_of showing.State (codes "/nets/truck/state")
+    ∷ look_of showing.TeamBlocks (codes "/nets/truck/teams/engine/blocks")
+    ∷ look_of showing.TeamBlocks (codes "/nets/truck/teams/Engine/blocks")
+    ∷ look_of showing.Who (codes "/nets/truck/who/pgn=65300")
+    ∷ look_of showing.Who (codes "/nets/truck/who/0x18ff0000")
+    ∷ look_of showing.Who (codes "/nets/truck/who/65300")
+    ∷ look_of showing.Who (codes "/nets/truck/who/pgn=")
+    ∷ []
+    ≡ Some (look.Net (codes "truck") of_net.State)
+    ∷ Some (look.Net (codes "truck") (of_net.Blocks (Some (codes "engine")))) ∷ None
+    ∷ Some (look.Net (codes "truck") (of_net.Who (sought.Group 65300)))
+    ∷ Some (look.Net (codes "truck") (of_net.Who (sought.Hexadecimal 419364864)))
+    ∷ Some (look.Net (codes "truck") (of_net.Who (sought.Decimal 65300))) ∷ None ∷ []
+unfolding is_name
+of_a_network = refl
+
+of_a_team : look_of showing.Requests (codes "/requests/engine")
+    ∷ look_of showing.Requests (codes "/requests/Engine")
+    ∷ look_of showing.TeamMessages (codes "/nets/truck/teams/engine/messages")
+    ∷ []
+    ≡ Some (look.Requests (codes "engine")) ∷ None
+    ∷ Some (look.Net (codes "truck") (of_net.Messages (Some (codes "engine")))) ∷ []
+of_a_team = refl
 
 releases : map (look_of showing.Release) (codes "/nets/truck/releases/1" ∷ codes "/nets/truck/releases/0065535"
     ∷ codes "/nets/truck/releases/65536" ∷ codes "/nets/truck/releases/0" ∷ codes "/nets/truck/releases/+1"

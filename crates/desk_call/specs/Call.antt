@@ -28,6 +28,9 @@ use Rattle.desk_call.specs.declared.call.Call as declared
 use Rattle.desk_call.specs.declared.call.Call.TheVariants as call
 use Rattle.office_types.specs.declared.look.Look.{Look}
 use Rattle.office_types.specs.declared.look.Look.TheVariants as look
+use Rattle.office_types.specs.declared.look.NetLook.{NetLook}
+use Rattle.office_types.specs.declared.look.NetLook.TheVariants as of_net
+use Rattle.office_types.specs.Sought.{sought_of}
 
 -- an arrival, as contracts see it
 pub record ArrivalSeen : Type 0 where
@@ -66,6 +69,31 @@ abbrev pub chart_in : List ℕ → Option Look
 chart_in target = net_in target >>= λ net. name_of (second_parameter target)
     >>= λ message. Some (look.Chart net message)
 
+-- what is looked up of the network that a target names
+abbrev pub net_look_in : List ℕ → NetLook → Option Look
+net_look_in target l = option_map (λ net. look.Net net l) (net_in target)
+
+abbrev pub team_in : List ℕ → Option (List ℕ)
+team_in target = plain_name_of (second_parameter target)
+
+abbrev pub message_in : List ℕ → Option Look
+message_in target = name_of (second_parameter target) >>= λ message. net_look_in target (of_net.Message message)
+
+abbrev pub node_in : List ℕ → Option Look
+node_in target = name_of (second_parameter target) >>= λ node. net_look_in target (of_net.Node node)
+
+abbrev pub who_in : List ℕ → Option Look
+who_in target = sought_of (second_parameter target) >>= λ sought. net_look_in target (of_net.Who sought)
+
+abbrev pub team_blocks_in : List ℕ → Option Look
+team_blocks_in target = team_in target >>= λ team. net_look_in target (of_net.Blocks (Some team))
+
+abbrev pub team_messages_in : List ℕ → Option Look
+team_messages_in target = team_in target >>= λ team. net_look_in target (of_net.Messages (Some team))
+
+abbrev pub requests_in : List ℕ → Option Look
+requests_in target = option_map look.Requests (plain_name_of (first_parameter target))
+
 -- what a target shows, where its parameters have their forms: else there can be nothing there
 abbrev pub look_of : Showing → List ℕ → Option Look
 look_of showing.Nets target = Some look.Nets
@@ -73,6 +101,19 @@ look_of showing.Table target = option_map look.Table (net_in target)
 look_of showing.Live target = option_map look.Live (net_in target)
 look_of showing.Release target = release_in target
 look_of showing.Chart target = chart_in target
+look_of showing.State target = net_look_in target of_net.State
+look_of showing.Blocks target = net_look_in target (of_net.Blocks None)
+look_of showing.Messages target = net_look_in target (of_net.Messages None)
+look_of showing.Held target = net_look_in target of_net.Held
+look_of showing.Releases target = net_look_in target of_net.Releases
+look_of showing.Nodes target = net_look_in target of_net.Nodes
+look_of showing.Spns target = net_look_in target of_net.Spns
+look_of showing.Message target = message_in target
+look_of showing.Node target = node_in target
+look_of showing.Who target = who_in target
+look_of showing.TeamBlocks target = team_blocks_in target
+look_of showing.TeamMessages target = team_messages_in target
+look_of showing.Requests target = requests_in target
 
 abbrev pub show_by : Option Look → Requested
 show_by None = fails NotFound

@@ -3,7 +3,8 @@
 //! [`read_call`] reads the first request of a source, and no further than to its end, as a [`Call`]: a problem that
 //! answers it, something to look up, or an arrival. The tests are one function of the head and of what follows it
 //! (`call_of`, `specs/Call.antt`), whose first part is `demand_of` of `desk_head`. `specs/Read.antt` says which call
-//! the bytes of a source are; by [`bytes_request_one_thing`] it is one.
+//! the bytes of a source are; by [`bytes_request_one_thing`] it is one. By [`looks_come_back`] a GET of the target of a
+//! look (`specs/Asked.antt`) is that look.
 #![tactic(auto)]
 
 mod arrivals;
@@ -16,6 +17,6 @@ mod values;
 
 pub use call::Call;
 pub use desk_head::Routes;
-pub use laws::bytes_request_one_thing;
+pub use laws::{bytes_request_one_thing, looks_come_back};
 pub use office_types::Look;
 pub use reading::read_call;

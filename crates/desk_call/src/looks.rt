@@ -1,11 +1,12 @@
 //! What targets show.
 ghost use Rattle.office_fields.specs.Reading.{ReadsField};
-ghost use Rattle.desk_call.specs.Call.{chart_in, look_of, release_in};
+ghost use Rattle.desk_call.specs.Call.{chart_in, look_of, message_in, net_look_in, node_in, release_in};
+ghost use Rattle.desk_call.specs.Call.{requests_in, team_blocks_in, team_in, team_messages_in, who_in};
 
-use crate::values::{name_of, net_in, release_number};
-use desk_head::{Showing, second_parameter};
-use office_fields::Unread;
-use office_types::Look;
+use crate::values::{name_of, net_in, release_number, sought_of};
+use desk_head::{Showing, first_parameter, second_parameter};
+use office_fields::{Unread, team_of};
+use office_types::{Look, NetLook, Team};
 use std::alloc::Global;
 
 fn release_in(alloc: Global, target: &[u8]) -> Result<Look, Unread>
@@ -24,6 +25,61 @@ fn chart_in(alloc: Global, target: &[u8]) -> Result<Look, Unread>
     Ok(Look::Chart(net, message))
 }
 
+/// What is looked up of the network that the target names.
+fn net_look(alloc: Global, target: &[u8], look: NetLook) -> Result<Look, Unread>
+    ensures { ReadsField (net_look_in target.now look) result }
+{
+    let net = net_in(alloc, target)?;
+    Ok(Look::Net(net, look))
+}
+
+fn team_in(alloc: Global, target: &[u8]) -> Result<Team, Unread>
+    ensures { ReadsField (team_in target.now) result }
+{
+    team_of(alloc, second_parameter(target))
+}
+
+fn message_in(alloc: Global, target: &[u8]) -> Result<Look, Unread>
+    ensures { ReadsField (message_in target.now) result }
+{
+    let message = name_of(alloc, second_parameter(target))?;
+    net_look(alloc, target, NetLook::Message(message))
+}
+
+fn node_in(alloc: Global, target: &[u8]) -> Result<Look, Unread>
+    ensures { ReadsField (node_in target.now) result }
+{
+    let node = name_of(alloc, second_parameter(target))?;
+    net_look(alloc, target, NetLook::Node(node))
+}
+
+fn who_in(alloc: Global, target: &[u8]) -> Result<Look, Unread>
+    ensures { ReadsField (who_in target.now) result }
+{
+    let sought = sought_of(alloc, second_parameter(target))?;
+    net_look(alloc, target, NetLook::Who(sought))
+}
+
+fn team_blocks_in(alloc: Global, target: &[u8]) -> Result<Look, Unread>
+    ensures { ReadsField (team_blocks_in target.now) result }
+{
+    let team = team_in(alloc, target)?;
+    net_look(alloc, target, NetLook::Blocks(Some(team)))
+}
+
+fn team_messages_in(alloc: Global, target: &[u8]) -> Result<Look, Unread>
+    ensures { ReadsField (team_messages_in target.now) result }
+{
+    let team = team_in(alloc, target)?;
+    net_look(alloc, target, NetLook::Messages(Some(team)))
+}
+
+fn requests_in(alloc: Global, target: &[u8]) -> Result<Look, Unread>
+    ensures { ReadsField (requests_in target.now) result }
+{
+    Ok(Look::Requests(team_of(alloc, first_parameter(target))?))
+}
+
 /// What the target shows. `Wrong` where a parameter hasn't its form.
 pub(crate) fn look_of(alloc: Global, showing: Showing, target: &[u8]) -> Result<Look, Unread>
     ensures { ReadsField (look_of showing target.now) result }
@@ -34,5 +90,18 @@ pub(crate) fn look_of(alloc: Global, showing: Showing, target: &[u8]) -> Result<
         Showing::Live => Ok(Look::Live(net_in(alloc, target)?)),
         Showing::Release => release_in(alloc, target),
         Showing::Chart => chart_in(alloc, target),
+        Showing::State => net_look(alloc, target, NetLook::State),
+        Showing::Blocks => net_look(alloc, target, NetLook::Blocks(None)),
+        Showing::Messages => net_look(alloc, target, NetLook::Messages(None)),
+        Showing::Held => net_look(alloc, target, NetLook::Held),
+        Showing::Releases => net_look(alloc, target, NetLook::Releases),
+        Showing::Nodes => net_look(alloc, target, NetLook::Nodes),
+        Showing::Spns => net_look(alloc, target, NetLook::Spns),
+        Showing::Message => message_in(alloc, target),
+        Showing::Node => node_in(alloc, target),
+        Showing::Who => who_in(alloc, target),
+        Showing::TeamBlocks => team_blocks_in(alloc, target),
+        Showing::TeamMessages => team_messages_in(alloc, target),
+        Showing::Requests => requests_in(alloc, target),
     }
 }

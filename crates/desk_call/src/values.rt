@@ -2,6 +2,7 @@
 ghost use Rattle.std.specs.Prelude.{◌≡◌};
 ghost use Rattle.office_fields.specs.Reading.{ReadsField};
 ghost use Rattle.office_fields.specs.Value.{name_of, plain_name_of};
+ghost use Rattle.office_types.specs.Sought.{sought_of};
 ghost use Rattle.desk_call.specs.Call.{key_of, net_in, release_number};
 
 use base::whole_number;
@@ -9,7 +10,7 @@ use dbc_words::Name;
 use desk_head::first_parameter;
 use office_fields::Unread;
 use office_history::Key;
-use office_types::{NetName, RELEASE_LIMIT};
+use office_types::{NetName, RELEASE_LIMIT, Sought};
 use std::alloc::Global;
 
 fn net_of(alloc: Global, bytes: &[u8]) -> Result<NetName, Unread>
@@ -30,6 +31,13 @@ pub(crate) fn name_of(alloc: Global, bytes: &[u8]) -> Result<Name, Unread>
     ensures { ReadsField (name_of bytes.now) result }
 {
     Name::of(alloc, bytes)?.ok_or(Unread::Wrong)
+}
+
+/// What a word looks for.
+pub(crate) fn sought_of(alloc: Global, bytes: &[u8]) -> Result<Sought, Unread>
+    ensures { ReadsField (sought_of bytes.now) result }
+{
+    Sought::of(alloc, bytes)?.ok_or(Unread::Wrong)
 }
 
 /// The key of a request.

@@ -1,9 +1,15 @@
 -- Worked examples, computed from the definitions.
 use Rattle.std.proofs.Common.{◌≡◌, ℕ, List, [], ◌∷◌, ◌++◌, map, Some, None, Ok, Err, codes, refl}
 use Rattle.httparse.specs.Grammar.{RequestHead, Field, crlf, lf, print_request, trim_ows}
+use Rattle.std.specs.Fmt.{digits}
 use Rattle.matchit.proofs.OnLiterals.{matchit_on_literals}
+use Rattle.dbc_words.specs.Name.{is_name}
+use Rattle.office_types.specs.declared.look.Look.TheVariants as look
+use Rattle.office_types.specs.declared.look.NetLook.TheVariants as of_net
+use Rattle.office_types.specs.declared.sought.Sought.TheVariants as sought
 use Rattle.office_fields.specs.declared.kind.ActionKind.TheVariants as act
 use Rattle.desk_types.specs.declared.problem.Problem.TheVariants.{BadRequest, NotFound, WrongMethod, NoLength, TooLarge}
+use Rattle.desk_head.specs.Asked.{target_of}
 use Rattle.desk_head.specs.Demand.{demand_of}
 use Rattle.desk_head.specs.Fields.{Headers, body_length, named}
 use Rattle.desk_head.specs.Target.{endpoint_of, first_parameter, second_parameter, the_routes, with_route}
@@ -11,6 +17,7 @@ use Rattle.desk_head.specs.declared.demand.Demand.TheVariants as demand
 use Rattle.desk_head.specs.declared.endpoint.Endpoint.TheVariants.{Shows, Does}
 use Rattle.desk_head.specs.declared.endpoint.Posting.TheVariants.{Act, Import}
 use Rattle.desk_head.specs.declared.endpoint.Showing.TheVariants as showing
+use Rattle.desk_head.proofs.Leading.{targets_lead_there}
 
 -- ---- targets
 
@@ -46,9 +53,42 @@ empty_parts : map endpoint_of (codes "/nets/" ∷ codes "/nets//live" ∷ codes 
 unfolding endpoint_of the_routes with_route matchit_on_literals
 empty_parts = refl
 
-shorter : endpoint_of (codes "/nets/truck/releases") ≡ None
+of_a_network : map endpoint_of (codes "/nets/truck/state" ∷ codes "/nets/truck/blocks" ∷ codes "/nets/truck/messages"
+    ∷ codes "/nets/truck/held" ∷ codes "/nets/truck/releases" ∷ codes "/nets/truck/nodes" ∷ codes "/nets/truck/spns" ∷ [])
+    ≡ Some (Shows showing.State) ∷ Some (Shows showing.Blocks) ∷ Some (Shows showing.Messages)
+    ∷ Some (Shows showing.Held) ∷ Some (Shows showing.Releases) ∷ Some (Shows showing.Nodes)
+    ∷ Some (Shows showing.Spns) ∷ []
 unfolding endpoint_of the_routes with_route matchit_on_literals
-shorter = refl
+of_a_network = refl
+
+of_a_node : endpoint_of (codes "/nets/truck/nodes/Engine") ≡ Some (Shows showing.Node)
+unfolding endpoint_of the_routes with_route matchit_on_literals
+of_a_node = refl
+
+who_has_it : endpoint_of (codes "/nets/truck/who/pgn=65300") ≡ Some (Shows showing.Who)
+unfolding endpoint_of the_routes with_route matchit_on_literals
+who_has_it = refl
+
+who_alone : endpoint_of (codes "/nets/truck/who") ≡ None
+unfolding endpoint_of the_routes with_route matchit_on_literals
+who_alone = refl
+
+of_a_team : map endpoint_of (codes "/requests/engine" ∷ codes "/requests" ∷ codes "/requests/" ∷ [])
+    ≡ Some (Shows showing.Requests) ∷ None ∷ None ∷ []
+unfolding endpoint_of the_routes with_route matchit_on_literals
+of_a_team = refl
+
+-- by the law, since their search takes too many steps to compute
+of_a_message : endpoint_of (codes "/nets/truck/messages/E1/signals") ≡ Some (Shows showing.Message)
+unfolding is_name
+of_a_message = targets_lead_there (look.Net (codes "truck") (of_net.Message (codes "E1"))) (refl, refl)
+
+blocks_of_a_team : endpoint_of (codes "/nets/truck/teams/engine/blocks") ≡ Some (Shows showing.TeamBlocks)
+blocks_of_a_team = targets_lead_there (look.Net (codes "truck") (of_net.Blocks (Some (codes "engine")))) (refl, refl)
+
+messages_of_a_team : endpoint_of (codes "/nets/truck/teams/engine/messages") ≡ Some (Shows showing.TeamMessages)
+messages_of_a_team =
+    targets_lead_there (look.Net (codes "truck") (of_net.Messages (Some (codes "engine")))) (refl, refl)
 
 -- no parameter has a slash
 longer : map endpoint_of (codes "/import/a/b" ∷ codes "/nets/a/b" ∷ []) ≡ None ∷ None ∷ []
@@ -59,6 +99,19 @@ parameters : first_parameter (codes "/do/take_ident") ∷ first_parameter (codes
     ∷ second_parameter (codes "/nets/truck/releases/1") ∷ first_parameter (codes "/nets") ∷ []
     ≡ codes "take_ident" ∷ codes "truck" ∷ codes "1" ∷ [] ∷ []
 parameters = refl
+
+-- ---- the targets of looks
+
+targets : map target_of (look.Nets ∷ look.Release (codes "truck") 12 ∷ look.Net (codes "truck") of_net.State
+    ∷ look.Net (codes "truck") (of_net.Blocks (Some (codes "engine")))
+    ∷ look.Net (codes "truck") (of_net.Message (codes "E1"))
+    ∷ look.Net (codes "truck") (of_net.Who (sought.Hexadecimal 419364864))
+    ∷ look.Net (codes "truck") (of_net.Who (sought.Group 65300)) ∷ look.Requests (codes "engine") ∷ [])
+    ≡ codes "/nets" ∷ codes "/nets/truck/releases/12" ∷ codes "/nets/truck/state"
+    ∷ codes "/nets/truck/teams/engine/blocks" ∷ codes "/nets/truck/messages/E1/signals"
+    ∷ codes "/nets/truck/who/0x18ff0000" ∷ codes "/nets/truck/who/pgn=65300" ∷ codes "/requests/engine" ∷ []
+unfolding digits
+targets = refl
 
 -- ---- header fields
 
@@ -143,3 +196,9 @@ gets : map (λ target. demand_of (coded_get target)) (codes "/nets" ∷ codes "/
     ≡ demand.Shows showing.Nets ∷ demand.Fails NotFound ∷ demand.Fails WrongMethod ∷ []
 unfolding demand_of endpoint_of the_routes with_route matchit_on_literals
 gets = refl
+
+not_posted : map (λ method. demand_of (record (coded_get (codes "/nets/truck/state")) { method = method }))
+    (codes "POST" ∷ codes "HEAD" ∷ codes "get" ∷ [])
+    ≡ demand.Fails WrongMethod ∷ demand.Fails WrongMethod ∷ demand.Fails WrongMethod ∷ []
+unfolding demand_of endpoint_of the_routes with_route matchit_on_literals
+not_posted = refl

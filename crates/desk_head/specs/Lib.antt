@@ -4,3 +4,4 @@ pub mod HeadState
 pub mod Fields
 pub mod Target
 pub mod Demand
+pub mod Asked

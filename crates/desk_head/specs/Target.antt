@@ -52,17 +52,41 @@ added value (Err e) rows = rows
 unfoldable pub with_route : List ℕ → Route → RowsOf (RouteOf Route) → RowsOf (RouteOf Route)
 with_route text value rows = added value (parse_route text) rows
 
--- the eight routes; a parameter is one or more bytes other than a slash
+-- the networks, and of a network its sheets and charts
+abbrev pub with_sheets : RowsOf (RouteOf Route) → RowsOf (RouteOf Route)
+with_sheets rows =
+    with_route (codes "/nets/{net}/messages/{message}") (route.Shows shown.Chart)
+    (with_route (codes "/nets/{net}/releases/{n}") (route.Shows shown.Release)
+    (with_route (codes "/nets/{net}/live") (route.Shows shown.Live)
+    (with_route (codes "/nets/{net}") (route.Shows shown.Table)
+    (with_route (codes "/nets") (route.Shows shown.Nets) rows))))
+
+-- what a network has
+abbrev pub with_parts : RowsOf (RouteOf Route) → RowsOf (RouteOf Route)
+with_parts rows =
+    with_route (codes "/nets/{net}/spns") (route.Shows shown.Spns)
+    (with_route (codes "/nets/{net}/nodes") (route.Shows shown.Nodes)
+    (with_route (codes "/nets/{net}/releases") (route.Shows shown.Releases)
+    (with_route (codes "/nets/{net}/held") (route.Shows shown.Held)
+    (with_route (codes "/nets/{net}/messages") (route.Shows shown.Messages)
+    (with_route (codes "/nets/{net}/blocks") (route.Shows shown.Blocks)
+    (with_route (codes "/nets/{net}/state") (route.Shows shown.State) rows))))))
+
+-- one thing of a network, or those of a team
+abbrev pub with_things : RowsOf (RouteOf Route) → RowsOf (RouteOf Route)
+with_things rows =
+    with_route (codes "/nets/{net}/teams/{team}/messages") (route.Shows shown.TeamMessages)
+    (with_route (codes "/nets/{net}/teams/{team}/blocks") (route.Shows shown.TeamBlocks)
+    (with_route (codes "/nets/{net}/who/{word}") (route.Shows shown.Who)
+    (with_route (codes "/nets/{net}/nodes/{node}") (route.Shows shown.Node)
+    (with_route (codes "/nets/{net}/messages/{message}/signals") (route.Shows shown.Message) rows))))
+
+-- all routes; a parameter is one or more bytes other than a slash
 unfoldable pub the_routes : RowsOf (RouteOf Route)
 the_routes =
-    with_route (codes "/nets/{net}/messages/{message}") route.Message
-    (with_route (codes "/nets/{net}/releases/{n}") route.Release
-    (with_route (codes "/nets/{net}/live") route.Live
-    (with_route (codes "/nets/{net}") route.Net
-    (with_route (codes "/nets") route.Nets
-    (with_route (codes "/bundle/{net}") route.Bundle
-    (with_route (codes "/import/{net}") route.Import
-    (with_route (codes "/do/{command}") route.Do [])))))))
+    with_route (codes "/requests/{team}") (route.Shows shown.Requests)
+    (with_things (with_parts (with_sheets (with_route (codes "/bundle/{net}") route.Bundle
+    (with_route (codes "/import/{net}") route.Import (with_route (codes "/do/{command}") route.Do []))))))
 
 -- the route that the whole target matches
 abbrev pub route_of : List ℕ → Option Route
@@ -78,11 +102,7 @@ abbrev pub endpoint_at : Route → List ℕ → Option Endpoint
 endpoint_at route.Do target = option_and_then done_by (kind_of_word (first_parameter target))
 endpoint_at route.Import target = Some (Does Import)
 endpoint_at route.Bundle target = Some (Does Bundle)
-endpoint_at route.Nets target = Some (Shows shown.Nets)
-endpoint_at route.Net target = Some (Shows shown.Table)
-endpoint_at route.Live target = Some (Shows shown.Live)
-endpoint_at route.Release target = Some (Shows shown.Release)
-endpoint_at route.Message target = Some (Shows shown.Chart)
+endpoint_at (route.Shows s) target = Some (Shows s)
 
 -- what is at the target, if anything
 unfoldable pub endpoint_of : List ℕ → Option Endpoint

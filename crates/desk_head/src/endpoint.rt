@@ -14,6 +14,32 @@ pub enum Showing {
     Release,
     /// `/nets/{net}/messages/{message}`: the chart of a message.
     Chart,
+    /// `/nets/{net}/state`: what a network has once, and counts.
+    State,
+    /// `/nets/{net}/blocks`: its blocks.
+    Blocks,
+    /// `/nets/{net}/messages`: its live messages, with owners and releases.
+    Messages,
+    /// `/nets/{net}/messages/{message}/signals`: all of a live message.
+    Message,
+    /// `/nets/{net}/held`: its held identifiers.
+    Held,
+    /// `/nets/{net}/releases`: its releases.
+    Releases,
+    /// `/nets/{net}/nodes`: its nodes.
+    Nodes,
+    /// `/nets/{net}/nodes/{node}`: what a node sends and receives.
+    Node,
+    /// `/nets/{net}/spns`: its suspect parameter numbers.
+    Spns,
+    /// `/nets/{net}/who/{word}`: who has a name or a number.
+    Who,
+    /// `/nets/{net}/teams/{team}/blocks`: the blocks of a team.
+    TeamBlocks,
+    /// `/nets/{net}/teams/{team}/messages`: the live messages of a team.
+    TeamMessages,
+    /// `/requests/{team}`: the requests of a team.
+    Requests,
 }
 
 /// What a target of `POST` does.

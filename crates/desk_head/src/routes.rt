@@ -1,6 +1,7 @@
 //! The routes.
 ghost use Rattle.std.specs.Prelude.{◌≡◌, IfOk, OnOk, IsUtf8};
-ghost use Rattle.desk_head.specs.Target.{done_by, endpoint_at, endpoint_of, route_of, the_routes, with_route};
+ghost use Rattle.desk_head.specs.Target.{done_by, endpoint_at, endpoint_of, route_of, the_routes, with_parts, with_route};
+ghost use Rattle.desk_head.specs.Target.{with_sheets, with_things};
 
 use crate::endpoint::{Endpoint, Posting, Showing};
 use crate::parts::first_parameter;
@@ -18,16 +19,8 @@ pub(crate) enum Route {
     Import,
     /// `/bundle/{net}`
     Bundle,
-    /// `/nets`
-    Nets,
-    /// `/nets/{net}`
-    Net,
-    /// `/nets/{net}/live`
-    Live,
-    /// `/nets/{net}/releases/{n}`
-    Release,
-    /// `/nets/{net}/messages/{message}`
-    Message,
+    /// What shows something.
+    Shows(Showing),
 }
 
 #[tactic(auto, unfolding(crate::specs::Target::with_route), using(crate::proofs::Added::inserted))]
@@ -44,7 +37,64 @@ pub struct Routes {
     ghost all: { router ≡ the_routes },
 }
 
-/// The router of the eight routes.
+/// Adds the route of what is shown at the text.
+fn show(router: &mut Router<Route>, text: &str, showing: Showing) -> Result<(), InsertError>
+    ensures { OnOk result (router.new ≡ with_route text.now (Route.Shows showing) router.old) }
+{
+    add(router, text, Route::Shows(showing))
+}
+
+/// Adds the routes of what an office shows: its networks, and each network's sheets and charts.
+fn add_sheets(router: &mut Router<Route>) -> Result<(), InsertError>
+    ensures { OnOk result (router.new ≡ with_sheets router.old) }
+{
+    show(router, "/nets", Showing::Nets)?;
+    show(router, "/nets/{net}", Showing::Table)?;
+    show(router, "/nets/{net}/live", Showing::Live)?;
+    show(router, "/nets/{net}/releases/{n}", Showing::Release)?;
+    show(router, "/nets/{net}/messages/{message}", Showing::Chart)?;
+    Ok(())
+}
+
+/// Adds the routes of what a network has.
+fn add_parts(router: &mut Router<Route>) -> Result<(), InsertError>
+    ensures { OnOk result (router.new ≡ with_parts router.old) }
+{
+    show(router, "/nets/{net}/state", Showing::State)?;
+    show(router, "/nets/{net}/blocks", Showing::Blocks)?;
+    show(router, "/nets/{net}/messages", Showing::Messages)?;
+    show(router, "/nets/{net}/held", Showing::Held)?;
+    show(router, "/nets/{net}/releases", Showing::Releases)?;
+    show(router, "/nets/{net}/nodes", Showing::Nodes)?;
+    show(router, "/nets/{net}/spns", Showing::Spns)?;
+    Ok(())
+}
+
+/// Adds the routes of one thing of a network, or of a team's.
+fn add_things(router: &mut Router<Route>) -> Result<(), InsertError>
+    ensures { OnOk result (router.new ≡ with_things router.old) }
+{
+    show(
+        router,
+        "/nets/{net}/messages/{message}/signals",
+        Showing::Message,
+    )?;
+    show(router, "/nets/{net}/nodes/{node}", Showing::Node)?;
+    show(router, "/nets/{net}/who/{word}", Showing::Who)?;
+    show(
+        router,
+        "/nets/{net}/teams/{team}/blocks",
+        Showing::TeamBlocks,
+    )?;
+    show(
+        router,
+        "/nets/{net}/teams/{team}/messages",
+        Showing::TeamMessages,
+    )?;
+    Ok(())
+}
+
+/// The router of all routes.
 #[tactic(auto, unfolding(crate::specs::Target::the_routes))]
 fn router(alloc: Global) -> Result<Router<Route>, InsertError>
     ensures { IfOk result (λ r. r ≡ the_routes) }
@@ -53,15 +103,10 @@ fn router(alloc: Global) -> Result<Router<Route>, InsertError>
     add(&mut router, "/do/{command}", Route::Do)?;
     add(&mut router, "/import/{net}", Route::Import)?;
     add(&mut router, "/bundle/{net}", Route::Bundle)?;
-    add(&mut router, "/nets", Route::Nets)?;
-    add(&mut router, "/nets/{net}", Route::Net)?;
-    add(&mut router, "/nets/{net}/live", Route::Live)?;
-    add(&mut router, "/nets/{net}/releases/{n}", Route::Release)?;
-    add(
-        &mut router,
-        "/nets/{net}/messages/{message}",
-        Route::Message,
-    )?;
+    add_sheets(&mut router)?;
+    add_parts(&mut router)?;
+    add_things(&mut router)?;
+    show(&mut router, "/requests/{team}", Showing::Requests)?;
     Ok(router)
 }
 
@@ -102,11 +147,7 @@ fn endpoint_at(route: Route, target: &[u8]) -> Option<Endpoint>
         Route::Do => command_at(target),
         Route::Import => Some(Endpoint::Does(Posting::Import)),
         Route::Bundle => Some(Endpoint::Does(Posting::Bundle)),
-        Route::Nets => Some(Endpoint::Shows(Showing::Nets)),
-        Route::Net => Some(Endpoint::Shows(Showing::Table)),
-        Route::Live => Some(Endpoint::Shows(Showing::Live)),
-        Route::Release => Some(Endpoint::Shows(Showing::Release)),
-        Route::Message => Some(Endpoint::Shows(Showing::Chart)),
+        Route::Shows(showing) => Some(Endpoint::Shows(showing)),
     }
 }
 

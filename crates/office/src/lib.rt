@@ -9,12 +9,13 @@
 //! (`applying_in_place.rt`, and `applying.rt` for a network that isn't there yet).
 //!
 //! A [`PlainOffice`] keeps an index beside each network that isn't small, once a command would use it (`net_index.rt`).
-//! With it commands but `take_pgn` find names and numbers without a walk (`looking_up.rt`, `indexed.rt`), and changes are
-//! made where a search ends (`changing.rt`), which the index follows. Without it everything is decided alike, by a walk.
+//! With it commands but `take_pgn` find names and numbers without a walk (`looking_up.rt`, `indexed.rt`), and changes
+//! are made where a search ends (`changing.rt`), which the index follows. Without it everything is decided alike, by a
+//! walk.
 //!
 //! The definitions are in `office_rules/specs`: `Commands.antt` and `Step.antt` the outcome of a command, `Change.antt`
-//! what changes do. `specs/OfficeApplied.antt` here has what they do to a whole office, `specs/Indexed.antt` what an index
-//! is.
+//! what changes do. `specs/OfficeApplied.antt` here has what they do to a whole office, `specs/Indexed.antt` what an
+//! index is.
 #![tactic(auto)]
 
 mod applying;

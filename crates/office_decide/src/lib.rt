@@ -3,8 +3,8 @@
 //! [`decide_by`] has a body for each action: by the facts of an action's scope it decides as for every network that has
 //! them (`office_facts`). Of a network in memory the facts are found by a walk ([`walk`]); whoever has them from
 //! elsewhere, by an index or from rows, needs no more. [`decide`] decides any command on a network in memory, which may
-//! not be there: an import reads its file (`importing.rt`), and a bundle decides its parts one after the other, each on a
-//! copy on which those before it are carried out (`bundling.rt`). Nothing else is changed here.
+//! not be there: an import reads its file (`importing.rt`), and a bundle decides its parts one after the other, each on
+//! a copy on which those before it are carried out (`bundling.rt`). Nothing else is changed here.
 //!
 //! `applying.rt` and `one_signal.rt` apply changes to such a copy, a [`Draft`].
 //!

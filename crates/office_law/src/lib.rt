@@ -16,10 +16,10 @@
 //! - [`numbers_elsewhere_do_not_count`] and [`sheets_have_one_multiplexor`]: what an allocator and an import needn't
 //!   look at.
 //!
-//! What is proved of each action is one record, `proofs/OfAction.antt`: where it is refused, that its tests decide, what
-//! it leaves of its network and the book, and what it depends on of releases. The records of a family of actions stand
-//! in one file, as `proofs/SignalLaws.antt`; `proofs/EachAction.antt` finds that of an action, and the laws of commands
-//! and bundles go by it.
+//! What is proved of each action is one record, `proofs/OfAction.antt`: where it is refused, that its tests decide,
+//! what it leaves of its network and the book, and what it depends on of releases. The records of a family of actions
+//! stand in one file, as `proofs/SignalLaws.antt`; `proofs/EachAction.antt` finds that of an action, and the laws of
+//! commands and bundles go by it.
 #![tactic(auto)]
 
 mod bundles;

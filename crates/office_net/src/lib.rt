@@ -5,9 +5,9 @@
 //! and the changes that lead to what the command leaves. `opening` opens a network, `granting` grants a block, `adding`
 //! adds a node, `reviewing` has reviews, and `releasing` freezes the live sheet.
 //!
-//! `idents` gives out identifiers and `groups` parameter groups. Both read [`NumberFacts`](office_facts::NumberFacts) of
-//! a network, and look at what is taken only where no other test refuses; so a refusal takes no memory, but for that of
-//! full blocks.
+//! `idents` gives out identifiers and `groups` parameter groups. Both read [`NumberFacts`](office_facts::NumberFacts)
+//! of a network, and look at what is taken only where no other test refuses; so a refusal takes no memory, but for that
+//! of full blocks.
 //!
 //! Each decides by the part of a network that its command reads, wherever that is kept: the head, the blocks, or such
 //! facts. So it decides for every network that has this part. That the network is there is found out before: only

@@ -6,8 +6,9 @@
 //!
 //! Each takes what it reads of the network and no more: the facts for the message that the command names, and the book
 //! or the releases where it reads them. Its contract speaks of every network that has these facts, so a decision by
-//! rows of tables is the same. The outcome of each command is defined in `office_rules` (`Signals.antt`, `Retiring.antt`). All of them first find the
-//! team's own message (`own.rt`); what costs work or memory comes after every test that doesn't.
+//! rows of tables is the same. The outcome of each command is defined in `office_rules` (`Signals.antt`,
+//! `Retiring.antt`). All of them first find the team's own message (`own.rt`); what costs work or memory comes after
+//! every test that doesn't.
 #![tactic(auto)]
 
 mod bits;

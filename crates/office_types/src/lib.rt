@@ -4,14 +4,16 @@
 //! value out of range can be written ([`command_is_in_range`]). A [`Reply`] is what the office answers. The state is
 //! plain data: [`Office`] holds networks in the order of their names and the [`SpnBook`]; a [`Net`] holds its [`Head`],
 //! live messages, blocks, held identifiers, approvals and releases, each in the order of a key, so that the state is
-//! also what tables ordered by key hold. A [`Change`] is one thing that a command sets or removes. What tables keep as
-//! numbers (kinds, phases, forms, refusals, replies) has its numbers here, both ways.
+//! also what tables ordered by key hold. A [`Change`] is one thing that a command sets or removes. A [`Look`] is what
+//! can be looked up, by a word ([`Sought`]) among others. What tables keep as numbers (kinds, phases, forms, refusals,
+//! replies) has its numbers here, both ways.
 //!
 //! [`least_free`] is the allocator: the least number of some blocks that has a form and isn't taken. [`least_gap`]
 //! gives the same number, found by halving but for parameter groups.
 //!
 //! The definitions are in `specs/`: `PlainName.antt`, `Command.antt` (ranges of a command's fields),
-//! `Refusal.antt` and `Reply.antt` (numbers, names and lines), `State.antt` and `Book.antt` (orders), and `Free.antt`.
+//! `Refusal.antt` and `Reply.antt` (numbers, names and lines), `State.antt` and `Book.antt` (orders), `Free.antt`, and
+//! `Sought.antt` (words that look for something).
 #![tactic(auto)]
 
 mod block;
@@ -28,6 +30,7 @@ mod quantity;
 mod refusal;
 mod release;
 mod reply;
+mod sought;
 mod state;
 mod team;
 
@@ -43,12 +46,13 @@ pub use free::{
     NumberForm, is_ascending, least_free, least_free_counted, least_numbers_are_least, next_of,
 };
 pub use halving::least_gap;
-pub use look::Look;
+pub use look::{Look, NetLook};
 pub use net_name::NetName;
 pub use parts::{PART_LIMIT, Parts};
 pub use quantity::{Priority, ReviewCount};
 pub use refusal::{FileFault, Refusal, refusals_are_numbered};
 pub use release::{FrozenSheet, RELEASE_LIMIT};
 pub use reply::{PartNumbers, PartReply, Reply, ReplyNumbers, replies_are_numbered};
+pub use sought::Sought;
 pub use state::{GrantedBlock, Head, LiveMessage, Net, Office, Phase};
 pub use team::{Team, is_office};

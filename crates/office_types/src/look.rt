@@ -1,5 +1,7 @@
 //! Looks.
 use crate::net_name::NetName;
+use crate::sought::Sought;
+use crate::team::Team;
 use dbc_words::Name;
 
 /// What can be looked up in an office.
@@ -14,6 +16,34 @@ pub enum Look {
     Release(NetName, u32),
     /// The chart of the network's live message of this name.
     Chart(NetName, Name),
+    /// What the network has: its state, or one kind of thing.
+    Net(NetName, NetLook),
+    /// The requests of the team that were answered, each with its reply.
+    Requests(Team),
+}
+
+/// What can be looked up of a network, each as lines.
+pub enum NetLook {
+    /// What the network has once, and how many there are of each kind of thing.
+    State,
+    /// The granted blocks and what is left of them: all, or those of one team.
+    Blocks(Option<Team>),
+    /// The live messages with their owners and releases: all, or those of one team.
+    Messages(Option<Team>),
+    /// All of the live message of this name.
+    Message(Name),
+    /// The identifiers that are held.
+    Held,
+    /// The releases, and what each changed.
+    Releases,
+    /// The nodes.
+    Nodes,
+    /// What the node of this name sends and receives.
+    Node(Name),
+    /// The suspect parameter numbers.
+    Spns,
+    /// Who has this name or number.
+    Who(Sought),
 }
 
 impl Drop for Look {
@@ -24,6 +54,25 @@ impl Drop for Look {
             Look::Live(_net) => {}
             Look::Release(_net, _number) => {}
             Look::Chart(_net, _message) => {}
+            Look::Net(_net, _look) => {}
+            Look::Requests(_team) => {}
+        }
+    }
+}
+
+impl Drop for NetLook {
+    fn drop(self) {
+        match self {
+            NetLook::State => {}
+            NetLook::Blocks(_team) => {}
+            NetLook::Messages(_team) => {}
+            NetLook::Message(_name) => {}
+            NetLook::Held => {}
+            NetLook::Releases => {}
+            NetLook::Nodes => {}
+            NetLook::Node(_name) => {}
+            NetLook::Spns => {}
+            NetLook::Who(_sought) => {}
         }
     }
 }

@@ -1,4 +1,3 @@
-pub mod Pieces
 mod Rows
 mod TableRows
 mod NetRows

@@ -1,4 +1,3 @@
-pub mod Columns
 pub mod Text
 pub mod Held
 pub mod Message

@@ -14,7 +14,7 @@ use Rattle.bitlayout.specs.Clash.{first_clash_of}
 use Rattle.bitlayout.specs.Mux.{indicator_of}
 use Rattle.bitlayout.specs.Order.{order_number}
 use Rattle.dbc_words.specs.Fault.{clash_code, code_name, code_number}
-use Rattle.office_views.specs.Columns.{set_right}
+use Rattle.columns.specs.Padding.{set_right}
 use Rattle.office_views.specs.declared.signal.ChartSignal.{ChartSignal}
 
 -- ---- the lines of the bytes

@@ -7,8 +7,8 @@
 //! chart of a message of a sheet. [`signal_of`] and [`length_of`] read the arguments of the subcommand `chart`.
 //!
 //! [`table_of`] is the table: a line for each message of a sheet, and a last line with the counts of messages and of
-//! signals ([`signal_count`]). [`net_line`] is the line of a network in the list: its name, kind, phase and count of
-//! releases.
+//! signals ([`signal_count`]); [`size_columns`] are two of its columns. [`net_line`] is the line of a network in the
+//! list: its name, kind ([`kind_word`]), phase ([`phase_word`]) and count of releases.
 //!
 //! The definitions are in `specs/`: `Text.antt` is the chart, line by line, in terms of the positions of bits of
 //! `bitlayout` and the numbers and names of clashes of `dbc_words`; `Message.antt` is that of a message; `Table.antt`
@@ -16,7 +16,6 @@
 //! `NetList.antt` is the list of networks.
 #![tactic(auto)]
 
-mod columns;
 mod message;
 mod networks;
 mod number;
@@ -26,9 +25,9 @@ mod text;
 mod word;
 
 pub use message::message_chart;
-pub use networks::net_line;
+pub use networks::{kind_word, net_line, phase_word};
 pub use number::whole_between;
 pub use signal::{ChartSignal, first_clash_of};
-pub use table::{signal_count, table_of};
+pub use table::{signal_count, size_columns, table_of};
 pub use text::chart_text;
 pub use word::{length_of, signal_of};

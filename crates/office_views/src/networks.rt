@@ -6,7 +6,7 @@ use office_types::{Head, NetKind, NetName, Phase};
 use std::alloc::{AllocError, Global};
 
 /// The word for a network's kind.
-fn kind_word(kind: NetKind) -> &'static [u8]
+pub fn kind_word(kind: NetKind) -> &'static [u8]
     ensures { result.now ≡ kind_word kind }
 {
     match kind {
@@ -16,7 +16,7 @@ fn kind_word(kind: NetKind) -> &'static [u8]
 }
 
 /// The word for whether a network is being changed or reviewed.
-fn phase_word(phase: &Phase) -> &'static [u8]
+pub fn phase_word(phase: &Phase) -> &'static [u8]
     ensures { result.now ≡ phase_word phase.now }
 {
     match phase {

@@ -1,62 +1,16 @@
 //! The table of a sheet's messages.
 ghost use Rattle.std.specs.Prelude.{◌≡◌, IfOk, codes, string_bytes, unwrap_or};
 ghost use Rattle.std.specs.List.{flat_map};
-ghost use Rattle.office_views.specs.Columns.{set_right};
-ghost use Rattle.office_views.specs.Table.{counts_line, form_word, group_text, hexadecimal, ident_columns, message_line};
+ghost use Rattle.office_views.specs.Table.{counts_line, message_line};
 ghost use Rattle.office_views.specs.Table.{signal_count, size_columns, table_of};
 
-use crate::columns::{filled, number_right};
-use can_id::{Ident, J1939};
+use columns::{ident_columns, number_right};
 use dbc_sheet::{Message, Sheet};
 use std::alloc::{AllocError, Global};
 
-/// The word for how many bits the message's identifier has.
-fn form_word(message: &Message) -> &'static [u8]
-    ensures { result.now ≡ form_word message.now.ident }
-{
-    match message.ident {
-        Ident::Std(_) => b"std",
-        Ident::Ext(_) => b"ext",
-    }
-}
-
-/// The message's identifier in 8 lower case hexadecimal digits.
-fn hexadecimal(alloc: Global, message: &Message) -> Result<Vec<u8>, AllocError>
-    ensures { IfOk result (λ text. text.items ≡ hexadecimal message.now.ident) }
-{
-    let number = message.ident.number();
-    let digits = format!(in alloc; "{number:x}")?;
-    filled(alloc, b'0', 8, digits.as_bytes())
-}
-
-/// The message's parameter group number, right-aligned in 6 columns, `-` for an 11-bit identifier.
-fn group(alloc: Global, message: &Message) -> Result<Vec<u8>, AllocError>
-    ensures { IfOk result (λ text. text.items ≡ set_right 6 (group_text message.now.ident)) }
-{
-    match J1939::of(message.ident) {
-        Some(fields) => number_right(alloc, 6, fields.pgn() as usize),
-        None => filled(alloc, b' ', 6, b"-"),
-    }
-}
-
-/// The columns of the message's identifier.
-fn ident_columns(alloc: Global, message: &Message) -> Result<Vec<u8>, AllocError>
-    ensures { IfOk result (λ text. text.items ≡ ident_columns message.now.ident) }
-{
-    let digits = hexadecimal(alloc, message)?;
-    let group = group(alloc, message)?;
-    let mut line = number_right(alloc, 10, message.number() as usize)?;
-    line.push(b' ')?;
-    line.extend_from_slice(form_word(message))?;
-    line.push(b' ')?;
-    line.extend_from_slice(&digits)?;
-    line.push(b' ')?;
-    line.extend_from_slice(&group)?;
-    Ok(line)
-}
-
-/// The columns of the message's length and its count of signals.
-fn size_columns(alloc: Global, message: &Message) -> Result<Vec<u8>, AllocError>
+/// The columns of the message's length and its count of signals, each right-aligned in 4, with a space between. The error
+/// is out of memory.
+pub fn size_columns(alloc: Global, message: &Message) -> Result<Vec<u8>, AllocError>
     ensures { IfOk result (λ text. text.items ≡ size_columns message.now) }
 {
     let count = number_right(alloc, 4, message.signals.as_slice().len())?;
@@ -81,7 +35,7 @@ fn message_line(alloc: Global, message: &Message) -> Result<Vec<u8>, AllocError>
     ensures { IfOk result (λ text. text.items ≡ message_line message.now) }
 {
     let sizes = size_columns(alloc, message)?;
-    let mut line = ident_columns(alloc, message)?;
+    let mut line = ident_columns(alloc, &message.ident)?;
     line.push(b' ')?;
     line.extend_from_slice(&sizes)?;
     line.push(b' ')?;

@@ -5,9 +5,9 @@ ghost use Rattle.office_views.specs.Held.{IsHeldBy};
 ghost use Rattle.office_views.specs.Text.{letter_of, holds, cell_of, cells_of, byte_line, layout_text, mark_text};
 ghost use Rattle.office_views.specs.Text.{signal_line, name_at, names_of, verdict_of, chart_of};
 
-use crate::columns::number_right;
 use crate::signal::{ChartSignal, first_clash_of};
 use bitlayout::{Clash, Layout, MASK_END, Mask, Mux, has_bit};
+use columns::number_right;
 use dbc_words::SheetCode;
 use std::alloc::{AllocError, Global};
 

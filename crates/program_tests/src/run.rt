@@ -1,6 +1,7 @@
 //! Runs of the program, and what they print.
 use canoffice_cli::{
-    FileSource, ListedFiles, MemoryDatabase, NamedFile, Progress, StandardInput, Status, perform,
+    FileSource, ListedFiles, MemoryDatabase, NamedFile, NoDesk, Progress, StandardInput, Status,
+    perform,
 };
 use std::alloc::Global;
 
@@ -26,6 +27,7 @@ pub(crate) fn run_on<F: FileSource + StandardInput>(
         words,
         files,
         database,
+        &mut NoDesk,
         &mut output,
         &mut errors,
         &mut nowhere,

@@ -1,17 +1,24 @@
 -- Worked examples, computed from the definitions.
 use Rattle.std.proofs.Common.{◌≡◌, ℕ, true, false, [], ◌∷◌, Err, Ok, ap, arith, inl, inr, length, refl}
-use Rattle.std.specs.Prelude.{Result}
+use Rattle.std.proofs.lemmas.List.Sorted.{IsPermutation-refl}
+use Rattle.std.specs.Fmt.{digits}
+use Rattle.std.specs.List.Sorted.{IsStrictlySortedBy}
+use Rattle.std.specs.Prelude.{List, None, Result, Some, codes}
 use Rattle.std.proofs.lemmas.Bool.{false≢true}
 use Rattle.sqlite.specs.Schema.{Schema}
 use Rattle.sqlite_schema.specs.declared.schema.View.{View}
 use Rattle.sqlite.specs.declared.error.Error.TheVariants.{InvalidQuery, SqliteFailure}
 use Rattle.sqlite.specs.declared.error.ErrorCode.TheVariants.{DiskFull, OutOfMemory}
 use Rattle.store_tables.specs.Schema.{no_schema, office_schema, schema_13, schema_9}
+use Rattle.office_rules.specs.Step.{opening}
+use Rattle.office_types.specs.declared.look.Look.TheVariants as look
+use Rattle.office_types.specs.declared.look.NetLook.{NetLook}
 use Rattle.office_history.specs.declared.arrival.Answer.{Answer}
 use Rattle.office_history.specs.declared.arrival.Answer.TheVariants.{KeyReused}
 use Rattle.office_history.specs.declared.arrival.Arrival.{Arrival}
 use Rattle.store.specs.declared.lost.Lost.{Lost}
 use Rattle.store.specs.declared.lost.Lost.TheVariants.{Memory, Store}
+use Rattle.store.specs.Looking.{IsShown}
 use Rattle.store.specs.Lost.{lost_by, lost_number}
 use Rattle.store.specs.Opening.{MayMigrateFrom, MayOpen}
 use Rattle.office_history.specs.Answering.{reported}
@@ -77,3 +84,16 @@ one_view_more view (inl same) = let views = ap (λ (s : Schema). s.views) same i
 one_view_more view (inr (inl same)) = let views = ap (λ (s : Schema). s.views) same in cc
 one_view_more view (inr (inr (inl same))) = let views = ap (λ (s : Schema). s.views) same in cc
 one_view_more view (inr (inr (inr same))) = let views = ap (λ (s : Schema). s.views) same in cc
+
+-- ---- what is shown where nothing has come
+
+no_network : (net : List ℕ) (l : NetLook) → IsShown [] opening (look.Net net l) None
+no_network net l = refl
+
+no_request : (team : List ℕ) → IsShown [] opening (look.Requests team) (Some (codes "requests 0 refused 0\n"))
+unfolding IsStrictlySortedBy digits
+no_request team = (
+  codes "requests 0 refused 0\n",
+  refl,
+  record { listed = []; same = IsPermutation-refl []; ascending = tt; replied = λ k d below. absurd (omega arith); is = refl },
+)

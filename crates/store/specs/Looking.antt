@@ -7,18 +7,25 @@ use Rattle.office_types.specs.declared.state.Office.{Office}
 use Rattle.office_rules.specs.Step.{net_named}
 use Rattle.store_net.specs.Texts.{IsTextOf, live_chart, live_table, live_text, release_at, release_text}
 use Rattle.office_types.specs.declared.look.Look.{Look}
-use Rattle.office_types.specs.declared.look.Look.TheVariants.{Chart, Live, Nets, Release, Table}
+use Rattle.office_types.specs.declared.look.Look.TheVariants as look
+use Rattle.office_types.specs.declared.look.Look.TheVariants.{Chart, Live, Nets, Release, Requests, Table}
+use Rattle.office_history.specs.History.{Answered}
+use Rattle.office_looks.specs.Looks.{net_text}
+use Rattle.office_requests.specs.Requests.{IsRequestsText}
 
--- The list of networks; of a network, the table and the canonical text of its live sheet; of a release, the canonical
--- text of it, which reads as it and as no other sheet; of a live message, its chart. Nothing exactly where there is no
--- such network, release or message.
-abbrev pub IsShown : Office → Look → Option (List ℕ) → Type 0
-IsShown office Nets text = text ≡ Some (nets_text office.nets)
-IsShown office (Table net) text = text ≡ live_table (net_named office net)
-IsShown office (Live net) text = text ≡ live_text (net_named office net)
-IsShown office (Release net number) text =
+-- After a history that left this office: the list of networks; of a network, the table and the canonical text of its
+-- live sheet; of a release, the canonical text of it, which reads as it and as no other sheet; of a live message, its
+-- chart; what else is looked up of a network; and the requests of a team in the history. Nothing exactly where there is
+-- no such network, release or message, or nothing that is looked up.
+abbrev pub IsShown : List Answered → Office → Look → Option (List ℕ) → Type 0
+IsShown h office Nets text = text ≡ Some (nets_text office.nets)
+IsShown h office (Table net) text = text ≡ live_table (net_named office net)
+IsShown h office (Live net) text = text ≡ live_text (net_named office net)
+IsShown h office (Release net number) text =
     (text ≡ release_text (net_named office net) number) × IsTextOf (release_at (net_named office net) number) text
-IsShown office (Chart net message) text = text ≡ live_chart (net_named office net) message
+IsShown h office (Chart net message) text = text ≡ live_chart (net_named office net) message
+IsShown h office (look.Net net l) text = text ≡ net_text (net_named office net) office.book l
+IsShown h office (Requests team) text = (lines : List ℕ) × (text ≡ Some lines) × IsRequestsText team h lines
 
 -- the bytes of the text, if there is one
 abbrev pub bytes_of : Option (Vec ℕ Global) → Option (List ℕ)

@@ -2,8 +2,8 @@
 //!
 //! [`StoredOffice::open`] makes the tables on a database that has none, or takes those of an earlier run.
 //! [`StoredOffice::arrive`] answers one arrival, in one transaction, and [`StoredOffice::run`] a list of them.
-//! [`StoredOffice::look`] gives the text of a live sheet or of a release. [`StoredOffice::close`] gives the connection
-//! back. A call that is [`Lost`] counts as not made.
+//! [`StoredOffice::look`] gives the text of what is looked up: of networks, or of a team's requests.
+//! [`StoredOffice::close`] gives the connection back. A call that is [`Lost`] counts as not made.
 //!
 //! Tables hold a history (`specs/Holds.antt`) if it is legal, their rows stand for the office that it leaves, and there
 //! is one kept reply for each first arrival. The main theorem is the contract of [`StoredOffice::run`]
@@ -13,9 +13,9 @@
 //! [`held_networks_are_apart`] of an answer after other histories.
 //!
 //! The other definitions are in `specs/`: `Holding.antt` (connections, and what a crash leaves, that hold a history),
-//! `Calls.antt` (what a call on an office promises), `OpensAs.antt` (what opening and migrating do), `Making.antt` (what
-//! makes the tables below them), `Opening.antt`, `Deciding.antt`, `Running.antt`, `Looking.antt` and `Laws.antt` by the
-//! names of the modules, `Office.antt` (an office as contracts see it) and `Lost.antt`.
+//! `Calls.antt` (what a call on an office promises), `OpensAs.antt` (what opening and migrating do), `Making.antt`
+//! (what makes the tables below them), `Opening.antt`, `Deciding.antt`, `Running.antt`, `Looking.antt` and `Laws.antt`
+//! by the names of the modules, `Office.antt` (an office as contracts see it) and `Lost.antt`.
 #![tactic(auto)]
 
 mod arriving;

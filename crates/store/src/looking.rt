@@ -16,6 +16,7 @@ use office_history::histories_leave_offices;
 use office_types::Look;
 use sqlite::{Alter, Connection, Error, Transaction};
 use std::alloc::Global;
+use store_looks::{net_look_at, requests_at};
 use store_net::{live_chart, live_table, live_text, nets_text, release_text};
 use store_tables::knows_schema;
 
@@ -27,7 +28,7 @@ fn look_inside<S: Alter>(
 ) -> Result<Option<Vec<u8>>, Error>
     ensures found { Asks S.Store tx.old tx.new result (λ text t.
         (h : List Answered) → (holds : Holds h t)
-        → IsShown holds.holds.office look.now (bytes_of text)) }
+        → IsShown h holds.holds.office look.now (bytes_of text)) }
     ensures frame { ReadsOnly S.Store tx.old tx.new result }
 {
     histories_leave_offices();
@@ -37,6 +38,8 @@ fn look_inside<S: Alter>(
         Look::Live(net) => live_text(alloc, tx, net),
         Look::Release(net, number) => release_text(alloc, tx, net, *number),
         Look::Chart(net, message) => live_chart(alloc, tx, net, message),
+        Look::Net(net, look) => net_look_at(alloc, tx, net, look),
+        Look::Requests(team) => Ok(Some(requests_at(alloc, tx, team)?)),
     }
 }
 
@@ -50,7 +53,7 @@ fn look_alone<S: Alter>(
     ensures autocommit { IsSettled S.Store conn.new }
     ensures clean { KeepsDoubt S.Store conn.old conn.new }
     ensures found { OnHolding S.Store conn.old conn.new (λ h holding. IfOk result (λ text.
-        IsShown holding.keeps.holds.holds.office look.now (bytes_of text))) }
+        IsShown h holding.keeps.holds.holds.office look.now (bytes_of text))) }
     ensures held { HoldsOnOk S.Store conn.old conn.new result }
     ensures same { SameOnOk S.Store conn.old conn.new result }
     ensures lost_same { SameOnErr S.Store conn.old conn.new result }
@@ -75,7 +78,7 @@ impl<S: Alter> StoredOffice<S> {
         ensures call { IsOfficeCall S.Store self.old self.new result }
         ensures shown { OnHistory S.Store self.old.conn self.new.conn (λ h.
             (office : Whole) → IsLegal h office
-            → IfOk result (λ text. IsShown office look.now (bytes_of text))) }
+            → IfOk result (λ text. IsShown h office look.now (bytes_of text))) }
         ensures held { HoldsOnOk S.Store self.old.conn self.new.conn result }
         ensures lost { HoldsOnErr S.Store self.old.conn self.new.conn result }
         ensures same { SameOnOk S.Store self.old.conn self.new.conn result }

@@ -12,6 +12,7 @@ pub mod OneMessage
 pub mod ReceiverRows
 pub mod Excerpts
 pub mod KeptParts
+mod TeamKeys
 mod ReplyNumbers
 pub mod EachMessage
 pub mod Between

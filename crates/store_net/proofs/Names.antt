@@ -29,7 +29,7 @@ use Rattle.store_tables.specs.Selected.{IsSelected}
 use Rattle.store_statements.specs.Rows.{frozen_row, is_any, is_of_net, net_row}
 use Rattle.store_statements.specs.Shown.{net_names_order, net_names_shown, net_order, release_numbers_order}
 use Rattle.store_statements.specs.Shown.{release_numbers_shown}
-use Rattle.office_views.proofs.Pieces.{items_more}
+use Rattle.columns.proofs.Pieces.{items_more}
 use Rattle.office_views.specs.NetList.{line_of, net_line, nets_text}
 use Rattle.store_rows.specs.Listed.{AreListed, AreShown}
 use Rattle.store_rows.specs.NetIn.{IsNetAt, IsRestAt, RestRows, rest_of}

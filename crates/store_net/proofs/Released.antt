@@ -21,7 +21,7 @@ use Rattle.store_rows.proofs.Keys.{int_test, releases_total}
 use Rattle.store_rows.proofs.Listing.{kept_listed, none_listed}
 use Rattle.store_rows.proofs.Reading.{both_tests, selected_shown}
 use Rattle.store_rows.proofs.Values.{one_blob}
-use Rattle.store_net.specs.Parts.{HasReleases}
+use Rattle.store_net.specs.Parts.{HasReleases, releases_in}
 use Rattle.store_net.specs.Texts.{release_at}
 use Rattle.store_net.proofs.First.{none_first, some_first}
 
@@ -32,11 +32,7 @@ ShowsBody release row = (text : List ℕ) × (column row 0 ≡ Blob text) × Rea
 abbrev has_this : ℕ → ℕ × Sheet → Bool
 has_this number release = release.0 == number
 
-abbrev releases_in : Option Net → List Sheet
-releases_in None = []
-releases_in (Some net) = net.releases
-
-its_releases : (name : List ℕ) (t : Tables) (net : Option Net) → IsNetAt name t net
+pub its_releases : (name : List ℕ) (t : Tables) (net : Option Net) → IsNetAt name t net
     → HasReleases name t (releases_in net)
 its_releases name t None at =
     subst (λ (r : RestRows). AreListed releases_order (IsRowOf frozen_row (IsFrozenRow name)) r.releases [])

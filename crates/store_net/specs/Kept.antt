@@ -1,6 +1,9 @@
 -- The rows of answered requests, and of the parts of those that were bundles.
-use Rattle.std.specs.Prelude.{◌≡◌, ℕ, ◌+◌, pos, List, [], ◌∷◌, IsPermutation}
+use Rattle.std.specs.Prelude.{◌≡◌, ℕ, ◌+◌, pos, List, [], ◌∷◌, IsPermutation, filter, map}
 use Rattle.std.specs.List.{flat_map}
+use Rattle.std.specs.List.Sorted.{IsStrictlySortedBy}
+use Rattle.std.specs.Str.{bytes_eq}
+use Rattle.base.specs.Keyed.{text_cmp}
 use Rattle.sqlite.specs.declared.types.Value.TheVariants.{Int, Text, Blob}
 use Rattle.sqlite.specs.Order.{Row, column}
 use Rattle.office_types.specs.Reply.{part_numbers, reply_numbers, reply_parts}
@@ -12,6 +15,7 @@ use Rattle.office_history.specs.declared.arrival.Answer.TheVariants as answer
 use Rattle.office_history.specs.declared.arrival.Answer.TheVariants.{KeyReused}
 use Rattle.office_history.specs.History.{Answered, first_arrivals}
 use Rattle.store_rows.specs.Listed.{AreShown}
+use Rattle.store_net.specs.declared.requests.KeptRequest.{KeptRequest}
 
 -- the row of a team's request under a key, with its content and the numbers of its reply
 abbrev pub row_of_numbers : List ℕ → List ℕ → List ℕ → ReplyNumbers → Row
@@ -54,6 +58,20 @@ kept_parts a = part_rows a.team a.key 1 (answer_parts a.answer)
 -- the rows, whatever their order in the table, are those of the parts of the first arrivals' answers
 abbrev pub AreKeptParts : List Answered → List Row → Type 0
 AreKeptParts h rows = IsPermutation rows (flat_map kept_parts (first_arrivals h))
+
+-- ---- the requests of a team
+
+-- the keys are those of the team's requests in the history, in the order of their bytes
+pub record AreKeysOf (team : List ℕ) (h : List Answered) (keys : List (List ℕ)) : Type 0 where
+  pub same : IsPermutation (map (λ (a : Answered). a.key) (filter (λ a. bytes_eq a.team team) (first_arrivals h))) keys
+  pub ascending : IsStrictlySortedBy text_cmp keys
+
+-- what is kept of an arrival: its content and its answer
+abbrev pub content_and_answer : Answered → List ℕ × Answer
+content_and_answer a = (a.content, a.answer)
+
+abbrev pub kept_answer : KeptRequest → List ℕ × Answer
+kept_answer kept = (kept.content, answer.Reply kept.reply)
 
 -- ---- what the query of a reply shows: content, kind, a, b, c
 

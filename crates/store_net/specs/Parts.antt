@@ -8,6 +8,7 @@ use Rattle.office_types.specs.declared.book.SpnBlock.{SpnBlock}
 use Rattle.office_types.specs.declared.state.GrantedBlock.{GrantedBlock}
 use Rattle.office_types.specs.declared.state.Head.{Head}
 use Rattle.office_types.specs.declared.state.LiveMessage.{LiveMessage}
+use Rattle.office_types.specs.declared.state.Net.{Net}
 use Rattle.store_tables.specs.Tables.{Tables}
 use Rattle.store_statements.specs.Rows.{net_row, message_row, block_row, frozen_row, is_of_form, is_of_net}
 use Rattle.store_statements.specs.Shown.{net_order, messages_order, blocks_order, blocks_of_form_order, held_order}
@@ -43,6 +44,11 @@ HasApprovals name t teams = AreListed approvals_order (IsApprovalRow name) (rest
 abbrev pub HasReleases : List ℕ → Tables → List Sheet → Type 0
 HasReleases name t releases = AreListed releases_order (IsRowOf frozen_row (IsFrozenRow name)) (rest_of name t).releases
     (numbered 1 releases)
+
+-- the releases of a network, from the first one on; none where it isn't there
+abbrev pub releases_in : Option Net → List Sheet
+releases_in None = []
+releases_in (Some net) = net.releases
 
 abbrev pub HasSpnBlocks : Tables → List SpnBlock → Type 0
 HasSpnBlocks t blocks = AreListed blocks_of_form_order (IsRowOf block_row IsSpnBlockRow)

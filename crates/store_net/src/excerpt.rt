@@ -72,8 +72,8 @@ fn message_excerpt<S: Alter>(
     Ok(Some(Excerpt::Message(head, found)))
 }
 
-/// The head and the message of the name, and whether a release has its identifier: whether the last one has it, which in
-/// the network of an office has each live message that was released.
+/// The head and the message of the name, and whether a release has its identifier: whether the last one has it, which
+/// in the network of an office has each live message that was released.
 fn retiring_excerpt<S: Alter>(
     alloc: Global,
     tx: &mut Transaction<'_, S>,

@@ -51,7 +51,7 @@ fn add_message(alloc: Global, sheet: &mut Sheet, message: Message) -> Result<(),
 
 /// The live sheet: the frame with the live messages, which are in ascending order of their DBC numbers. An error is out
 /// of memory, or `InvalidQuery` where these messages can't be in one sheet.
-fn live_sheet(alloc: Global, head: Head, live: &[LiveMessage]) -> Result<Sheet, Error>
+pub fn live_sheet(alloc: Global, head: Head, live: &[LiveMessage]) -> Result<Sheet, Error>
     ensures { IfOk result (λ sheet. IsStrictlySortedBy by_number (live_messages live.now)
         → sheet ≡ sheet_with head.frame live.now) }
 {

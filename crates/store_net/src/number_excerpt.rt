@@ -19,8 +19,8 @@ use office_types::{BlockForm, NetName, TakeIdent, TakePgn, Team};
 use sqlite::{Alter, Error, Transaction};
 use std::alloc::Global;
 
-/// What is read for each of them, without identifiers: the head and the blocks, whether a live message has the name, and
-/// whether there are as many as there may be. `None` where the network isn't there.
+/// What is read for each of them, without identifiers: the head and the blocks, whether a live message has the name,
+/// and whether there are as many as there may be. `None` where the network isn't there.
 fn name_and_room<S: Alter>(
     alloc: Global,
     tx: &mut Transaction<'_, S>,
@@ -48,8 +48,8 @@ fn name_and_room<S: Alter>(
     }))
 }
 
-/// The excerpt for the team's `take_ident`, `None` where the network isn't there. Of the live and the held identifiers it
-/// reads those in the team's blocks of the form, and the wanted one.
+/// The excerpt for the team's `take_ident`, `None` where the network isn't there. Of the live and the held identifiers
+/// it reads those in the team's blocks of the form, and the wanted one.
 pub(crate) fn ident_excerpt<S: Alter>(
     alloc: Global,
     tx: &mut Transaction<'_, S>,

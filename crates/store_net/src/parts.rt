@@ -1,7 +1,7 @@
 //! The parts of a network and of the book, each by one SELECT.
 ghost use Rattle.std.specs.Prelude.{◌≡◌, ℕ, List, Option};
 ghost use Rattle.can_id.specs.declared.ident.Ident.{Ident as Identifier};
-ghost use Rattle.dbc_sheet.specs.declared.sheet.Sheet.{Sheet};
+ghost use Rattle.dbc_sheet.specs.declared.sheet.Sheet.{Sheet as SheetModel};
 ghost use Rattle.office_types.specs.declared.book.SpnBlock.{SpnBlock as SpnRange};
 ghost use Rattle.office_types.specs.declared.state.GrantedBlock.{GrantedBlock as Granted};
 ghost use Rattle.office_types.specs.declared.state.Head.{Head as Heading};
@@ -12,6 +12,7 @@ ghost use Rattle.store_tables.specs.Frames.{Asks, ReadsOnly};
 
 use base::Items;
 use can_id::Ident;
+use dbc_sheet::Sheet;
 use office_types::{
     BlockForm, FrozenSheet, GrantedBlock, Head, LiveMessage, NetName, SpnBlock, Team,
 };
@@ -97,6 +98,20 @@ pub(crate) fn approvals_of<S: Alter>(
     items_of(alloc, &rows)
 }
 
+/// The releases of the network as sheets, from the first one on.
+pub(crate) fn release_sheets_of<S: Alter>(
+    alloc: Global,
+    tx: &mut Transaction<'_, S>,
+    name: &NetName,
+) -> Result<Items<Sheet>, Error>
+    ensures found { Asks S.Store tx.old tx.new result (λ releases t.
+        (others : List SheetModel) → HasReleases name.now t others → releases ≡ others) }
+    ensures frame { ReadsOnly S.Store tx.old tx.new result }
+{
+    let rows = select_releases(tx, name.as_bytes())?;
+    items_of(alloc, &rows)
+}
+
 /// The releases of the network, from the first one on.
 pub(crate) fn releases_of<S: Alter>(
     alloc: Global,
@@ -104,7 +119,8 @@ pub(crate) fn releases_of<S: Alter>(
     name: &NetName,
 ) -> Result<Items<FrozenSheet>, Error>
     ensures found { Asks S.Store tx.old tx.new result
-        (λ releases t. (others : List Sheet) → HasReleases name.now t others → releases ≡ others) }
+        (λ releases t. (others : List SheetModel) → HasReleases name.now t others
+        → releases ≡ others) }
     ensures frame { ReadsOnly S.Store tx.old tx.new result }
 {
     let rows = select_releases(tx, name.as_bytes())?;

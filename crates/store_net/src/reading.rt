@@ -6,12 +6,14 @@ ghost use Rattle.office_types.specs.declared.book.SpnBook.{SpnBook as Book};
 ghost use Rattle.store_rows.specs.Rows.{IsBookIn};
 ghost use Rattle.store_net.specs.Counted.{HasAsMany};
 ghost use Rattle.store_tables.specs.Frames.{Asks, ReadsOnly};
+ghost use Rattle.store_net.specs.Parts.{releases_in};
 ghost use Rattle.store_net.specs.Reading.{OnNet};
 
 use crate::live_list::live_messages;
 use crate::nets::release_count;
 use crate::parts::{
-    approvals_of, blocks_of, head_of, held_of, releases_of, spn_blocks_of, used_of,
+    approvals_of, blocks_of, head_of, held_of, release_sheets_of, releases_of, spn_blocks_of,
+    used_of,
 };
 use base::{Copying, Items};
 use dbc_sheet::Sheet;
@@ -95,6 +97,20 @@ pub fn net_at<S: Alter>(
     };
     net.releases = releases_of(alloc, tx, name)?;
     Ok(Some(net))
+}
+
+/// The releases of the network of the name as sheets, from the first one on; none where it isn't there. The errors are
+/// those of [`unreleased_net_at`].
+pub fn release_sheets_at<S: Alter>(
+    alloc: Global,
+    tx: &mut Transaction<'_, S>,
+    name: &NetName,
+) -> Result<Items<Sheet>, Error>
+    ensures found { Asks S.Store tx.old tx.new result
+        (OnNet name.now (λ net releases. releases ≡ releases_in net)) }
+    ensures frame { ReadsOnly S.Store tx.old tx.new result }
+{
+    release_sheets_of(alloc, tx, name)
 }
 
 /// The book of suspect parameter numbers: the blocks of all networks, and the numbers that were ever used. If the

@@ -74,8 +74,9 @@ pub fn keep_reply<S: Alter>(
     write_parts(tx, team.as_bytes(), key.as_bytes(), reply.parts())
 }
 
-/// The answers to the parts of the bundle that the team requested under the key, in order.
-fn parts_at<S: Alter>(
+/// The answers to the parts of the bundle that the team requested under the key, in order. The error is `sqlite`'s, out
+/// of memory or the disk's, or that of a row that is no part's.
+pub(crate) fn parts_at<S: Alter>(
     alloc: Global,
     tx: &mut Transaction<'_, S>,
     team: &Team,
@@ -92,7 +93,7 @@ fn parts_at<S: Alter>(
 }
 
 /// The reply in the second to the fifth column, with these parts. An error where they are the numbers of none.
-fn reply_in(row: &Row, parts: Items<PartReply>) -> Result<Reply, Error>
+pub(crate) fn reply_in(row: &Row, parts: Items<PartReply>) -> Result<Reply, Error>
     ensures { IfOk result (λ reply. (other : ReplyModel) → ShowsReply other row.now
         → parts ≡ reply_parts other → reply ≡ other) }
 {

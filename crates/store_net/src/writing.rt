@@ -99,8 +99,8 @@ fn write_change<S: Alter>(
 /// become those of the network and the book that the changes lead to; other networks' rows, the kept replies and the
 /// profile stay. This is promised of changes as a decision has them: where the network isn't there, its head comes
 /// first, no block of suspect parameter numbers is set on the network itself, and `next` is the number of the network's
-/// next release, if the changes have one. A signal that is added or removed, or gets a suspect parameter number or value
-/// texts, is written by its own rows alone.
+/// next release, if the changes have one. A signal that is added or removed, or gets a suspect parameter number or
+/// value texts, is written by its own rows alone.
 ///
 /// The error is `sqlite`'s: out of memory, the disk's, or that of rows with keys that are there already;
 /// [`Error::InvalidQuery`] where a release has no number or one of more than 32 bits, or its messages are no sheet's,

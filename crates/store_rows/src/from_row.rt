@@ -11,6 +11,7 @@ ghost use Rattle.store_rows.specs.Showing.{ShowsPhase, ShowsRange, ShowsRelease,
 
 use crate::columns::{blob_at, number_at, sheet_at, team_at, text_at};
 use can_id::Ident;
+use dbc_sheet::Sheet;
 use office_types::{
     BlockForm, FormBlock, FrozenSheet, GrantedBlock, Head, LiveMessage, NetKind, NetName,
     PartNumbers, PartReply, Phase, ReviewCount, SpnBlock, Team,
@@ -131,11 +132,20 @@ impl FromRow for PartReply {
     }
 }
 
+/// A release.
+impl FromRow for Sheet {
+    ghost shows = { ShowsRelease };
+
+    fn from_row(alloc: Global, row: &Row) -> Result<Sheet, Error> {
+        sheet_at(alloc, row, 1)
+    }
+}
+
 impl FromRow for FrozenSheet {
     ghost shows = { ShowsRelease };
 
     fn from_row(alloc: Global, row: &Row) -> Result<FrozenSheet, Error> {
-        let mut sheet = sheet_at(alloc, row, 1)?;
+        let mut sheet = Sheet::from_row(alloc, row)?;
         let messages = sheet.take_messages();
         Ok(FrozenSheet::of(sheet, messages))
     }

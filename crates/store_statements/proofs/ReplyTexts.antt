@@ -1,5 +1,5 @@
 -- What the texts on `reply` make of it, and show of it.
-use Rattle.std.proofs.Common.{◌≡◌, ℕ, List, [], ◌∷◌, ◌++◌, codes, false, Err, Result, refl, ◌∙◌}
+use Rattle.std.proofs.Common.{◌≡◌, ℕ, List, [], ◌∷◌, ◌++◌, codes, false, Err, Result, refl, ap, ◌∙◌}
 use Rattle.std.specs.Prelude.{IfOk, IsTrue}
 use Rattle.sqlite.specs.declared.types.Value.TheVariants.{Null, Int, Text}
 use Rattle.sqlite.specs.declared.error.Error.{Error}
@@ -31,9 +31,9 @@ use Rattle.store_tables.proofs.Keeping.{plain_in}
 use Rattle.store_tables.proofs.TableIndices.{reply, reply_there, reply_only}
 use Rattle.store_tables.proofs.Finding.{ascending, IsSelect, Means, finds}
 use Rattle.store_statements.specs.declared.row.ReplyRow.{ReplyRow}
-use Rattle.store_statements.specs.Rows.{has_two_texts, reply_row}
-use Rattle.store_statements.specs.Shown.{reply_order, reply_shown}
-use Rattle.store_statements.proofs.Requested.{texts_requested, two_tests}
+use Rattle.store_statements.specs.Rows.{has_two_texts, is_of_team, reply_row}
+use Rattle.store_statements.specs.Shown.{keys_order, keys_shown, reply_order, reply_shown}
+use Rattle.store_statements.proofs.Requested.{net_requested, one_test, texts_requested, two_tests}
 
 -- ---- insert_reply
 
@@ -104,3 +104,34 @@ reply_found rows_of team key =
 
 pub reply_plain : (s : Schema) → s ≡ office_schema → IsPlain (understood s reply_text)
 reply_plain = plain_in reply_text (reply_selects []).plain
+
+-- ---- select_keys
+
+abbrev pub keys_text : List ℕ
+keys_text = codes "SELECT key FROM reply WHERE team = ?1 ORDER BY key"
+
+abbrev keys_columns : List Term
+keys_columns = col 1 2 ∷ []
+
+keys_selects : (params : Row)
+    → IsSelect office_schema keys_text 15 one_test keys_columns reply_by (codes "key" ∷ []) params
+unfolding understood everything office_schema
+keys_selects params = record { command = refl; listing = refl; plain = (refl, refl) }
+
+keys_means : (team : List ℕ)
+    → Means values 15 one_test keys_columns reply_by (Text team ∷ []) (is_of_team team) keys_shown keys_order
+keys_means team = record {
+  tests_same = net_requested team;
+  shows_same = λ r. ap (λ v. v ∷ []) (column_is r 1);
+  orders_same = λ x y. then-Equal _ ∙ rw (column_is x 1, column_is y 1) refl;
+}
+
+pub keys_found : {X : Type 0} (rows_of : X → List Row) (team : List ℕ) (old new : State) (r : Result X Error)
+    → old.now.schema ≡ office_schema
+    → IfOk r (λ x. Shown keys_text (Text team ∷ []) old new (rows_of x))
+    → IfOk r (λ x. IsSelected (is_of_team team) keys_shown keys_order (tables_of old.now.trees).reply (rows_of x))
+keys_found rows_of team = finds office_schema keys_text 15 one_test keys_columns reply_by _ (Text team ∷ [])
+    (keys_selects (Text team ∷ [])) values (is_of_team team) keys_shown keys_order (keys_means team) rows_of
+
+pub keys_plain : (s : Schema) → s ≡ office_schema → IsPlain (understood s keys_text)
+keys_plain = plain_in keys_text (keys_selects []).plain

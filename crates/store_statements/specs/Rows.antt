@@ -134,6 +134,10 @@ is_of_form form row = has_number 1 form row
 abbrev pub has_two_texts : List ℕ → List ℕ → Row → Bool
 has_two_texts first second row = has_text 0 first row && has_text 1 second row
 
+-- the row of a team's request: its first column has the team
+abbrev pub is_of_team : List ℕ → Row → Bool
+is_of_team team row = has_text 0 team row
+
 abbrev pub is_number : ℕ → Row → Bool
 is_number number row = has_number 0 number row
 

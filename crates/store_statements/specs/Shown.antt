@@ -89,6 +89,13 @@ reply_shown row = column row 2 ∷ column row 3 ∷ column row 4 ∷ column row 
 abbrev pub reply_order : Row → Row → Ordering
 reply_order = by_column 1
 
+-- key; by key
+abbrev pub keys_shown : Row → Row
+keys_shown row = column row 1 ∷ []
+
+abbrev pub keys_order : Row → Row → Ordering
+keys_order = by_column 1
+
 -- one, number; by one
 abbrev pub profile_shown : Row → Row
 profile_shown row = column row 0 ∷ column row 1 ∷ []

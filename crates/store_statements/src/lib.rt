@@ -46,7 +46,7 @@ pub use profile::{clear_profile, insert_profile, select_profile};
 pub use receiver::{
     count_receivers, delete_receivers, delete_receivers_at, insert_receiver, select_receivers,
 };
-pub use reply::{insert_reply, select_reply};
+pub use reply::{insert_reply, select_keys, select_reply};
 pub use row::{
     BlockRow, BodyRow, FrozenRow, LiveRow, MuxColumn, NetRow, PartRow, ReceiverRow, ReplyRow,
     SigRow, SigValueRow,

@@ -1,8 +1,8 @@
 //! Replies to requests.
 ghost use Rattle.std.specs.Prelude.{[], ◌++◌, ◌∷◌, ◌≡◌};
 ghost use Rattle.store_tables.specs.Selected.{IsSelected};
-ghost use Rattle.store_statements.specs.Rows.{has_two_texts, reply_row};
-ghost use Rattle.store_statements.specs.Shown.{reply_order, reply_shown};
+ghost use Rattle.store_statements.specs.Rows.{has_two_texts, is_of_team, reply_row};
+ghost use Rattle.store_statements.specs.Shown.{keys_order, keys_shown, reply_order, reply_shown};
 ghost use Rattle.store_tables.specs.Frames.{Asks, Edits, OnlyWrites, ReadsOnly};
 
 use crate::row::ReplyRow;
@@ -46,5 +46,17 @@ pub fn select_reply<S: Alter>(
     tx.query_all(
         "SELECT content, kind, a, b, c FROM reply WHERE team = ?1 AND key = ?2 ORDER BY key",
         &[ValueRef::Text(team), ValueRef::Text(key)],
+    )
+}
+
+/// The keys of the team's requests (`key`), in the order of their bytes.
+pub fn select_keys<S: Alter>(tx: &mut Transaction<'_, S>, team: &[u8]) -> Result<Vec<Row>, Error>
+    ensures found { Asks S.Store tx.old tx.new result (λ rows t.
+        IsSelected (is_of_team team.now) keys_shown keys_order t.reply rows.items) }
+    ensures frame { ReadsOnly S.Store tx.old tx.new result }
+{
+    tx.query_all(
+        "SELECT key FROM reply WHERE team = ?1 ORDER BY key",
+        &[ValueRef::Text(team)],
     )
 }

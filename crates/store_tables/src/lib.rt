@@ -8,8 +8,8 @@
 //! schema; [`knows_tables`] says so of every schema, as those of earlier times (`IsOfficeSchema`). [`is_begun`]
 //! compares the tables of a database with those of an office.
 //!
-//! The statements that read and write rows are in the crate `store_statements`. What a statement of each form makes of the
-//! tables is proved here once, for any table: `proofs/Changing.antt` has INSERT and DELETE, `proofs/Selecting.antt`
+//! The statements that read and write rows are in the crate `store_statements`. What a statement of each form makes of
+//! the tables is proved here once, for any table: `proofs/Changing.antt` has INSERT and DELETE, `proofs/Selecting.antt`
 //! SELECT, and `proofs/TopRow.antt` that with LIMIT 1.
 //!
 //! The definitions are in `specs/`: `Schema.antt` (the tables, as `sqlite` has them), `Tables.antt` (their rows),

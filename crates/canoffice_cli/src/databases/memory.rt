@@ -1,5 +1,5 @@
 //! A database in memory.
-ghost use Rattle.std.specs.Prelude.{◌≡◌, ℕ, List, IfOk, OnErr, false};
+ghost use Rattle.std.specs.Prelude.{◌≡◌, ℕ, List, IfOk, IsFalse, IsTrue, OnErr, false};
 ghost use Rattle.sqlite.specs.Held.{state};
 ghost use Rattle.sqlite.specs.Steps.{over_memory};
 ghost use Rattle.office_history.specs.History.{Answered};
@@ -9,7 +9,7 @@ ghost use Rattle.canoffice_cli.specs.Databases.{known_of};
 
 use super::Databases;
 use crate::answering::{Answers, answer_on, nothing_answered};
-use crate::exporting::look_on;
+use crate::looking::look_on;
 use crate::migrating::migrate_on;
 use crate::progress::Progress;
 use crate::serving::ServeEnd;
@@ -19,6 +19,7 @@ use sqlite::{Connection, MemStore};
 use std::alloc::{AllocError, Global};
 use std::io::Write;
 use store::Lost;
+use store_tables::{is_new, knows_schema};
 
 /// One database in memory, which is found under any path.
 #[derive(Drop)]
@@ -28,6 +29,21 @@ pub struct MemoryDatabase {
 }
 
 impl MemoryDatabase {
+    /// Whether the connection shows no table.
+    fn is_new(&self) -> bool
+        ensures yes { (path : List ℕ) → (known_of self.now.conn).is_new path → IsTrue result }
+        ensures no { (path : List ℕ) (h : List Answered) → (known_of self.now.conn).holds path h
+            → IsFalse result }
+    {
+        match &self.conn {
+            Some(conn) => {
+                knows_schema(conn);
+                is_new(conn)
+            }
+            None => false,
+        }
+    }
+
     /// The connection, which is taken out.
     fn taken(&mut self) -> Result<Connection<MemStore>, Lost>
         ensures settled { IfOk result (λ conn. (state over_memory conn).in_transaction ≡ false) }
@@ -76,6 +92,9 @@ impl Databases for MemoryDatabase {
     }
 
     fn look(&mut self, alloc: Global, _path: &str, look: &Look) -> Result<Option<Vec<u8>>, Lost> {
+        if self.is_new() {
+            return Ok(None);
+        }
         let conn = self.taken()?;
         let (shown, conn) = look_on(alloc, conn, look);
         self.conn = Some(conn);

@@ -7,7 +7,7 @@ use std::io;
 use std::rt::Runtime;
 use store_statements::{
     select_approvals, select_blocks, select_blocks_of_form, select_held, select_held_numbers,
-    select_messages, select_net, select_net_names, select_profile, select_release,
+    select_keys, select_messages, select_net, select_net_names, select_profile, select_release,
     select_release_numbers, select_releases, select_reply, select_spns,
 };
 
@@ -51,7 +51,9 @@ fn show_releases<S: Alter, R: Runtime>(
 fn show_replies<S: Alter, R: Runtime>(rt: &R, tx: &mut Transaction<'_, S>) -> io::Result<()> {
     show(rt, "reply", select_reply(tx, LONG, LONG_KEY))?;
     show(rt, "reply", select_reply(tx, SHORT, SHORT_KEY))?;
-    show(rt, "reply", select_reply(tx, SHORT_KEY, SHORT))
+    show(rt, "reply", select_reply(tx, SHORT_KEY, SHORT))?;
+    show(rt, "key", select_keys(tx, LONG))?;
+    show(rt, "key", select_keys(tx, SHORT_KEY))
 }
 
 /// What each SELECT shows, in one transaction.

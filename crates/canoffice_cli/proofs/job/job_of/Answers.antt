@@ -1,7 +1,7 @@
 use Rattle.std.proofs.Common.{map}
 use Rattle.clap.specs.Words.{app_of, kind_of}
-use Rattle.canoffice_cli.proofs.CommandLine.{line_fault_by, wrong_number_of}
-use Rattle.canoffice_cli.proofs.EnteredLine.{job_of_read, line_is_read, wrong_number_read}
+use Rattle.canoffice_cli.proofs.CommandLine.{line_fault_by, wrong_look_of, wrong_number_of}
+use Rattle.canoffice_cli.proofs.EnteredLine.{job_of_read, line_is_read, wrong_look_read, wrong_number_read}
 use Rattle.canoffice_cli.proofs.job.job_of.Goals as goal
 
 pub job_in-requires : goal.job_in-requires
@@ -28,6 +28,26 @@ returns-in-Err-WrongNumber-clause-fault c =
     wrong_number_of words word c.wrong_number.result
     (wrong_number_read words found.matches word read
     (rw c.in-Err-WrongNumber.field-0-is at c.in-Err-WrongNumber.ensures.fault)) c.wrong_number.ensures
+
+pub returns-in-Err-WrongPlace-clause-fault : goal.returns-in-Err-WrongPlace-clause-fault
+returns-in-Err-WrongPlace-clause-fault c =
+    let found = c.in-Ok-try_get_matches_from in
+    let words = map (λ s. s.now) c.args.words.now in
+    let read = line_is_read (app_of c.in-Ok.command) words found.matches c.in-Ok.ensures.app found.ensures.kinds
+    found.ensures.matches in
+    wrong_look_of words c.wrong_place.result
+    (wrong_look_read words found.matches read
+    (rw c.in-Err-WrongPlace.field-0-is at c.in-Err-WrongPlace.ensures.fault)) c.wrong_place.ensures
+
+pub returns-in-Err-WrongWhat-clause-fault : goal.returns-in-Err-WrongWhat-clause-fault
+returns-in-Err-WrongWhat-clause-fault c =
+    let found = c.in-Ok-try_get_matches_from in
+    let words = map (λ s. s.now) c.args.words.now in
+    let read = line_is_read (app_of c.in-Ok.command) words found.matches c.in-Ok.ensures.app found.ensures.kinds
+    found.ensures.matches in
+    wrong_look_of words c.wrong_what.result
+    (wrong_look_read words found.matches read
+    (rw c.in-Err-WrongWhat.field-0-is at c.in-Err-WrongWhat.ensures.fault)) c.wrong_what.ensures
 
 pub returns-clause-fault : goal.returns-clause-fault
 returns-clause-fault c =

@@ -14,7 +14,7 @@ use Rattle.desk.proofs.answering.show.Goals as goal
 pub returns-in-Ok-Some-clause-ok : goal.returns-in-Ok-Some-clause-ok
 returns-in-Ok-Some-clause-ok g c clean h holds =
     let s = state g.S.Store c.look.new.self.conn in
-    let shown : (office : Office) → IsLegal h office → IsShown office c.args.look (Some c.in-Ok-Some.text.items) =
+    let shown : (office : Office) → IsLegal h office → IsShown h office c.args.look (Some c.in-Ok-Some.text.items) =
     λ office legal. rw c.in-Ok-Some.field-0-is at (c.in-Ok-Some.ensures.shown clean h holds office legal) in
     on_text (λ (v : Vec ℕ Global). v.items) c.text_response.result
     (text_response c.body_kind_of-content.result c.deref.result.now) (λ t. Responds h (shows c.args.look) t s)
@@ -29,7 +29,7 @@ returns-in-Ok-Some-clause-ok g c clean h holds =
 pub returns-in-Ok-None-clause-ok : goal.returns-in-Ok-None-clause-ok
 returns-in-Ok-None-clause-ok g c clean h holds =
     let s = state g.S.Store c.look.new.self.conn in
-    let shown : (office : Office) → IsLegal h office → IsShown office c.args.look None =
+    let shown : (office : Office) → IsLegal h office → IsShown h office c.args.look None =
     λ office legal. rw c.in-Ok-None.field-0-is at (c.in-Ok-None.ensures.shown clean h holds office legal) in
     on_text (λ (v : Vec ℕ Global). v.items) c.problem_response.result (problem_response NotFound)
     (λ t. Responds h (shows c.args.look) t s) c.problem_response.ensures

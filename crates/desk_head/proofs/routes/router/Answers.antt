@@ -5,11 +5,10 @@ pub returns : goal.returns
 unfolding the_routes
 returns c =
     rw (
-      c.in_ok-add-8.ensures,
-      c.in_ok-add-7.ensures,
-      c.in_ok-add-6.ensures,
-      c.in_ok-add-5.ensures,
-      c.in_ok-add-4.ensures,
+      c.in_ok-show.ensures,
+      c.in_ok-add_things.ensures,
+      c.in_ok-add_parts.ensures,
+      c.in_ok-add_sheets.ensures,
       c.in_ok-add-3.ensures,
       c.in_ok-add-2.ensures,
       c.in_ok-add.ensures,

@@ -1,6 +1,6 @@
 use Rattle.std.proofs.Common.{ℕ, List, ◌++◌, ap, ◌∙◌}
 use Rattle.office_views.specs.Table.{message_line}
-use Rattle.office_views.proofs.Pieces.{items_more}
+use Rattle.columns.proofs.Pieces.{items_more}
 use Rattle.office_views.proofs.table.message_lines.Goals as goal
 
 pub loop-message-preserved : goal.loop-message-preserved

@@ -1,7 +1,7 @@
 use Rattle.std.proofs.Common.{◌++◌, List, ℕ, ap, ◌∙◌, decimal}
-use Rattle.office_views.specs.Columns.{set_right}
+use Rattle.columns.specs.Padding.{set_right}
 use Rattle.office_views.specs.Text.{cells_of}
-use Rattle.office_views.proofs.Pieces.{line_of_pieces}
+use Rattle.columns.proofs.Pieces.{line_of_pieces}
 use Rattle.office_views.proofs.text.byte_line.Goals as goal
 
 pub returns : goal.returns

@@ -1,6 +1,6 @@
 use Rattle.std.proofs.Common.{ℕ, List, ◌++◌, ap, ◌∙◌}
 use Rattle.office_views.specs.Text.{byte_line}
-use Rattle.office_views.proofs.Pieces.{numbers_more}
+use Rattle.columns.proofs.Pieces.{numbers_more}
 use Rattle.office_views.proofs.text.byte_lines.Goals as goal
 
 pub loop-byte-preserved : goal.loop-byte-preserved

@@ -1,6 +1,6 @@
 use Rattle.std.proofs.Common.{◌+◌, ◌*◌, ◌∷◌, [], rules}
 use Rattle.office_views.specs.Text.{cell_of, bits_of_byte}
-use Rattle.office_views.proofs.Pieces.{items_more}
+use Rattle.columns.proofs.Pieces.{items_more}
 use Rattle.office_views.proofs.text.cells.Goals as goal
 
 pub loop-bit-preserved : goal.loop-bit-preserved

@@ -1,6 +1,6 @@
 use Rattle.std.proofs.Common.{ℕ, List, ◌++◌, ap, ◌∙◌}
 use Rattle.office_views.specs.Text.{signal_line}
-use Rattle.office_views.proofs.Pieces.{numbered_more}
+use Rattle.columns.proofs.Pieces.{numbered_more}
 use Rattle.office_views.proofs.text.signal_lines.Goals as goal
 
 pub loop-index-preserved : goal.loop-index-preserved

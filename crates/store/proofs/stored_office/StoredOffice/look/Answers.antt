@@ -15,7 +15,7 @@ returns-in-Ok-clause-shown g c clean h holds office legal =
     let it = begun.keeps.holds.holds in
     let same : it.office ≡ office =
     c.histories_leave_offices.ensures.one h h it.office office refl it.legal legal in
-    subst (λ (o : Office). IsShown o c.args.look.now (bytes_of c.in-Ok.text)) same
+    subst (λ (o : Office). IsShown h o c.args.look.now (bytes_of c.in-Ok.text)) same
     (c.in-Ok.ensures.found clean h begun)
 
 pub returns-in-Ok-clause-held : goal.returns-in-Ok-clause-held

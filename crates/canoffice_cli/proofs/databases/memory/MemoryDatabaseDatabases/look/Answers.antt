@@ -1,4 +1,4 @@
-use Rattle.std.proofs.Common.{Some, refl}
+use Rattle.std.proofs.Common.{Some, refl, sym, true≢false, ◌∙◌}
 use Rattle.sqlite.proofs.Callers.{memory_is_clean}
 use Rattle.store.specs.Looking.{bytes_of}
 use Rattle.canoffice_cli.specs.Databases.{known_of}
@@ -14,4 +14,5 @@ returns c =
     (λ clean h holds. c.in_ok-conn.ensures.held path h holds) (λ clean new. c.in_ok-conn.ensures.none path new)
     look.clean
     (λ sound. (memory_is_clean end, refl)) (λ sound h holding. holding) bytes_of c.args.look.now
-    c.look_on-shown.result.0 look.shown look.held look.begun
+    c.look_on-shown.result.0 (λ new. absurd (true≢false (sym (c.is_new.ensures.yes path new) ∙ c.if-is_new.false)))
+    look.shown look.held

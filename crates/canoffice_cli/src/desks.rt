@@ -1,0 +1,35 @@
+//! Desks by their ports.
+ghost use Rattle.std.specs.Prelude.{IsTrue};
+ghost use Rattle.std.specs.Result.{result_map_both};
+ghost use Rattle.desk_client.specs.Received.{seen};
+ghost use Rattle.desk_client.specs.Request.{is_target};
+ghost use Rattle.canoffice_cli.specs.Desks.{Desks as Known};
+
+use desk_client::{AskFault, Received};
+use std::alloc::Global;
+
+/// Desks that are found by their ports, each of which serves an office.
+pub trait Desks {
+    /// What is known of them.
+    ghost known: { Self → Known };
+
+    /// Asks the desk on the port for a target, and says what came back. The error is why nothing is known of that.
+    fn ask(&mut self, alloc: Global, port: u16, target: &[u8]) -> Result<Received, AskFault>
+        requires { IsTrue (is_target target.now) }
+        ensures { (known self.old) port target.now
+            (result_map_both seen (λ fault. fault) result) };
+}
+
+/// No desk at any port.
+#[derive(Clone, Copy, Debug)]
+pub struct NoDesk;
+
+impl Desks for NoDesk {
+    ghost use Rattle.canoffice_cli.specs.Desks.{no_desk};
+
+    ghost known = { λ _. no_desk };
+
+    fn ask(&mut self, _alloc: Global, _port: u16, _target: &[u8]) -> Result<Received, AskFault> {
+        Err(AskFault::Connect)
+    }
+}

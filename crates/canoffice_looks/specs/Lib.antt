@@ -1,0 +1,2 @@
+pub mod What
+pub mod Words

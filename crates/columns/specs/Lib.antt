@@ -1,0 +1,4 @@
+pub mod Padding
+pub mod Word
+pub mod Run
+pub mod IdentColumns

@@ -1,0 +1,96 @@
+-- The request that is sent is a head that a desk reads.
+use Rattle.std.proofs.Common.{◌≡◌, ◌∙◌, ℕ, ◌+◌, ◌<◌, ◌≤◌, Bool, true, List, [], ◌∷◌, ◌++◌, length, codes}
+use Rattle.std.proofs.Common.{refl, sym, ap, arith, zero, suc, append_assoc, append-nil, length-append, IsTrue, get_or}
+use Rattle.std.proofs.lemmas.Bool.{and_parts}
+use Rattle.std.proofs.lemmas.Bool.Decides.{nat_tests}
+use Rattle.std.proofs.lemmas.List.Elements.{All-weaker, All-cons, All-nil}
+use Rattle.std.proofs.lemmas.List.Sums.{AllPass-from_list_all}
+use Rattle.std.proofs.lemmas.Str.{IsUtf8-from_ascii}
+use Rattle.std.specs.Char.{is_ascii_graphic}
+use Rattle.std.specs.List.{All, list_all}
+use Rattle.httparse.specs.Grammar.{AllPass, IsField, IsRequestHead, print_request, is_token_byte, is_uri_byte, is_value_byte}
+use Rattle.desk_head.specs.Head.{HasHead, IsSmall}
+use Rattle.desk_client.proofs.Heads.{is_field}
+use Rattle.desk_client.specs.Limits.{target_limit}
+use Rattle.desk_client.specs.Request.{get_head, header, is_target, request_bytes}
+
+-- what a target is, part by part
+record Parts (target : List ℕ) : Type 0 where
+  some : 0 < length target
+  fits : length target ≤ target_limit
+  visible : list_all is_ascii_graphic target ≡ true
+
+parts : (target : List ℕ) → IsTrue (is_target target) → Parts target
+parts target is = record {
+  some = grind (arith, nat_tests, is);
+  fits = grind (arith, nat_tests, is);
+  visible = grind (arith, nat_tests, is);
+}
+
+visible_uri : (b : ℕ) → is_ascii_graphic b ≡ true → is_uri_byte b ≡ true
+visible_uri b h = grind (arith, nat_tests, h)
+
+visible_ascii : (b : ℕ) → is_ascii_graphic b ≡ true → b < 128
+visible_ascii b h = grind (arith, nat_tests, h)
+
+regroup : (t a b c : List ℕ) → ((t ++ a) ++ b) ++ c ≡ t ++ (a ++ (b ++ c))
+regroup t a b c = simp append_assoc
+
+head_text : (target : List ℕ) → print_request (get_head target) ≡ request_bytes target
+unfolding request_bytes print_request
+head_text target =
+    ap (λ l. codes "GET " ++ l)
+    (regroup target (codes " HTTP/1.1") (codes "\r\n") (codes "Host: 127.0.0.1\r\nConnection: close\r\n\r\n"))
+
+request_size : (target : List ℕ) → length (request_bytes target) ≡ length target + 53
+unfolding request_bytes
+request_size target =
+    omega (arith, length-append target (codes " HTTP/1.1\r\nHost: 127.0.0.1\r\nConnection: close\r\n\r\n"))
+
+passes : (test : ℕ → Bool) (bytes : List ℕ) → list_all test bytes ≡ true → AllPass test bytes
+passes test bytes h = AllPass-from_list_all test bytes h
+
+fields_are : (target : List ℕ) → All IsField (get_head target).fields
+unfolding is_token_byte
+fields_are target =
+    let host : IsField (header (codes "Host") (codes " 127.0.0.1")) =
+    is_field (codes "Host") (codes " 127.0.0.1") (omega arith) (passes is_token_byte (codes "Host") refl)
+    (passes is_value_byte (codes " 127.0.0.1") refl) in
+    let connection : IsField (header (codes "Connection") (codes " close")) =
+    is_field (codes "Connection") (codes " close") (omega arith) (passes is_token_byte (codes "Connection") refl)
+    (passes is_value_byte (codes " close") refl) in
+    All-cons IsField (header (codes "Host") (codes " 127.0.0.1"))
+    (header (codes "Connection") (codes " close") ∷ []) host
+    (All-cons IsField (header (codes "Connection") (codes " close")) [] connection (All-nil IsField))
+
+get_is_token : AllPass is_token_byte (codes "GET")
+unfolding is_token_byte
+get_is_token = passes is_token_byte (codes "GET") refl
+
+ascii_at : (bytes : List ℕ) → list_all is_ascii_graphic bytes ≡ true → (i : ℕ) → get_or bytes i 0 < 128
+ascii_at [] h i = omega arith
+ascii_at (b ∷ bytes) h zero = visible_ascii b (and_parts (is_ascii_graphic b) (list_all is_ascii_graphic bytes) h).0
+ascii_at (b ∷ bytes) h (suc i) =
+    ascii_at bytes (and_parts (is_ascii_graphic b) (list_all is_ascii_graphic bytes) h).1 i
+
+is_head : (target : List ℕ) → Parts target → IsRequestHead (get_head target)
+is_head target p = record {
+  method = (omega arith, get_is_token);
+  target = (
+    p.some,
+    All-weaker (λ b. is_ascii_graphic b ≡ true) (λ b. IsTrue (is_uri_byte b)) visible_uri target
+        (AllPass-from_list_all is_ascii_graphic target p.visible),
+  );
+  target_text = IsUtf8-from_ascii target (ascii_at target p.visible);
+  minor = omega arith;
+  fields = fields_are target;
+}
+
+pub asks : (target : List ℕ) → IsTrue (is_target target) → HasHead (request_bytes target) (get_head target) []
+asks target is =
+    let p = parts target is in
+    let small : IsSmall (get_head target) = record {
+      bytes = omega (arith, p.fits, ap length (head_text target), request_size target);
+      fields = omega arith;
+    } in
+    ((is_head target p, sym (head_text target) ∙ sym (append-nil (print_request (get_head target)))), small)

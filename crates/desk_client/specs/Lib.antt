@@ -1,0 +1,5 @@
+pub mod Limits
+pub mod Request
+pub mod Received
+pub mod Asking
+pub mod Replies

@@ -1,0 +1,128 @@
+-- The lines of a message computed.
+use Rattle.std.proofs.Common.{◌≡◌, ℕ, List, [], ◌∷◌, None, Some, codes, refl, true, false}
+use Rattle.std.specs.Prelude.{pos, negsuc}
+use Rattle.std.specs.Fmt.{digits}
+use Rattle.bitlayout.specs.declared.layout.Order.TheVariants.{Intel, Motorola}
+use Rattle.bitlayout.specs.declared.place.Mux.TheVariants.{Always, Multiplexor, Under}
+use Rattle.can_id.specs.declared.ident.Ident.TheVariants.{Std, Ext}
+use Rattle.decimal.specs.Number.{Number}
+use Rattle.decimal.specs.Printing.{unsigned_text}
+use Rattle.dbc_sheet.specs.Sheet.{empty_sheet}
+use Rattle.dbc_sheet.specs.declared.message.Message.{Message}
+use Rattle.dbc_sheet.specs.declared.signal.Signal.{Signal}
+use Rattle.dbc_sheet.specs.declared.value_texts.ValueText.{ValueText}
+use Rattle.dbc_words.specs.declared.value_type.ValueType.TheVariants.{Integer, Float}
+use Rattle.office_types.specs.declared.command.NetKind.TheVariants.{J1939}
+use Rattle.office_types.specs.declared.state.Phase.TheVariants.{Draft}
+use Rattle.office_looks.specs.Message.{destination_text, field_text, layout_text, message_facts, message_text, mux_text}
+use Rattle.office_looks.specs.Message.{signal_lines}
+use Rattle.office_looks.specs.declared.view.View.{View}
+
+abbrev whole : ℕ → Number
+whole n = record { mantissa = pos n; exponent = pos 0 }
+
+abbrev torque : Signal
+torque = record {
+  name = codes "Torque";
+  layout = record { start = 8; size = 8; order = Intel };
+  signed = false;
+  value_type = Integer;
+  mux = Always;
+  spn = 513;
+  factor = whole 1;
+  offset = record { mantissa = negsuc 124; exponent = pos 0 };
+  minimum = record { mantissa = negsuc 124; exponent = pos 0 };
+  maximum = whole 125;
+  unit = codes "%";
+  receivers = codes "Dash" ∷ codes "Gateway" ∷ [];
+  comment = [];
+  values = [];
+}
+
+abbrev speed : Signal
+speed = record torque {
+  name = codes "Speed";
+  layout = record { start = 24; size = 16; order = Intel };
+  spn = 190;
+  factor = record { mantissa = pos 125; exponent = negsuc 2 };
+  offset = whole 0;
+  minimum = whole 0;
+  maximum = record { mantissa = pos 8031875; exponent = negsuc 2 };
+  unit = codes "rpm";
+  receivers = codes "Dash" ∷ [];
+  comment = codes "Engine speed,\nover two lines";
+}
+
+abbrev reason : Signal
+reason = record torque {
+  name = codes "DerateReason";
+  layout = record { start = 7; size = 32; order = Motorola };
+  signed = true;
+  value_type = Float;
+  mux = Under 3;
+  spn = 0;
+  offset = whole 0;
+  minimum = whole 0;
+  maximum = whole 63;
+  unit = [];
+  receivers = [];
+  values = record { value = whole 3; text = codes "Exhaust fluid" } ∷ [];
+}
+
+-- engine speed, PGN 61444, with priority 3 and source address 254
+abbrev engine : Message
+engine = record {
+  ident = Ext 217056510;
+  name = codes "EngineSpeed";
+  length = 8;
+  transmitter = Some (codes "Engine");
+  comment = codes "Electronic engine controller 1";
+  signals = torque ∷ speed ∷ [];
+}
+
+-- torque control, PGN 0, to address 0 from address 11
+abbrev control : Message
+control = record engine { ident = Ext 201326603 }
+
+abbrev view : View
+view = record {
+  name = codes "lab";
+  kind = J1939;
+  reviews = 1;
+  phase = Draft;
+  sheet = record empty_sheet { messages = engine ∷ [] };
+  owners = codes "office" ∷ [];
+  blocks = [];
+  held = [];
+  approvals = [];
+  releases = [];
+  used = [];
+}
+
+two_signals : signal_lines engine.signals
+    ≡ codes "signal          8|8@1+ -       513 Torque                 (1,-125)       [-125|125]     %25    Dash,Gateway\nsignal        24|16@1+ -       190 Speed                  (0.125,0)      [0|8031.875]   rpm    Dash\nnote        Speed                  Engine speed,%0aover two lines\n"
+unfolding digits unsigned_text
+two_signals = refl
+
+all_lines : signal_lines (reason ∷ [])
+    ≡ codes "signal         7|32@0- m3        - DerateReason           (1,0)          [0|63]         -      -\ntype        DerateReason float\nvalue       DerateReason                3 Exhaust fluid\n"
+unfolding digits unsigned_text
+all_lines = refl
+
+its_facts : message_facts view (engine, codes "office")
+    ≡ codes "message     EngineSpeed\nnumber      2364540158\nidentifier  ext 0cf004fe\npgn         61444\npriority    3\nsource      254\ndestination -\nlength      8\ntransmitter Engine\nowner       office\nreleases    -\nsince       new\ncomment     Electronic engine controller 1\n"
+unfolding digits
+its_facts = refl
+
+an_address : field_text destination_text control ≡ codes "0"
+unfolding digits
+an_address = refl
+
+no_address : field_text destination_text (record engine { ident = Std 256 }) ≡ codes "-"
+no_address = refl
+
+a_multiplexor : mux_text Multiplexor ≡ codes "M"
+a_multiplexor = refl
+
+no_such_message : message_text (codes "Nothing") view ≡ None
+no_such_message = refl

@@ -1,0 +1,102 @@
+-- The state, the messages, the held identifiers and the releases of a small network.
+use Rattle.std.proofs.Common.{◌≡◌, List, [], ◌∷◌, None, Some, codes, refl}
+use Rattle.std.specs.Fmt.{digits}
+use Rattle.can_id.specs.declared.ident.Ident.TheVariants.{Std, Ext}
+use Rattle.dbc_sheet.specs.Sheet.{empty_sheet}
+use Rattle.dbc_sheet.specs.declared.message.Message.{Message}
+use Rattle.dbc_sheet.specs.declared.sheet.Sheet.{Sheet}
+use Rattle.office_types.specs.declared.block.BlockForm.TheVariants.{Pgn}
+use Rattle.office_types.specs.declared.command.NetKind.TheVariants.{J1939}
+use Rattle.office_types.specs.declared.state.Phase.TheVariants.{Review}
+use Rattle.office_looks.specs.Held.{held_line, held_text}
+use Rattle.office_looks.specs.Messages.{messages_text}
+use Rattle.office_looks.specs.Releases.{releases_text}
+use Rattle.office_looks.specs.State.{state_text}
+use Rattle.office_looks.specs.declared.view.View.{View}
+
+abbrev plain : Message
+plain = record { ident = Std 256; name = codes "E1"; length = 64; transmitter = None; comment = []; signals = [] }
+
+-- of parameter group 65292
+abbrev group : Message
+group = record {
+  ident = Ext 419367936;
+  name = codes "ECM_New1";
+  length = 8;
+  transmitter = Some (codes "ECM");
+  comment = [];
+  signals = [];
+}
+
+-- of parameter group 65300
+abbrev pads : Message
+pads = record { ident = Ext 486478859; name = codes "BrakePads"; length = 8; transmitter = None; comment = []; signals = [] }
+
+abbrev sheet_with : List Message → Sheet
+sheet_with messages = record empty_sheet { messages = messages }
+
+-- under review, with two live messages and two releases
+abbrev truck : View
+truck = record {
+  name = codes "truck";
+  kind = J1939;
+  reviews = 2;
+  phase = Review (codes "engine");
+  sheet = sheet_with (plain ∷ group ∷ []);
+  owners = codes "brakes" ∷ codes "engine" ∷ [];
+  blocks = record { block = record { form = Pgn; first = 65300; last = 65309 }; team = codes "brakes" } ∷ [];
+  held = Ext 486478859 ∷ [];
+  approvals = codes "brakes" ∷ [];
+  releases = sheet_with (plain ∷ pads ∷ []) ∷ sheet_with (plain ∷ []) ∷ [];
+  used = [];
+}
+
+-- the same before its first release, with no message
+abbrev new_truck : View
+new_truck = record truck { sheet = empty_sheet; owners = []; held = []; approvals = []; releases = [] }
+
+state : state_text truck
+    ≡ codes "network     truck\nkind        j1939\nphase       review\nsubmitted   engine\napproved    brakes\nlacking     1 of 2\nreleases    2\nadded       1\nremoved     0\nchanged     0\nheld        1\nblocks      1\nnodes       0\nmessages    2\nsignals     0\n"
+unfolding digits
+state = refl
+
+no_approval : state_text new_truck
+    ≡ codes "network     truck\nkind        j1939\nphase       review\nsubmitted   engine\napproved    -\nlacking     2 of 2\nreleases    0\nadded       0\nremoved     0\nchanged     0\nheld        0\nblocks      1\nnodes       0\nmessages    0\nsignals     0\n"
+unfolding digits
+no_approval = refl
+
+all_messages : messages_text None truck
+    ≡ codes "       256 std 00000100      -   64    0 brakes         1-2 -       - E1\n2566851584 ext 18ff0c00  65292    8    0 engine           - new     ECM ECM_New1\nmessages 2 signals 0\n"
+unfolding digits
+all_messages = refl
+
+changed_message : messages_text (Some (codes "brakes")) (record truck { sheet = sheet_with (record plain { length = 8 } ∷ group ∷ []) })
+    ≡ codes "       256 std 00000100      -    8    0 brakes         1-2 changed - E1\nmessages 1 signals 0\n"
+unfolding digits
+changed_message = refl
+
+no_messages : messages_text (Some (codes "chassis")) truck ≡ codes "messages 0 signals 0\n"
+unfolding digits
+no_messages = refl
+
+held : held_text truck ≡ codes "2633962507 ext 1cff140b  65300 brakes           1 BrakePads\nheld 1\n"
+unfolding digits
+held = refl
+
+-- of no block, and in no release
+held_alone : held_line truck (Std 7) ≡ codes "         7 std 00000007      - -                - -\n"
+unfolding digits
+held_alone = refl
+
+none_held : held_text new_truck ≡ codes "held 0\n"
+unfolding digits
+none_held = refl
+
+releases : releases_text truck
+    ≡ codes "    1 messages     2 signals     0 added    2 removed    0 changed    0\n    2 messages     1 signals     0 added    0 removed    1 changed    0\nreleases 2\n"
+unfolding digits
+releases = refl
+
+no_releases : releases_text new_truck ≡ codes "releases 0\n"
+unfolding digits
+no_releases = refl

@@ -1,0 +1,10 @@
+use Rattle.std.proofs.Common.{◌≡◌, ◌++◌, ◌+◌, drop, take}
+use Rattle.dbc_sheet.specs.Sheet.{empty_sheet}
+use Rattle.office_looks.specs.Releases.{lines_after}
+use Rattle.office_looks.specs.Since.{last_release}
+use Rattle.office_looks.proofs.release_lines.release_lines.Given as goal
+
+-- those so far, and those of the releases that are left
+abbrev pub invariant-loop-index : goal.invariant-loop-index
+invariant-loop-index l = lines_after 1 empty_sheet l.sheets
+    ≡ l.lines.items ++ lines_after (l.index + 1) (last_release (take l.index l.sheets)) (drop l.index l.sheets)

@@ -1,0 +1,78 @@
+//! The releases, and what each changed.
+ghost use Rattle.std.specs.Prelude.{◌≡◌, IfOk};
+ghost use Rattle.dbc_sheet.specs.Sheet.{empty_sheet};
+ghost use Rattle.office_looks.specs.Releases.{change_columns, lines_after, release_line, releases_text};
+
+use crate::frozen::FrozenSheets;
+use crate::lines::{counted, total};
+use crate::since::last_of;
+use crate::view::View;
+use columns::number_right;
+use dbc_pairs::{Counts, counts_of};
+use dbc_sheet::Sheet;
+use office_views::signal_count;
+use std::alloc::{AllocError, Global};
+
+/// The columns of the differences.
+fn change_columns(alloc: Global, counts: Counts) -> Result<Vec<u8>, AllocError>
+    ensures { IfOk result (λ text. text.items ≡ change_columns counts) }
+{
+    let removed = counted(alloc, b"removed", 4, counts.removed)?;
+    let changed = counted(alloc, b"changed", 4, counts.changed)?;
+    let mut text = counted(alloc, b"added", 4, counts.added)?;
+    text.push(b' ')?;
+    text.extend_from_slice(&removed)?;
+    text.push(b' ')?;
+    text.extend_from_slice(&changed)?;
+    Ok(text)
+}
+
+/// The line of the release of this number, after the sheet before it.
+fn release_line(
+    alloc: Global,
+    number: usize,
+    before: &Sheet,
+    sheet: &Sheet,
+) -> Result<Vec<u8>, AllocError>
+    ensures { IfOk result (λ text. text.items ≡ release_line number before.now sheet.now) }
+{
+    let messages = counted(alloc, b"messages", 5, sheet.messages().len())?;
+    let signals = counted(alloc, b"signals", 5, signal_count(sheet))?;
+    let changes = change_columns(alloc, counts_of(before, sheet))?;
+    let mut line = number_right(alloc, 5, number)?;
+    line.push(b' ')?;
+    line.extend_from_slice(&messages)?;
+    line.push(b' ')?;
+    line.extend_from_slice(&signals)?;
+    line.push(b' ')?;
+    line.extend_from_slice(&changes)?;
+    line.push(b'\n')?;
+    Ok(line)
+}
+
+/// The lines of the releases.
+fn release_lines(alloc: Global, releases: &FrozenSheets) -> Result<Vec<u8>, AllocError>
+    ensures { IfOk result (λ text. text.items ≡ lines_after 1 empty_sheet releases.now) }
+{
+    let empty = Sheet::new(alloc);
+    let sheets = releases.as_slice();
+    let mut lines = Vec::new(alloc);
+    for index in 0..sheets.len() {
+        let before = last_of(&sheets[..index], &empty);
+        let line = release_line(alloc, index + 1, before, &sheets[index])?;
+        lines.extend_from_slice(&line)?;
+    }
+    Ok(lines)
+}
+
+/// The releases: for each how many messages and signals it has, and how many messages differ from those of the one
+/// before it. The error is out of memory.
+pub(crate) fn releases_text(alloc: Global, view: &View) -> Result<Vec<u8>, AllocError>
+    ensures { IfOk result (λ text. text.items ≡ releases_text view.now) }
+{
+    let last = total(alloc, b"releases", view.releases.as_slice().len())?;
+    let mut text = release_lines(alloc, &view.releases)?;
+    text.extend_from_slice(&last)?;
+    text.push(b'\n')?;
+    Ok(text)
+}

@@ -1,0 +1,261 @@
+//! The lines of the signals of a message.
+ghost use Rattle.std.specs.Prelude.{◌≡◌, IfOk, string_bytes};
+ghost use Rattle.std.specs.List.{flat_map};
+ghost use Rattle.office_looks.specs.Message.{comment_line, later_columns, layout_text, mux_text, pair_text};
+ghost use Rattle.office_looks.specs.Message.{place_columns, signal_columns, signal_line, signal_lines, spn_text};
+ghost use Rattle.office_looks.specs.Message.{text_line, text_lines, type_line, typed, value_columns};
+
+use crate::lines::fact;
+use bitlayout::Mux;
+use columns::{filled, rest, set_left, word, words};
+use dbc_sheet::{Signal, ValueText};
+use dbc_words::{Spn, ValueType};
+use decimal::Decimal;
+use std::alloc::{AllocError, Global};
+
+/// The signal's layout, as a DBC file has it.
+fn layout_text(alloc: Global, signal: &Signal) -> Result<String, AllocError>
+    ensures { IfOk result (λ text. string_bytes text ≡ layout_text signal.now) }
+{
+    let start = signal.layout.start;
+    let size = signal.layout.size.bits();
+    let order = signal.layout.order.number();
+    if signal.signed {
+        format!(in alloc; "{start}|{size}@{order}-")
+    } else {
+        format!(in alloc; "{start}|{size}@{order}+")
+    }
+}
+
+/// The multiplexer indicator; `-` for none.
+fn mux_text(alloc: Global, mux: Mux) -> Result<Vec<u8>, AllocError>
+    ensures { IfOk result (λ text. text.items ≡ mux_text mux) }
+{
+    match mux {
+        Mux::Always => Vec::from_slice(alloc, b"-"),
+        _ => Vec::from_slice(alloc, mux.indicator().as_bytes()),
+    }
+}
+
+/// The suspect parameter number; `-` for none.
+fn spn_text(alloc: Global, spn: Spn) -> Result<String, AllocError>
+    ensures { IfOk result (λ text. string_bytes text ≡ spn_text spn) }
+{
+    let number = spn.number();
+    if number == 0 {
+        format!(in alloc; "-")
+    } else {
+        format!(in alloc; "{number}")
+    }
+}
+
+/// Two decimals between brackets.
+fn pair_text(
+    alloc: Global,
+    left: &[u8],
+    first: &Decimal,
+    between: &[u8],
+    second: &Decimal,
+    right: &[u8],
+) -> Result<Vec<u8>, AllocError>
+    ensures { IfOk result (λ text. text.items
+        ≡ pair_text left.now first.now between.now second.now right.now) }
+{
+    let mut text = Vec::from_slice(alloc, left)?;
+    first.print_into(&mut text)?;
+    text.extend_from_slice(between)?;
+    second.print_into(&mut text)?;
+    text.extend_from_slice(right)?;
+    Ok(text)
+}
+
+/// The columns of the signal's place, multiplexer indicator and suspect parameter number.
+fn place_columns(alloc: Global, signal: &Signal) -> Result<Vec<u8>, AllocError>
+    ensures { IfOk result (λ text. text.items ≡ place_columns signal.now) }
+{
+    let layout = layout_text(alloc, signal)?;
+    let mux = set_left(alloc, 4, &mux_text(alloc, signal.mux)?)?;
+    let spn = spn_text(alloc, signal.spn)?;
+    let spn = filled(alloc, b' ', 6, spn.as_bytes())?;
+    let mut text = filled(alloc, b' ', 10, layout.as_bytes())?;
+    text.push(b' ')?;
+    text.extend_from_slice(&mux)?;
+    text.push(b' ')?;
+    text.extend_from_slice(&spn)?;
+    Ok(text)
+}
+
+/// The columns of the signal's factor and offset, minimum and maximum.
+fn value_columns(alloc: Global, signal: &Signal) -> Result<Vec<u8>, AllocError>
+    ensures { IfOk result (λ text. text.items ≡ value_columns signal.now) }
+{
+    let scale = pair_text(alloc, b"(", &signal.factor, b",", &signal.offset, b")")?;
+    let range = pair_text(alloc, b"[", &signal.minimum, b"|", &signal.maximum, b"]")?;
+    let range = set_left(alloc, 14, &range)?;
+    let mut text = set_left(alloc, 14, &scale)?;
+    text.push(b' ')?;
+    text.extend_from_slice(&range)?;
+    Ok(text)
+}
+
+/// The columns of the signal's values, unit and receivers.
+fn later_columns(alloc: Global, signal: &Signal) -> Result<Vec<u8>, AllocError>
+    ensures { IfOk result (λ text. text.items ≡ later_columns signal.now) }
+{
+    let unit = set_left(alloc, 6, &word(alloc, signal.unit.as_bytes())?)?;
+    let receivers = words(alloc, signal.receivers.as_slice())?;
+    let mut text = value_columns(alloc, signal)?;
+    text.push(b' ')?;
+    text.extend_from_slice(&unit)?;
+    text.push(b' ')?;
+    text.extend_from_slice(&receivers)?;
+    Ok(text)
+}
+
+/// The columns of a signal.
+fn signal_columns(alloc: Global, signal: &Signal) -> Result<Vec<u8>, AllocError>
+    ensures { IfOk result (λ text. text.items ≡ signal_columns signal.now) }
+{
+    let name = set_left(alloc, 22, signal.name.as_bytes())?;
+    let later = later_columns(alloc, signal)?;
+    let mut text = place_columns(alloc, signal)?;
+    text.push(b' ')?;
+    text.extend_from_slice(&name)?;
+    text.push(b' ')?;
+    text.extend_from_slice(&later)?;
+    Ok(text)
+}
+
+/// The line of a signal.
+fn signal_line(alloc: Global, signal: &Signal) -> Result<Vec<u8>, AllocError>
+    ensures { IfOk result (λ line. line.items ≡ signal_line signal.now) }
+{
+    let columns = signal_columns(alloc, signal)?;
+    fact(alloc, b"signal", &columns)
+}
+
+/// The line of a signal's type, which is this word.
+fn typed(alloc: Global, signal: &Signal, word: &[u8]) -> Result<Vec<u8>, AllocError>
+    ensures { IfOk result (λ line. line.items ≡ typed signal.now word.now) }
+{
+    let mut text = Vec::from_slice(alloc, signal.name.as_bytes())?;
+    text.push(b' ')?;
+    text.extend_from_slice(word)?;
+    fact(alloc, b"type", &text)
+}
+
+/// The line of the signal's type; none where its value is a whole number.
+fn type_line(alloc: Global, signal: &Signal) -> Result<Vec<u8>, AllocError>
+    ensures { IfOk result (λ line. line.items ≡ type_line signal.now) }
+{
+    match signal.value_type {
+        ValueType::Integer => Ok(Vec::new(alloc)),
+        ValueType::Float => typed(alloc, signal, b"float"),
+        ValueType::Double => typed(alloc, signal, b"double"),
+    }
+}
+
+/// The line of a text for a value of the signal.
+fn text_line(alloc: Global, signal: &Signal, value: &ValueText) -> Result<Vec<u8>, AllocError>
+    ensures { IfOk result (λ line. line.items ≡ text_line signal.now value.now) }
+{
+    let mut number = Vec::new(alloc);
+    value.value.print_into(&mut number)?;
+    let number = filled(alloc, b' ', 6, &number)?;
+    let words = rest(alloc, value.text.as_bytes())?;
+    let mut text = set_left(alloc, 22, signal.name.as_bytes())?;
+    text.push(b' ')?;
+    text.extend_from_slice(&number)?;
+    text.push(b' ')?;
+    text.extend_from_slice(&words)?;
+    fact(alloc, b"value", &text)
+}
+
+/// The lines of these texts for values of the signal.
+fn text_lines(alloc: Global, signal: &Signal, values: &[ValueText]) -> Result<Vec<u8>, AllocError>
+    ensures { IfOk result (λ lines. lines.items ≡ flat_map (text_line signal.now) values.now) }
+{
+    let mut lines = Vec::new(alloc);
+    for value in values {
+        let line = text_line(alloc, signal, value)?;
+        lines.extend_from_slice(&line)?;
+    }
+    Ok(lines)
+}
+
+/// The line of the signal's comment; none where it has none.
+fn comment_line(alloc: Global, signal: &Signal) -> Result<Vec<u8>, AllocError>
+    ensures { IfOk result (λ line. line.items ≡ comment_line signal.now) }
+{
+    if signal.comment.as_bytes().is_empty() {
+        return Ok(Vec::new(alloc));
+    }
+    let comment = rest(alloc, signal.comment.as_bytes())?;
+    let mut text = set_left(alloc, 22, signal.name.as_bytes())?;
+    text.push(b' ')?;
+    text.extend_from_slice(&comment)?;
+    fact(alloc, b"note", &text)
+}
+
+/// The lines of the signals' places and values.
+fn plain_lines(alloc: Global, signals: &[Signal]) -> Result<Vec<u8>, AllocError>
+    ensures { IfOk result (λ lines. lines.items ≡ flat_map signal_line signals.now) }
+{
+    let mut lines = Vec::new(alloc);
+    for signal in signals {
+        let line = signal_line(alloc, signal)?;
+        lines.extend_from_slice(&line)?;
+    }
+    Ok(lines)
+}
+
+/// The lines of the signals' types.
+fn type_lines(alloc: Global, signals: &[Signal]) -> Result<Vec<u8>, AllocError>
+    ensures { IfOk result (λ lines. lines.items ≡ flat_map type_line signals.now) }
+{
+    let mut lines = Vec::new(alloc);
+    for signal in signals {
+        let line = type_line(alloc, signal)?;
+        lines.extend_from_slice(&line)?;
+    }
+    Ok(lines)
+}
+
+/// The lines of the texts for values of all signals.
+fn all_texts(alloc: Global, signals: &[Signal]) -> Result<Vec<u8>, AllocError>
+    ensures { IfOk result (λ lines. lines.items ≡ flat_map text_lines signals.now) }
+{
+    let mut lines = Vec::new(alloc);
+    for signal in signals {
+        let line = text_lines(alloc, signal, signal.values.as_slice())?;
+        lines.extend_from_slice(&line)?;
+    }
+    Ok(lines)
+}
+
+/// The lines of the signals' comments.
+fn comment_lines(alloc: Global, signals: &[Signal]) -> Result<Vec<u8>, AllocError>
+    ensures { IfOk result (λ lines. lines.items ≡ flat_map comment_line signals.now) }
+{
+    let mut lines = Vec::new(alloc);
+    for signal in signals {
+        let line = comment_line(alloc, signal)?;
+        lines.extend_from_slice(&line)?;
+    }
+    Ok(lines)
+}
+
+/// The lines of the signals: of each its place and values, then the types that aren't whole numbers, the texts for
+/// values, and the comments.
+pub(crate) fn signal_lines(alloc: Global, signals: &[Signal]) -> Result<Vec<u8>, AllocError>
+    ensures { IfOk result (λ lines. lines.items ≡ signal_lines signals.now) }
+{
+    let types = type_lines(alloc, signals)?;
+    let texts = all_texts(alloc, signals)?;
+    let comments = comment_lines(alloc, signals)?;
+    let mut lines = plain_lines(alloc, signals)?;
+    lines.extend_from_slice(&types)?;
+    lines.extend_from_slice(&texts)?;
+    lines.extend_from_slice(&comments)?;
+    Ok(lines)
+}

@@ -1,0 +1,140 @@
+//! What a network has once, and how many there are of each kind of thing.
+ghost use Rattle.std.specs.Prelude.{◌≡◌, ◌++◌, [], IfOk, OnOk, string_bytes, unwrap_or};
+ghost use Rattle.dbc_pairs.specs.Pairs.{counts_of};
+ghost use Rattle.office_types.specs.State.{submitter_of};
+ghost use Rattle.office_looks.specs.Lines.{fact};
+ghost use Rattle.office_looks.specs.Since.{last_release};
+ghost use Rattle.office_looks.specs.State.{change_facts, head_facts, lacking};
+ghost use Rattle.office_looks.specs.State.{number_fact, office_facts, review_facts, sheet_facts, state_text};
+
+use crate::lines::{fact, number_fact};
+use crate::since::last_release;
+use crate::view::View;
+use columns::{word, words};
+use dbc_pairs::{Counts, counts_of};
+use dbc_sheet::Sheet;
+use office_types::Phase;
+use office_views::{kind_word, phase_word, signal_count};
+use std::alloc::{AllocError, Global};
+
+/// How many approvals a release still needs, of how many.
+fn lacking(alloc: Global, view: &View) -> Result<String, AllocError>
+    ensures { IfOk result (λ text. string_bytes text ≡ lacking view.now) }
+{
+    let reviews = usize::from(view.reviews.count());
+    let left = reviews.saturating_sub(view.approvals.as_slice().len());
+    format!(in alloc; "{left} of {reviews}")
+}
+
+/// The team that requested the review, nothing in draft.
+fn submitter(phase: &Phase) -> &[u8]
+    ensures { result.now ≡ unwrap_or (submitter_of phase.now) [] }
+{
+    match phase.submitter() {
+        Some(team) => team.as_bytes(),
+        None => &[],
+    }
+}
+
+/// Adds the line of a key and its value.
+fn push_fact(alloc: Global, text: &mut Vec<u8>, key: &[u8], value: &[u8]) -> Result<(), AllocError>
+    ensures { OnOk result (text.new.items ≡ text.old.items ++ fact key.now value.now) }
+{
+    let line = fact(alloc, key, value)?;
+    text.extend_from_slice(&line)?;
+    Ok(())
+}
+
+/// Adds the line of a key and a number.
+fn push_number(
+    alloc: Global,
+    text: &mut Vec<u8>,
+    key: &[u8],
+    number: usize,
+) -> Result<(), AllocError>
+    ensures { OnOk result (text.new.items ≡ text.old.items ++ number_fact key.now number) }
+{
+    let line = number_fact(alloc, key, number)?;
+    text.extend_from_slice(&line)?;
+    Ok(())
+}
+
+/// The lines of what the network is, and whether it is being changed.
+fn head_facts(alloc: Global, view: &View) -> Result<Vec<u8>, AllocError>
+    ensures { IfOk result (λ text. text.items ≡ head_facts view.now) }
+{
+    let name = word(alloc, view.name.as_bytes())?;
+    let mut text = fact(alloc, b"network", &name)?;
+    push_fact(alloc, &mut text, b"kind", kind_word(view.kind))?;
+    push_fact(alloc, &mut text, b"phase", phase_word(&view.phase))?;
+    Ok(text)
+}
+
+/// The lines of the review.
+fn review_facts(alloc: Global, view: &View) -> Result<Vec<u8>, AllocError>
+    ensures { IfOk result (λ text. text.items ≡ review_facts view.now) }
+{
+    let submitted = word(alloc, submitter(&view.phase))?;
+    let approved = words(alloc, view.approvals.as_slice())?;
+    let lacking = lacking(alloc, view)?;
+    let mut text = fact(alloc, b"submitted", &submitted)?;
+    push_fact(alloc, &mut text, b"approved", &approved)?;
+    push_fact(alloc, &mut text, b"lacking", lacking.as_bytes())?;
+    Ok(text)
+}
+
+/// The lines of the differences.
+fn change_facts(alloc: Global, counts: Counts) -> Result<Vec<u8>, AllocError>
+    ensures { IfOk result (λ text. text.items ≡ change_facts counts) }
+{
+    let mut text = number_fact(alloc, b"added", counts.added)?;
+    push_number(alloc, &mut text, b"removed", counts.removed)?;
+    push_number(alloc, &mut text, b"changed", counts.changed)?;
+    Ok(text)
+}
+
+/// The lines of how many identifiers are held and how many blocks there are.
+fn office_facts(alloc: Global, view: &View) -> Result<Vec<u8>, AllocError>
+    ensures { IfOk result (λ text. text.items ≡ office_facts view.now) }
+{
+    let mut text = number_fact(alloc, b"held", view.held.as_slice().len())?;
+    push_number(alloc, &mut text, b"blocks", view.blocks.as_slice().len())?;
+    Ok(text)
+}
+
+/// The lines of how many things the sheet has.
+fn sheet_facts(alloc: Global, sheet: &Sheet) -> Result<Vec<u8>, AllocError>
+    ensures { IfOk result (λ text. text.items ≡ sheet_facts sheet.now) }
+{
+    let mut text = number_fact(alloc, b"nodes", sheet.nodes().len())?;
+    push_number(alloc, &mut text, b"messages", sheet.messages().len())?;
+    push_number(alloc, &mut text, b"signals", signal_count(sheet))?;
+    Ok(text)
+}
+
+/// How many messages differ from those of the last release.
+fn changes(alloc: Global, view: &View) -> Counts
+    ensures { result ≡ counts_of (last_release view.now.releases).messages
+        view.now.sheet.messages }
+{
+    let empty = Sheet::new(alloc);
+    counts_of(last_release(&view.releases, &empty), &view.sheet)
+}
+
+/// The state: a line for each fact, a key and its value. The error is out of memory.
+pub(crate) fn state_text(alloc: Global, view: &View) -> Result<Vec<u8>, AllocError>
+    ensures { IfOk result (λ text. text.items ≡ state_text view.now) }
+{
+    let review = review_facts(alloc, view)?;
+    let releases = number_fact(alloc, b"releases", view.releases.as_slice().len())?;
+    let changes = change_facts(alloc, changes(alloc, view))?;
+    let office = office_facts(alloc, view)?;
+    let sheet = sheet_facts(alloc, &view.sheet)?;
+    let mut text = head_facts(alloc, view)?;
+    text.extend_from_slice(&review)?;
+    text.extend_from_slice(&releases)?;
+    text.extend_from_slice(&changes)?;
+    text.extend_from_slice(&office)?;
+    text.extend_from_slice(&sheet)?;
+    Ok(text)
+}

@@ -1,0 +1,3 @@
+mod FirstLine
+mod Parts
+mod Rows

@@ -1,0 +1,29 @@
+use Rattle.std.proofs.Common.{◌≡◌, ◌≤◌, List, map, take}
+use Rattle.std.specs.Prelude.{IsTrue}
+use Rattle.std.specs.List.{AllByRecursion}
+use Rattle.sqlite.specs.Held.{state}
+use Rattle.sqlite.specs.State.{HasCleanDisk, IsUnchanged, KeepsCommit, Survives}
+use Rattle.office_history.specs.History.{Answered}
+use Rattle.store_tables.specs.Tables.{IsOffice, tables_of}
+use Rattle.store_net.specs.Kept.{AreKept, AreKeptParts}
+use Rattle.store_looks.specs.Asked.{IsFirstOf}
+use Rattle.store_looks.proofs.Asked.{AreTold}
+use Rattle.store_looks.proofs.requests.requests_under.Given as goal
+
+abbrev pub invariant-loop-key : goal.invariant-loop-key
+invariant-loop-key g l =
+    let old = state g.S.Store l.fn.tx.conn.now in
+    let now = state g.S.Store l.tx.conn.now in
+    let tables = tables_of old.now.trees in
+    record {
+      few : l.refused ≤ l.key-index;
+      same_reference : l.tx.conn.ghost_name ≡ l.fn.tx.conn.ghost_name;
+      now_is : HasCleanDisk now → IsOffice old.now → now.now ≡ old.now;
+      same : HasCleanDisk now → IsOffice old.now → IsTrue old.is_open → IsUnchanged old now;
+      kept : HasCleanDisk now → IsOffice old.now → KeepsCommit old now;
+      survives : Survives old now (λ _. ⊥);
+      reported : HasCleanDisk now → IsOffice old.now → (h : List Answered) → AreKept h tables.reply
+          → AreKeptParts h tables.part → (listed : List Answered) → AllByRecursion (IsFirstOf h l.team) listed
+          → l.keys ≡ map (λ (a : Answered). a.key) listed
+          → AreTold (take l.key-index listed) l.text.items l.refused;
+    }

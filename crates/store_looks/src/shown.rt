@@ -1,0 +1,56 @@
+//! The text of a look.
+ghost use Rattle.std.specs.Prelude.{◌≡◌, IfOk};
+ghost use Rattle.std.specs.Option.{option_map};
+ghost use Rattle.office_looks.specs.Looks.{net_text};
+ghost use Rattle.store_looks.specs.Seen.{IsSeenBy, OnNetAndBook, seen_text};
+ghost use Rattle.store_tables.specs.Frames.{Asks, ReadsOnly};
+
+use crate::view::{unreleased_view_at, view_at};
+use office_looks::{View, reads_releases, text_of};
+use office_types::{NetLook, NetName};
+use sqlite::{Alter, Error, Transaction};
+use std::alloc::{AllocError, Global};
+
+/// The text of what is seen, if anything is.
+fn shown(alloc: Global, view: Option<View>, look: &NetLook) -> Result<Option<Vec<u8>>, AllocError>
+    ensures { IfOk result (λ text. option_map (λ t. t.items) text ≡ seen_text look.now view) }
+{
+    match view {
+        Some(view) => text_of(alloc, &view, look),
+        None => Ok(None),
+    }
+}
+
+/// What the look sees of the network of the name, without the releases where its text doesn't depend on them; `None`
+/// where the network isn't there. The errors are those of [`net_look_at`].
+fn seen_at<S: Alter>(
+    alloc: Global,
+    tx: &mut Transaction<'_, S>,
+    name: &NetName,
+    look: &NetLook,
+) -> Result<Option<View>, Error>
+    ensures found { Asks S.Store tx.old tx.new result (OnNetAndBook name.now (IsSeenBy look.now)) }
+    ensures frame { ReadsOnly S.Store tx.old tx.new result }
+{
+    if reads_releases(look) {
+        view_at(alloc, tx, name)
+    } else {
+        unreleased_view_at(alloc, tx, name)
+    }
+}
+
+/// The text of the look at the network of the name; `None` where the network isn't there, or what the look names. An
+/// error is out of memory, what `sqlite` answers, or `InvalidQuery` where the rows are no office's.
+pub fn net_look_at<S: Alter>(
+    alloc: Global,
+    tx: &mut Transaction<'_, S>,
+    name: &NetName,
+    look: &NetLook,
+) -> Result<Option<Vec<u8>>, Error>
+    ensures found { Asks S.Store tx.old tx.new result (OnNetAndBook name.now (λ net book found.
+        option_map (λ text. text.items) found ≡ net_text net book look.now)) }
+    ensures frame { ReadsOnly S.Store tx.old tx.new result }
+{
+    let view = seen_at(alloc, tx, name, look)?;
+    Ok(shown(alloc, view, look)?)
+}

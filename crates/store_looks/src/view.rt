@@ -1,0 +1,124 @@
+//! What is seen of a network.
+ghost use Rattle.std.specs.Prelude.{◌≡◌, [], map, filter, IfOk, OnOk};
+ghost use Rattle.std.specs.List.Sorted.{IsStrictlySortedBy};
+ghost use Rattle.std.specs.Str.{bytes_eq};
+ghost use Rattle.dbc_sheet.specs.Messages.{by_number};
+ghost use Rattle.office_law.specs.Released.{with_releases};
+ghost use Rattle.office_looks.specs.View.{blocks_of, spn_block, view_of};
+ghost use Rattle.office_types.specs.State.{live_messages};
+ghost use Rattle.store_looks.specs.Seen.{IsSeen, OnNetAndBook};
+ghost use Rattle.store_tables.specs.Frames.{Asks, ReadsOnly};
+
+use base::{Copying, Items};
+use dbc_sheet::Sheet;
+use office_looks::{FrozenSheets, View};
+use office_types::{
+    BlockForm, FormBlock, GrantedBlock, LiveMessage, Net, NetName, SpnBlock, SpnBook, Team,
+};
+use sqlite::{Alter, Error, Transaction};
+use std::alloc::{AllocError, Global};
+use store_net::{book_of, live_sheet, release_sheets_at, unreleased_net_at};
+
+/// The teams that own the messages, in order. The error is out of memory.
+fn owners_of(alloc: Global, live: &[LiveMessage]) -> Result<Items<Team>, AllocError>
+    ensures { IfOk result (λ owners. owners ≡ map (λ m. m.owner) live.now) }
+{
+    let mut owners = Items::new(alloc);
+    for one in live {
+        let owner = one.owner.duplicate(alloc)?;
+        owners.push(owner)?;
+    }
+    Ok(owners)
+}
+
+/// The block of suspect parameter numbers as a granted one. An error is out of memory, or `InvalidQuery` where the
+/// numbers are no block's.
+fn granted(alloc: Global, block: &SpnBlock) -> Result<GrantedBlock, Error>
+    ensures { IfOk result (λ granted. granted ≡ spn_block block.now) }
+{
+    match FormBlock::new(BlockForm::Spn, block.first, block.last) {
+        Some(numbers) => Ok(GrantedBlock {
+            block: numbers,
+            team: block.team.duplicate(alloc)?,
+        }),
+        None => Err(Error::InvalidQuery),
+    }
+}
+
+/// The network's blocks, those of suspect parameter numbers last. The errors are those of [`granted`].
+fn blocks_of(alloc: Global, net: &Net, book: &SpnBook) -> Result<Items<GrantedBlock>, Error>
+    ensures { IfOk result (λ blocks. blocks ≡ blocks_of net.now book.now) }
+{
+    let mut blocks = net.blocks.duplicate(alloc)?;
+    for block in book.blocks.as_slice() {
+        if block.net == net.name {
+            let block = granted(alloc, block)?;
+            blocks.push(block)?;
+        }
+    }
+    Ok(blocks)
+}
+
+/// The network as it is seen with these releases and the book. An error is out of memory, or `InvalidQuery` where the
+/// parts are no office's.
+fn seen(alloc: Global, net: &Net, releases: Items<Sheet>, book: &SpnBook) -> Result<View, Error>
+    ensures { IfOk result (λ view. IsStrictlySortedBy by_number (live_messages net.now.live)
+        → view ≡ view_of (with_releases releases net.now) book.now) }
+{
+    let Some(releases) = FrozenSheets::of(releases) else {
+        return Err(Error::InvalidQuery);
+    };
+    let owners = owners_of(alloc, net.live.as_slice())?;
+    let blocks = blocks_of(alloc, net, book)?;
+    let sheet = live_sheet(alloc, net.head.duplicate(alloc)?, net.live.as_slice())?;
+    Ok(View {
+        name: net.name.duplicate(alloc)?,
+        kind: net.head.kind,
+        reviews: net.head.reviews,
+        phase: net.head.phase.duplicate(alloc)?,
+        sheet,
+        owners,
+        blocks,
+        held: net.held.duplicate(alloc)?,
+        approvals: net.approvals.duplicate(alloc)?,
+        releases,
+        used: book.used.duplicate(alloc)?,
+    })
+}
+
+/// What is seen of the network of the name, `None` where it isn't there. An error is out of memory, what `sqlite`
+/// answers, or `InvalidQuery` where the rows are no office's.
+pub(crate) fn view_at<S: Alter>(
+    alloc: Global,
+    tx: &mut Transaction<'_, S>,
+    name: &NetName,
+) -> Result<Option<View>, Error>
+    ensures found { Asks S.Store tx.old tx.new result
+        (OnNetAndBook name.now (IsSeen (λ net. net))) }
+    ensures frame { ReadsOnly S.Store tx.old tx.new result }
+{
+    let Some(net) = unreleased_net_at(alloc, tx, name)? else {
+        return Ok(None);
+    };
+    let releases = release_sheets_at(alloc, tx, name)?;
+    let book = book_of(alloc, tx)?;
+    Ok(Some(seen(alloc, &net, releases, &book)?))
+}
+
+/// What is seen of the network of the name without its releases, of which no body is read; `None` where it isn't there.
+/// The errors are those of [`view_at`].
+pub(crate) fn unreleased_view_at<S: Alter>(
+    alloc: Global,
+    tx: &mut Transaction<'_, S>,
+    name: &NetName,
+) -> Result<Option<View>, Error>
+    ensures found { Asks S.Store tx.old tx.new result
+        (OnNetAndBook name.now (IsSeen (with_releases []))) }
+    ensures frame { ReadsOnly S.Store tx.old tx.new result }
+{
+    let Some(net) = unreleased_net_at(alloc, tx, name)? else {
+        return Ok(None);
+    };
+    let book = book_of(alloc, tx)?;
+    Ok(Some(seen(alloc, &net, Items::new(alloc), &book)?))
+}

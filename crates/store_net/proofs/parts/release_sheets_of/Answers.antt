@@ -1,0 +1,10 @@
+use Rattle.std.proofs.lemmas.Result.{IfOk-weaker}
+use Rattle.store_rows.proofs.Reading.{releases_are_shown}
+use Rattle.store_net.proofs.parts.release_sheets_of.Goals as goal
+
+pub returns-clause-found : goal.returns-clause-found
+returns-clause-found g c clean office =
+    IfOk-weaker c.items_of.result _ _
+    (λ items one others listed. one others
+    (rw c.deref.ensures.value (releases_are_shown c.args.name.now _ _ others listed
+    (rw c.as_bytes.ensures.bytes at (c.in_ok-rows.ensures.found clean office))))) c.items_of.ensures

@@ -170,7 +170,7 @@ def grouped(rows):
 
 
 def net_in(rows, name):
-    """The network of the name, `None` where there is none."""
+    """The network of the name, `None` where it isn't there."""
     heads = rows("SELECT kind,reviews,submitter,frame FROM net WHERE name=CAST(? AS TEXT)", name)
     if not heads:
         return None

@@ -131,11 +131,12 @@ impl Databases for HostDatabases<'_> {
         path: &str,
         script: &[u8],
         arrivals: &[Arrival],
+        strict: bool,
         progress: &mut Progress<W>,
     ) -> Result<Answers, AllocError> {
         match open(self.rt, path) {
             Ok(conn) => {
-                let (reported, conn) = answer_on(alloc, conn, script, arrivals, progress);
+                let (reported, conn) = answer_on(alloc, conn, script, arrivals, strict, progress);
                 let closed = close(conn);
                 Ok(answers_when_closed(reported?, closed))
             }

@@ -1,5 +1,5 @@
 -- What a script results in.
-use Rattle.std.proofs.Common.{◌≡◌, ◌≤◌, inl, inr, List, ℕ, length, Option, None, Result, Ok, Err}
+use Rattle.std.proofs.Common.{◌≡◌, inl, inr, List, ℕ, Option, Result, Ok, Err}
 use Rattle.std.specs.Prelude.{IfOk}
 use Rattle.std.specs.declared.alloc.AllocError.{AllocError}
 use Rattle.office_history.specs.declared.arrival.Answer.{Answer}
@@ -12,30 +12,30 @@ use Rattle.office_script.specs.declared.keys.Dash.{Dash}
 use Rattle.office_script.specs.declared.script.ScriptFault.{ScriptFault}
 use Rattle.office_script.specs.declared.script.ScriptFault.TheVariants.{BadLine, Unreadable, Memory}
 use Rattle.store.specs.declared.lost.Lost.{Lost}
-use Rattle.canoffice_cli.specs.Answered.{answered_with, answers_outcome}
+use Rattle.canoffice_cli.specs.Answered.{IsFarEnough, answered_with, answers_outcome}
 use Rattle.canoffice_cli.specs.Applied.{IsScriptOutcome, Reports}
 use Rattle.canoffice_cli.specs.Outcome.{outcome_of}
+use Rattle.canoffice_cli.specs.declared.manner.Manner.{Manner}
 use Rattle.canoffice_cli.specs.declared.report.Report.{Report}
 
-module _ (files : Files) (dash : Dash) (GoesOn : List Answered → Option Lost → Type 0) (NothingDone : Type 0)
+module _ (files : Files) (dash : Dash) (manner : Manner) (GoesOn : List Answered → Option Lost → Type 0) (NothingDone : Type 0)
     (script : List ℕ) where
   -- its arrivals were answered
   pub applied : (arrivals : List Arrival) (answers : List Answer) (lost : Option Lost) (r : Result Report AllocError)
       → AreArrivalsOf files dash (lines_of script) arrivals
-      → length answers ≤ length arrivals → (lost ≡ None → length answers ≡ length arrivals)
+      → IsFarEnough manner.strict arrivals answers lost
       → GoesOn (answered_with arrivals answers) lost
-      → IfOk r (λ report. outcome_of report ≡ answers_outcome answers lost)
-      → IfOk r (λ report. IsScriptOutcome files dash GoesOn NothingDone script (outcome_of report))
-  applied arrivals answers lost (Err e) made some all goes_on is = tt
-  applied arrivals answers lost (Ok report) made some all goes_on is =
+      → IfOk r (λ report. outcome_of report ≡ answers_outcome manner arrivals answers lost)
+      → IfOk r (λ report. IsScriptOutcome files dash manner GoesOn NothingDone script (outcome_of report))
+  applied arrivals answers lost (Err e) made far goes_on is = tt
+  applied arrivals answers lost (Ok report) made far goes_on is =
       inl (
         arrivals,
         made,
         record {
           answers = answers;
           lost = lost;
-          some = some;
-          all = all;
+          far = far;
           outcome = is;
           goes_on =
               goes_on;
@@ -45,7 +45,7 @@ module _ (files : Files) (dash : Dash) (GoesOn : List Answered → Option Lost �
   -- something is amiss at a line of it
   pub amiss : (fault : ScriptFault) (r : Result Report AllocError) → IsScriptFault files dash script fault → NothingDone
       → IfOk r (λ report. Reports fault (outcome_of report))
-      → IfOk r (λ report. IsScriptOutcome files dash GoesOn NothingDone script (outcome_of report))
+      → IfOk r (λ report. IsScriptOutcome files dash manner GoesOn NothingDone script (outcome_of report))
   amiss fault (Err e) is nothing reports = tt
   amiss (BadLine number) (Ok report) is nothing reports = inr (inl (number, is, reports), nothing)
   amiss (Unreadable path) (Ok report) is nothing reports = inr (inr (path, is.0, is.1, reports), nothing)

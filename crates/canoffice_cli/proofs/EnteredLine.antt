@@ -38,8 +38,13 @@ own_entered : (s : Shape) (called : Text) (rest : List Text) → Among s (built 
 own_entered s called rest (inl same) answers no_help passes =
     let name : s.name ≡ codes "apply" = ap (λ x. x.name) same in
     let script = needed s rest (codes "SCRIPT") passes (ap (λ x. needs_value x.rules (codes "SCRIPT")) same) in
-    subst (λ n. IsEntered (Some (n, rows_after s.rules [] rest))) (sym name)
-    ((λ never. absurd (true≢false (sym never))), ((λ never. absurd (true≢false (sym never))), ((λ _. script), tt)))
+    subst (λ n. IsEntered (Some (n, rows_after s.rules [] rest))) (sym name) (
+      (λ never. absurd (true≢false (sym never))),
+      (
+        (λ never. absurd (true≢false (sym never))),
+        ((λ never. absurd (true≢false (sym never))), ((λ never. absurd (true≢false (sym never))), ((λ _. script), tt))),
+      ),
+    )
 own_entered s called rest (inr (inl same)) answers no_help passes =
     let name : s.name ≡ codes "chart" = ap (λ x. x.name) same in
     let length = needed s rest (codes "LENGTH") passes (ap (λ x. needs_value x.rules (codes "LENGTH")) same) in

@@ -6,6 +6,7 @@ pub mod WrongWords
 pub mod Commands
 pub mod FileJobs
 pub mod StatedMore
+mod Stopping
 pub mod Canonical
 pub mod PassedLines
 pub mod NoFault

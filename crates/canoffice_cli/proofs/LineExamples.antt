@@ -7,7 +7,8 @@ use Rattle.clap.specs.declared.error.kind.ErrorKind.TheVariants.{DisplayVersion,
 use Rattle.clap.specs.declared.error.kind.ErrorKind.TheVariants.{MissingRequiredArgument, TooManyValues}
 use Rattle.clap.specs.declared.error.kind.ErrorKind.TheVariants.{UnknownArgument}
 use Rattle.clap.proofs.OnLiterals.{clap_on_literals}
-use Rattle.canoffice_cli.specs.CommandLine.{canoffice_app, is_set, line_faults}
+use Rattle.canoffice_cli.specs.CommandLine.{canoffice_app, is_set, line_faults, manner_in}
+use Rattle.canoffice_cli.specs.declared.manner.Manner.{Manner}
 
 no_word : line_faults (codes "canoffice" ∷ []) ≡ DisplayHelpOnMissingArgumentOrSubcommand ∷ []
 unfolding clap_on_literals
@@ -234,6 +235,29 @@ explained_script : explain_in
     ≡ Some true
 unfolding clap_on_literals
 explained_script = refl
+
+-- ---- `--strict` and `--echo`
+
+abbrev manner_of : Option (Text × List Row) → Option Manner
+manner_of = option_map (λ found. manner_in found.1)
+
+a_manner : manner_of (subcommand_of canoffice_app a_script) ≡ Some (record { strict = false; echo = false })
+unfolding clap_on_literals
+a_manner = refl
+
+strict_script : manner_of
+    (subcommand_of canoffice_app (codes "canoffice" ∷ codes "apply" ∷ codes "a.txt" ∷ codes "--strict" ∷ []))
+    ≡ Some (record { strict = true; echo = false })
+unfolding clap_on_literals
+strict_script = refl
+
+echoed_script : manner_of
+    (subcommand_of canoffice_app (codes "canoffice" ∷ codes "apply" ∷ codes "--echo" ∷ codes "a.txt" ∷ []))
+    ≡ Some (record { strict = false; echo = true })
+unfolding clap_on_literals
+echoed_script = refl
+
+-- ---- flags in wrong places
 
 flag_without_a_file : line_faults (codes "canoffice" ∷ codes "check" ∷ codes "--explain" ∷ []) ≡ MissingRequiredArgument
     ∷ []

@@ -1,6 +1,6 @@
 -- The lines of answers fit in the room for them.
 use Rattle.std.proofs.Common.{◌≤◌, ◌+◌, ◌*◌, ℕ, List, [], ◌∷◌, ◌++◌, length, take, max, codes, decimal, arith}
-use Rattle.std.proofs.Common.{length-append, subst}
+use Rattle.std.proofs.Common.{◌≡◌, length-append, refl, subst}
 use Rattle.std.specs.List.{All, AllZip}
 use Rattle.std.proofs.Math.Nat.{le-max_left, le-max_right}
 use Rattle.std.proofs.lemmas.Fmt.{length-decimal-le}
@@ -20,7 +20,12 @@ use Rattle.office_types.specs.declared.reply.Reply.TheVariants as reply
 use Rattle.office_history.specs.declared.arrival.Answer.{Answer}
 use Rattle.office_history.specs.declared.arrival.Answer.TheVariants.{Reply, KeyReused}
 use Rattle.office_history.specs.declared.arrival.Arrival.{Arrival}
-use Rattle.canoffice_cli.specs.Answered.{answer_line, answer_lines, answer_text}
+use Rattle.office_types.specs.declared.command.Action.{Action}
+use Rattle.office_types.specs.declared.command.Command.{Command}
+use Rattle.office_echo.specs.Lines.{action_heading, answer_line, answer_text, bundle_echo, echo_lines, echoes}
+use Rattle.office_echo.specs.Lines.{longest_echo, longest_echoes, longest_part, longest_parts, longest_refusal}
+use Rattle.office_echo.specs.Lines.{part_lines, parts_of, task_heading, whole_echo}
+use Rattle.canoffice_cli.specs.Answered.{answer_lines}
 use Rattle.canoffice_cli.proofs.CanAnswer.{step_can_answer}
 use Rattle.canoffice_cli.specs.LongestLines.{AnswersFit, CanAnswer, CanAnswerBundle, CanAnswerSingle, Has32Bits}
 use Rattle.canoffice_cli.specs.LongestLines.{IsAnswerValue, IsFaultValue, IsPartValue, longest_line, longest_bundle}
@@ -204,5 +209,82 @@ lines_fit (x ∷ xs) (y ∷ ys) are can =
     let room = sum_by-cons (λ (a : Arrival). longest_line a.request.command.task) x xs in
     omega (arith, here, rest, both, room)
 
+-- ---- echoes
+
+parts_fit : (key net : List ℕ) (parts : List Action) (rs : List PartReply) → All IsPartValue rs
+    → length (part_lines key net parts rs) ≤ length (longest_parts key net parts)
+parts_fit key net [] rs are = omega arith
+parts_fit key net (p ∷ ps) [] are = omega arith
+parts_fit key net (p ∷ ps) (r ∷ rs) are =
+    let head = action_heading key net p in
+    let here = part_fits r (All-head IsPartValue r rs are) in
+    let rest = parts_fit key net ps rs (All-tail IsPartValue r rs are) in
+    let line = length-append head (part_text r ++ (codes "\n" ++ part_lines key net ps rs)) in
+    let answer = length-append (part_text r) (codes "\n" ++ part_lines key net ps rs) in
+    let end = length-append (codes "\n") (part_lines key net ps rs) in
+    let room = length-append (longest_part key net p) (longest_parts key net ps) in
+    let longest = length-append head (codes "release 4294967295\n") in
+    omega (arith, here, rest, line, answer, end, room, longest)
+
+-- a line that is no longer than the longest refusal, after a heading
+headed : (key : List ℕ) (c : Command) (answer : Answer) → length (answer_line answer) ≤ longest_refused_bundle
+    → length (whole_echo key c answer) ≤ length (longest_echo key c)
+headed key c answer fits =
+    let head = task_heading key c.net c.task in
+    let line = length-append head (answer_line answer) in
+    let room = length-append head longest_refusal in
+    let whole = length-append (longest_parts key c.net (parts_of c.task)) (head ++ longest_refusal) in
+    omega (arith, fits, line, room, whole)
+
+short : (answer : Answer) → length (answer_text answer) + 1 ≤ longest_refused_bundle
+    → length (answer_line answer) ≤ longest_refused_bundle
+short answer fits = with_newline (answer_text answer) longest_refused_bundle fits
+
+bundle_echo_fits : (key : List ℕ) (c : Command) (task : Task) (rs : List PartReply) → task ≡ c.task
+    → All IsPartValue rs → CanAnswer task (Reply (reply.Bundle rs))
+    → length (bundle_echo key c task rs) ≤ length (longest_echo key c)
+bundle_echo_fits key c (Act a) rs same are can = absurd can
+bundle_echo_fits key c (Import file) rs same are can = absurd can
+bundle_echo_fits key c (Bundle parts) rs same are can =
+    let fits = parts_fit key c.net parts rs are in
+    let room = length-append (longest_parts key c.net parts)
+    (task_heading key c.net (Bundle parts) ++ longest_refusal) in
+    let longer : length (part_lines key c.net parts rs)
+    ≤ length (longest_parts key c.net (parts_of (Bundle parts))
+    ++ (task_heading key c.net (Bundle parts) ++ longest_refusal)) = omega (arith, fits, room) in
+    subst (λ t. length (part_lines key c.net parts rs)
+    ≤ length (longest_parts key c.net (parts_of t) ++ (task_heading key c.net t ++ longest_refusal))) same longer
+
+echo_fits : (a : Arrival) (answer : Answer) → IsAnswerValue answer → CanAnswer a.request.command.task answer
+    → length (echo_lines a answer) ≤ length (longest_echo a.key a.request.command)
+echo_fits a (Reply (reply.Bundle rs)) are can =
+    bundle_echo_fits a.key a.request.command a.request.command.task rs refl are can
+echo_fits a (Reply (reply.Refused why)) is can =
+    let fits = (refusal_fits why is).0 in
+    let both = length-append (codes "refused ") (refusal_text why) in
+    headed a.key a.request.command (Reply (reply.Refused why)) (short (Reply (reply.Refused why)) (omega (arith, fits, both)))
+echo_fits a (Reply reply.Done) is can = headed a.key a.request.command (Reply reply.Done) (omega arith)
+echo_fits a (Reply (reply.Number n)) is can = let fits = single_fits (Reply (reply.Number n)) is tt in
+    headed a.key a.request.command (Reply (reply.Number n)) (short (Reply (reply.Number n)) (omega (arith, fits)))
+echo_fits a (Reply (reply.Start n)) is can = let fits = single_fits (Reply (reply.Start n)) is tt in
+    headed a.key a.request.command (Reply (reply.Start n)) (short (Reply (reply.Start n)) (omega (arith, fits)))
+echo_fits a (Reply (reply.Counts new same)) is can = let fits = single_fits (Reply (reply.Counts new same)) is tt in
+    headed a.key a.request.command (Reply (reply.Counts new same)) (short (Reply (reply.Counts new same)) (omega (arith, fits)))
+echo_fits a (Reply (reply.Release n)) is can = let fits = single_fits (Reply (reply.Release n)) is tt in
+    headed a.key a.request.command (Reply (reply.Release n)) (short (Reply (reply.Release n)) (omega (arith, fits)))
+echo_fits a KeyReused is can = headed a.key a.request.command KeyReused (omega arith)
+
+echoes_fit : (arrivals : List Arrival) (answers : List Answer) → All IsAnswerValue answers
+    → AllZip (λ a answer. CanAnswer a.request.command.task answer) (take (length answers) arrivals) answers
+    → length (echoes arrivals answers) ≤ length (longest_echoes arrivals)
+echoes_fit [] answers are can = omega arith
+echoes_fit (x ∷ xs) [] are can = omega arith
+echoes_fit (x ∷ xs) (y ∷ ys) are can =
+    let here = echo_fits x y (All-head IsAnswerValue y ys are) can.0 in
+    let rest = echoes_fit xs ys (All-tail IsAnswerValue y ys are) can.1 in
+    let both = length-append (echo_lines x y) (echoes xs ys) in
+    let room = length-append (longest_echo x.key x.request.command) (longest_echoes xs) in
+    omega (arith, here, rest, both, room)
+
 pub answers_fit : AnswersFit
-answers_fit = record { can = step_can_answer; line = line_fits; lines = lines_fit }
+answers_fit = record { can = step_can_answer; line = line_fits; lines = lines_fit; echoes = echoes_fit }

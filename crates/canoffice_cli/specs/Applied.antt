@@ -13,6 +13,7 @@ use Rattle.store.specs.declared.lost.Lost.{Lost}
 use Rattle.canoffice_cli.specs.Answered.{AreAnswered, InDatabase, InMemory}
 use Rattle.canoffice_cli.specs.Databases.{AreKept, Databases}
 use Rattle.canoffice_cli.specs.Outcome.{Outcome, unreadable, wrong_line}
+use Rattle.canoffice_cli.specs.declared.manner.Manner.{Manner}
 
 -- At the first line at which something is amiss the line is wrong, and its number is printed, or the file that it names
 -- can't be read, and its path is printed.
@@ -29,15 +30,17 @@ Reports (Unreadable path) o = o ≡ unreadable path
 Reports Memory o = ⊥
 
 -- The arrivals of the script were answered. Or something is amiss at a line of it: nothing was done then.
-abbrev pub IsScriptOutcome : Files → Dash → (List Answered → Option Lost → Type 0) → Type 0 → List ℕ → Outcome → Type 0
-IsScriptOutcome files dash GoesOn NothingDone script o =
-    ((arrivals : List Arrival) × AreArrivalsOf files dash (lines_of script) arrivals × AreAnswered GoesOn arrivals o)
+abbrev pub IsScriptOutcome : Files → Dash → Manner → (List Answered → Option Lost → Type 0) → Type 0 → List ℕ → Outcome
+    → Type 0
+IsScriptOutcome files dash manner GoesOn NothingDone script o =
+    ((arrivals : List Arrival) × AreArrivalsOf files dash (lines_of script) arrivals
+    × AreAnswered manner GoesOn arrivals o)
     ⊎ (IsAmiss files dash script o × NothingDone)
 
 -- The script is applied to a new office in memory, and nothing else is done. Or it is applied to the office in the
 -- database of the path; then `-` is no key.
-abbrev pub IsApplyOutcome : Files → Option (List ℕ) → Databases → Databases → List ℕ → Outcome → Type 0
-IsApplyOutcome files None before after script o = IsScriptOutcome files LineNumber InMemory ⊤ script o
+abbrev pub IsApplyOutcome : Files → Option (List ℕ) → Manner → Databases → Databases → List ℕ → Outcome → Type 0
+IsApplyOutcome files None manner before after script o = IsScriptOutcome files LineNumber manner InMemory ⊤ script o
     × AreKept before after
-IsApplyOutcome files (Some path) before after script o =
-    IsScriptOutcome files Wrong (InDatabase before after path) (AreKept before after) script o
+IsApplyOutcome files (Some path) manner before after script o =
+    IsScriptOutcome files Wrong manner (InDatabase before after path) (AreKept before after) script o

@@ -18,6 +18,7 @@ use Rattle.canoffice_cli.specs.declared.job.JobFault.{JobFault}
 use Rattle.canoffice_cli.specs.declared.job.JobFault.TheVariants.{Help, Usage, Memory}
 use Rattle.canoffice_cli.specs.declared.job.ValueFault.{ValueFault}
 use Rattle.canoffice_cli.specs.declared.job.ValueFault.TheVariants as value
+use Rattle.canoffice_cli.specs.declared.manner.Manner.{Manner}
 use Rattle.canoffice_cli.specs.declared.place.Place.{Place}
 use Rattle.canoffice_cli.specs.Numbers.{count_given, port_given, release_number}
 use Rattle.canoffice_cli.specs.Place.{IsNoPlace, IsPlace}
@@ -46,13 +47,22 @@ option_word id = record (new_rule id) { long = Some id; value_names = 1 }
 abbrev pub required_option : Text → Rule
 required_option id = record (option_word id) { required = true }
 
+-- a flag `--id`
+abbrev pub flag : Text → Rule
+flag id = record (new_rule id) { long = Some id; action = Some SetTrue }
+
 -- the flag `--explain`
 abbrev pub explain_flag : Rule
-explain_flag = record (new_rule (codes "explain")) { long = Some (codes "explain"); action = Some SetTrue }
+explain_flag = flag (codes "explain")
 
--- apply [--db FILE] [--explain] SCRIPT
+-- --strict and --echo
+abbrev pub with_manner : App → App
+with_manner app = with_rule (with_rule app (flag (codes "strict"))) (flag (codes "echo"))
+
+-- apply [--db FILE] [--explain] [--strict] [--echo] SCRIPT
 abbrev pub apply_app : App
-apply_app = with_rule (with_rule (with_rule (new_app (codes "apply")) (option_word (codes "db"))) explain_flag)
+apply_app = with_rule
+    (with_manner (with_rule (with_rule (new_app (codes "apply")) (option_word (codes "db"))) explain_flag))
     (required_word (codes "SCRIPT"))
 
 -- chart LENGTH SIGNAL..
@@ -143,16 +153,21 @@ HasValues rows id texts = all_of id rows ≡ Some texts
 abbrev pub is_set : List Row → Text → Bool
 is_set rows id = option_map_or (λ value. bytes_eq value (codes "true")) (first_of id rows) false
 
+-- how a script is applied, by the flags
+abbrev pub manner_in : List Row → Manner
+manner_in rows = record { strict = is_set rows (codes "strict"); echo = is_set rows (codes "echo") }
+
 -- the values of `--db` and `--port` name the place
 abbrev pub IsPlaceIn : Place → List Row → Type 0
 IsPlaceIn place rows = IsPlace place (first_of (codes "db") rows) (first_of (codes "port") rows)
 
 -- the job is the subcommand, with the values of its arguments, and the numbers that they give
 abbrev pub IsJobOf : Job → Text → List Row → Type 0
-IsJobOf (Apply database script explain) name rows =
+IsJobOf (Apply database script explain manner) name rows =
     (name ≡ codes "apply") × (first_of (codes "db") rows ≡ option_map (λ path. path.now) database)
     × HasValue rows (codes "SCRIPT") script.now
     × (explain ≡ is_set rows (codes "explain"))
+    × (manner ≡ manner_in rows)
 IsJobOf (Chart length signals) name rows =
     (name ≡ codes "chart") × (option_and_then length_of (first_of (codes "LENGTH") rows) ≡ Some length)
     × HasValues rows (codes "SIGNAL") (map (λ s. s.now) signals.items)

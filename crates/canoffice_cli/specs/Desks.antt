@@ -20,7 +20,7 @@ Desks = ℕ → List ℕ → Asked → Type 0
 abbrev pub unknown_desks : Desks
 unknown_desks port target asked = Unit {0}
 
--- there is none
+-- no desk can be connected to
 abbrev pub no_desk : Desks
 no_desk port target asked = asked ≡ Err Connect
 
@@ -40,8 +40,8 @@ response_outcome NotFound body = not_found
 response_outcome (Other status) body =
     failure (codes "the desk answers with status " ++ (decimal status ++ codes "\n"))
 
--- Where nothing is known of a response, or it is no such one, one line says what is wrong. Where a write failed, no desk
--- answers; where a read failed, the response is cut.
+-- Where nothing is known of a response, or it is no such one, one line says what is wrong. Where a write failed, no
+-- desk answers; where a read failed, the response is cut.
 abbrev pub asked_outcome : ℕ → Asked → Outcome
 asked_outcome port (Ok (whole status body)) = response_outcome status body
 asked_outcome port (Ok cut) = cut_response

@@ -33,7 +33,7 @@ dash_of (Some path) = Wrong
 -- What is stated of the file of this name with these bytes. Of a script that is its first wrong line, whatever can't be
 -- read before it, or the first wrong line of a bundle's file.
 abbrev pub IsStated : Files → FileTask → List ℕ → List ℕ → List ℕ → Type 0
-IsStated files (task.Apply database) name bytes stated =
+IsStated files (task.Apply database manner) name bytes stated =
     IsStatedOf files name (dash_of database) 1 (lines_of bytes) stated
 IsStated files task.Check name bytes stated = IsExplained name bytes stated
 IsStated files task.Format name bytes stated = IsStatedOfFormat name bytes stated

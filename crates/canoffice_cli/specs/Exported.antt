@@ -12,7 +12,7 @@ use Rattle.canoffice_cli.specs.Outcome.{Outcome, not_found}
 abbrev pub sheet_requested : List ℕ → ℕ → Look
 sheet_requested net number = if number == 0 then Live net else Release net number
 
--- The word for the network is no name of one, so that there is none; or the office looks, and what it shows is printed.
+-- The word for the network has no name's form, so nothing is found; or the office looks, and what it shows is printed.
 abbrev pub IsExportOutcome : Databases → Databases → List ℕ → List ℕ → ℕ → Outcome → Type 0
 IsExportOutcome before after path net number o =
     ((¬ IsPlainName net) × (o ≡ not_found) × AreKept before after)

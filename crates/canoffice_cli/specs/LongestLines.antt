@@ -17,7 +17,8 @@ use Rattle.office_rules.specs.Step.{Step}
 use Rattle.office_history.specs.declared.arrival.Answer.{Answer}
 use Rattle.office_history.specs.declared.arrival.Answer.TheVariants as answer
 use Rattle.office_history.specs.declared.arrival.Arrival.{Arrival}
-use Rattle.canoffice_cli.specs.Answered.{answer_line, answer_lines}
+use Rattle.office_echo.specs.Lines.{answer_line, echoes, longest_echoes}
+use Rattle.canoffice_cli.specs.Answered.{answer_lines}
 
 -- The longest lines, with their newlines. A fault has 8 bits, and a number, a count and a release have 32.
 
@@ -90,7 +91,7 @@ IsAnswerValue (answer.Reply (reply.Bundle parts)) = All IsPartValue parts
 IsAnswerValue answer.KeyReused = ⊤
 
 -- Whatever the office answers to a command can answer its task, and the lines of such answers to the first arrivals are
--- no longer than the room for all of them.
+-- no longer than the room for all of them; nor are their echoes.
 pub record AnswersFit : Type 0 where
   pub can : (profile : Profile) (before after : Office) (team : List ℕ) (c : Command) (r : Reply)
       → Step profile before team c r after
@@ -100,3 +101,6 @@ pub record AnswersFit : Type 0 where
   pub lines : (arrivals : List Arrival) (answers : List Answer) → All IsAnswerValue answers
       → AllZip (λ a answer. CanAnswer a.request.command.task answer) (take (length answers) arrivals) answers
       → length (answer_lines answers) ≤ room_for arrivals
+  pub echoes : (arrivals : List Arrival) (answers : List Answer) → All IsAnswerValue answers
+      → AllZip (λ a answer. CanAnswer a.request.command.task answer) (take (length answers) arrivals) answers
+      → length (echoes arrivals answers) ≤ length (longest_echoes arrivals)

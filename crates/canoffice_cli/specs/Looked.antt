@@ -8,21 +8,21 @@ use Rattle.office_history.specs.History.{Answered, IsLegal}
 use Rattle.store.specs.declared.lost.Lost.{Lost}
 use Rattle.office_types.specs.declared.look.Look.{Look}
 use Rattle.store.specs.Looking.{IsShown}
-use Rattle.canoffice_cli.specs.Answered.{answers_outcome}
+use Rattle.canoffice_cli.specs.Answered.{lost_outcome}
 use Rattle.canoffice_cli.specs.Databases.{AreKept, Databases}
 use Rattle.canoffice_cli.specs.Desks.{Asked, Desks, asked_outcome}
 use Rattle.canoffice_cli.specs.Outcome.{Outcome, not_found, success}
 use Rattle.canoffice_cli.specs.declared.place.Place.{Place}
 use Rattle.canoffice_cli.specs.declared.place.Place.TheVariants.{Database, Desk}
 
--- the text is printed, or that there is none, or why the call was lost
+-- the text is printed, or that nothing was found, or why the call was lost
 abbrev pub shown_outcome : Result (Option (List ℕ)) Lost → Outcome
 shown_outcome (Ok (Some text)) = success text
 shown_outcome (Ok None) = not_found
-shown_outcome (Err lost) = answers_outcome [] (Some lost)
+shown_outcome (Err lost) = lost_outcome lost
 
 -- The office in the database of the path looked the look up, and this is what it showed, unless that was lost. The
--- tables hold what they held. Where there are none, nothing is shown, and nothing is made.
+-- tables hold what they held. Where the file has no tables, nothing is shown, and nothing is made.
 pub record IsLookedUp (before after : Databases) (path : List ℕ) (look : Look)
     (shown : Result (Option (List ℕ)) Lost) : Type 0 where
   pub of_held : (h : List Answered) (office : Office) → before.holds path h → IsLegal h office → after.is_sound

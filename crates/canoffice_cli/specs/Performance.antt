@@ -36,8 +36,8 @@ IsOfFile NothingDone IsOf path (holding bytes) o = IsOf bytes o
 
 -- the outcome of the bytes of a file, by what is done with them; a script may name further files
 abbrev pub IsTaskOutcome : Files → Databases → Databases → FileTask → List ℕ → Outcome → Type 0
-IsTaskOutcome files before after (task.Apply database) bytes o =
-    IsApplyOutcome files (option_map (λ path. path.now) database) before after bytes o
+IsTaskOutcome files before after (task.Apply database manner) bytes o =
+    IsApplyOutcome files (option_map (λ path. path.now) database) manner before after bytes o
 IsTaskOutcome files before after task.Check bytes o = IsCheckOutcome bytes o × AreKept before after
 IsTaskOutcome files before after task.Format bytes o = IsFormatOutcome bytes o × AreKept before after
 IsTaskOutcome files before after task.Table bytes o = IsTableOutcome bytes o × AreKept before after
@@ -55,10 +55,11 @@ IsFileOutcome files input before after job o =
 
 -- the outcome of the job, and what is known of databases before and after
 abbrev pub IsDone : Files → Holding → Desks → Databases → Databases → Job → Outcome → Type 0
-IsDone files input desks before after (Apply database script explain) o =
-    IsFileOutcome files input before after (record { task = task.Apply database; path = script; explain = explain }) o
-IsDone files input desks before after (Chart length signals) o = IsChartOutcome length (map (λ s. s.now) signals.items) o
-    × AreKept before after
+IsDone files input desks before after (Apply database script explain manner) o =
+    IsFileOutcome files input before after
+    (record { task = task.Apply database manner; path = script; explain = explain }) o
+IsDone files input desks before after (Chart length signals) o =
+    IsChartOutcome length (map (λ s. s.now) signals.items) o × AreKept before after
 IsDone files input desks before after (Check file explain) o =
     IsFileOutcome files input before after (record { task = task.Check; path = file; explain = explain }) o
 IsDone files input desks before after (Export database net number) o =

@@ -1,7 +1,7 @@
 -- The outcome of serving.
-use Rattle.std.specs.Prelude.{◌≡◌, ◌⊎◌, ◌≤◌, ◌++◌, ℕ, List, [], codes, length, Some, Result, Ok, Err, ⊤}
+use Rattle.std.specs.Prelude.{◌≡◌, ◌⊎◌, ◌≤◌, ◌++◌, ℕ, List, [], codes, length, Result, Ok, Err, ⊤}
 use Rattle.office_history.specs.History.{Answered}
-use Rattle.canoffice_cli.specs.Answered.{answers_outcome}
+use Rattle.canoffice_cli.specs.Answered.{lost_outcome}
 use Rattle.canoffice_cli.specs.Databases.{Databases}
 use Rattle.canoffice_cli.specs.Outcome.{Outcome, failure, success}
 use Rattle.canoffice_cli.specs.declared.serving.ServeEnd.{ServeEnd}
@@ -12,7 +12,7 @@ abbrev pub end_outcome : Result ⊤ ServeEnd → Outcome
 end_outcome (Ok done) = success []
 end_outcome (Err CannotListen) = failure (codes "cannot listen\n")
 end_outcome (Err CannotAccept) = failure (codes "cannot accept\n")
-end_outcome (Err (IsLost lost)) = answers_outcome [] (Some lost)
+end_outcome (Err (IsLost lost)) = lost_outcome lost
 
 -- Each connection adds at most one answer to the history that the database of the path holds; new tables hold those
 -- answers alone, unless none were made. Where nothing can be listened on, nothing is added.

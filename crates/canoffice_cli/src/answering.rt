@@ -1,19 +1,25 @@
 //! Answering arrivals, up to the first that is lost.
-ghost use Rattle.std.specs.Prelude.{◌≡◌, ◌⊎◌, ◌≤◌, ◌++◌, [], length, None, Some, IsTrue, IsSome, IfOk};
+ghost use Rattle.std.specs.Prelude.{◌≡◌, ◌⊎◌, ◌++◌, ◌&&◌, [], Bool, List, None, Some, IsTrue, IsSome, IfOk};
 ghost use Rattle.std.specs.Prelude.{IfErr, OnErr};
 ghost use Rattle.sqlite.specs.Held.{state};
+ghost use Rattle.std.specs.List.{list_any};
+ghost use Rattle.office_echo.specs.Lines.{is_refused};
+ghost use Rattle.office_history.specs.declared.arrival.Arrival.{Arrival as AnArrival};
 ghost use Rattle.office_history.specs.History.{IsLegalHistory};
 ghost use Rattle.store.specs.Calls.{HoldsOnErr, IsSettled, KeepsDoubt, OnHistory};
 ghost use Rattle.store.specs.Holding.{Holding};
 ghost use Rattle.store.specs.OpensAs.{conn_of};
-ghost use Rattle.canoffice_cli.specs.Answered.{InMemory, answered_with, answers_outcome, lost_line};
+ghost use Rattle.canoffice_cli.specs.Answered.{InMemory, IsFarEnough, answered_with, answers_outcome};
+ghost use Rattle.canoffice_cli.specs.Answered.{lost_outcome, printed, status_of};
 ghost use Rattle.canoffice_cli.specs.Databases.{OnBeginning};
-ghost use Rattle.canoffice_cli.specs.Outcome.{failure, outcome_of};
+ghost use Rattle.canoffice_cli.specs.Outcome.{outcome_of};
 
 use crate::lines::{PrintedLine, add_lines};
+use crate::manner::Manner;
 use crate::progress::{Progress, RequestLines};
 use crate::report::{Report, Status};
 use crate::room::Room;
+use office_echo::{add_answer, add_echoes, is_refused};
 use office_history::{Answer, Arrival, histories_grow};
 use office_keyed::KeyedOffice;
 use sqlite::{Alter, Connection};
@@ -32,6 +38,8 @@ pub struct Answers {
 pub fn nothing_answered(alloc: Global, lost: Lost) -> Answers
     ensures answers { result.answers.items ≡ [] }
     ensures lost { result.lost ≡ Some lost }
+    ensures far { (strict : Bool) (arrivals : List AnArrival)
+        → IsFarEnough strict arrivals result.answers.items result.lost }
 {
     Answers {
         answers: Vec::new(alloc),
@@ -59,19 +67,26 @@ pub(crate) fn office_on<S: Alter>(
     }
 }
 
-/// Answers the arrivals in turn, up to the first that is lost. The error is out of memory for the answers: then nothing
-/// arrived.
+/// Whether answering stops at this answer: it is a refusal, and it is strict.
+fn stops_at(strict: bool, answer: &Answer) -> bool
+    ensures { result ≡ (strict && is_refused answer.now) }
+{
+    strict && is_refused(answer)
+}
+
+/// Answers the arrivals in turn, up to the first that is lost, and where it is strict, up to the first that is refused.
+/// The error is out of memory for the answers: then nothing arrived.
 fn answer_all<S: Alter, W: Write>(
     alloc: Global,
     office: &mut StoredOffice<S>,
     script: &[u8],
     arrivals: &[Arrival],
+    strict: bool,
     progress: &mut Progress<W>,
 ) -> Result<Answers, AllocError>
     ensures clean { KeepsDoubt S.Store office.old.conn office.new.conn }
-    ensures some { IfOk result (λ reported. length reported.answers.items ≤ length arrivals.now) }
-    ensures all { IfOk result
-        (λ reported. reported.lost ≡ None → length reported.answers.items ≡ length arrivals.now) }
+    ensures far { IfOk result
+        (λ reported. IsFarEnough strict arrivals.now reported.answers.items reported.lost) }
     ensures held { OnHistory S.Store office.old.conn office.new.conn
         (λ h. IsTrue (state S.Store office.new.conn).is_open
         → IfOk result (λ reported.
@@ -87,7 +102,16 @@ fn answer_all<S: Alter, W: Write>(
     for arrival in arrivals {
         progress.show_line(lines.next_number());
         match office.arrive(alloc, &arrival.team, &arrival.key, &arrival.request) {
-            Ok(answer) => answers.push_reserved(answer),
+            Ok(answer) => {
+                let stops = stops_at(strict, &answer);
+                answers.push_reserved(answer);
+                if stops {
+                    return Ok(Answers {
+                        answers,
+                        lost: None,
+                    });
+                }
+            }
             Err(lost) => {
                 return Ok(Answers {
                     answers,
@@ -102,21 +126,22 @@ fn answer_all<S: Alter, W: Write>(
     })
 }
 
-/// Answers the arrivals in turn by the office on the connection, up to the first that is lost, and gives the connection
-/// back. A new office is made where the connection has no table. It is shown how far the script of the arrivals is. The
-/// error is out of memory for the answers: then nothing arrived.
+/// Answers the arrivals in turn by the office on the connection, up to the first that is lost, and where it is strict,
+/// up to the first that is refused, and gives the connection back. A new office is made where the connection has no
+/// table. It is shown how far the script of the arrivals is. The error is out of memory for the answers: then nothing
+/// arrived.
 pub fn answer_on<S: Alter + Drop, W: Write>(
     alloc: Global,
     conn: Connection<S>,
     script: &[u8],
     arrivals: &[Arrival],
+    strict: bool,
     progress: &mut Progress<W>,
 ) -> (Result<Answers, AllocError>, Connection<S>)
     requires { IsSettled S.Store conn }
     ensures clean { KeepsDoubt S.Store conn result.1 }
-    ensures some { IfOk result.0 (λ reported. length reported.answers.items ≤ length arrivals.now) }
-    ensures all { IfOk result.0 (λ reported. reported.lost ≡ None
-        → length reported.answers.items ≡ length arrivals.now) }
+    ensures far { IfOk result.0
+        (λ reported. IsFarEnough strict arrivals.now reported.answers.items reported.lost) }
     ensures held { OnHistory S.Store conn result.1 (λ h. IsTrue (state S.Store result.1).is_open
         → IfOk result.0 (λ reported.
         Holding (h ++ answered_with arrivals.now reported.answers.items)
@@ -132,24 +157,24 @@ pub fn answer_on<S: Alter + Drop, W: Write>(
     histories_grow();
     match office_on(conn) {
         Ok(mut office) => {
-            let reported = answer_all(alloc, &mut office, script, arrivals, progress);
+            let reported = answer_all(alloc, &mut office, script, arrivals, strict, progress);
             (reported, office.close())
         }
         Err((lost, conn)) => (Ok(nothing_answered(alloc, lost)), conn),
     }
 }
 
-/// Answers the arrivals in turn by a new office in memory, up to one for which memory runs out, which is lost. The
-/// error is out of memory for the answers.
+/// Answers the arrivals in turn by a new office in memory, up to one for which memory runs out, which is lost, and where
+/// it is strict, up to the first that is refused. The error is out of memory for the answers.
 pub(crate) fn answer_in_memory<W: Write>(
     alloc: Global,
     script: &[u8],
     arrivals: &[Arrival],
+    strict: bool,
     progress: &mut Progress<W>,
 ) -> Result<Answers, AllocError>
-    ensures some { IfOk result (λ reported. length reported.answers.items ≤ length arrivals.now) }
-    ensures all { IfOk result
-        (λ reported. reported.lost ≡ None → length reported.answers.items ≡ length arrivals.now) }
+    ensures far { IfOk result
+        (λ reported. IsFarEnough strict arrivals.now reported.answers.items reported.lost) }
     ensures goes_on { IfOk result (λ reported. InMemory
         (answered_with arrivals.now reported.answers.items) reported.lost) }
 {
@@ -159,7 +184,16 @@ pub(crate) fn answer_in_memory<W: Write>(
     for arrival in arrivals {
         progress.show_line(lines.next_number());
         match office.arrive(alloc, &arrival.team, &arrival.key, &arrival.request) {
-            Ok(answer) => answers.push_reserved(answer),
+            Ok(answer) => {
+                let stops = stops_at(strict, &answer);
+                answers.push_reserved(answer);
+                if stops {
+                    return Ok(Answers {
+                        answers,
+                        lost: None,
+                    });
+                }
+            }
             Err(AllocError) => {
                 return Ok(Answers {
                     answers,
@@ -180,6 +214,9 @@ pub fn answers_when_closed(reported: Answers, closed: Result<(), Lost>) -> Answe
     ensures lost { IsSome reported.lost → result.lost ≡ reported.lost }
     ensures none { result.lost ≡ None → reported.lost ≡ None }
     ensures closing { IfErr closed (λ closing. reported.lost ≡ None → result.lost ≡ Some closing) }
+    ensures far { (strict : Bool) (arrivals : List AnArrival)
+        → IsFarEnough strict arrivals reported.answers.items reported.lost
+        → IsFarEnough strict arrivals result.answers.items result.lost }
 {
     let Answers { answers, lost } = reported;
     match (lost, closed) {
@@ -192,40 +229,93 @@ pub fn answers_when_closed(reported: Answers, closed: Result<(), Lost>) -> Answe
 }
 
 impl PrintedLine for Answer {
-    ghost use Rattle.canoffice_cli.specs.Answered.{answer_line};
+    ghost use Rattle.office_echo.specs.Lines.{answer_line};
 
     ghost line = { answer_line };
 
     fn add_to(&self, text: &mut String) -> Result<(), AllocError> {
-        match self {
-            Answer::Reply(reply) => write!(text, "{reply}\n"),
-            Answer::KeyReused => write!(text, "refused 70 KeyReused\n"),
-        }
+        add_answer(text, self)
     }
 }
 
 /// The report that a call was lost, and nothing else.
 pub(crate) fn lost_report(alloc: Global, lost: Lost) -> Result<Report, AllocError>
-    ensures { IfOk result (λ report. outcome_of report ≡ failure (lost_line lost)) }
+    ensures { IfOk result (λ report. outcome_of report ≡ lost_outcome lost) }
 {
     let text = format!(in alloc; "{lost}\n")?;
     Ok(Report::of_errors(alloc, text.into_bytes(), Status::Failed))
 }
 
+/// The line of each answer, or the echo of each of the first arrivals with it, put into the room in the place of what it
+/// has.
+fn printed(
+    echo: bool,
+    arrivals: &[Arrival],
+    answers: &[Answer],
+    lines: String,
+    echoes: Vec<u8>,
+) -> Result<Vec<u8>, AllocError>
+    ensures { IfOk result (λ text. text.items ≡ printed echo arrivals.now answers.now) }
+{
+    let mut lines = lines;
+    lines.clear();
+    if echo {
+        let mut echoes = echoes;
+        echoes.clear();
+        add_echoes(&mut echoes, &mut lines, arrivals, answers)?;
+        Ok(echoes)
+    } else {
+        add_lines(&mut lines, answers)?;
+        Ok(lines.into_bytes())
+    }
+}
+
+/// Whether one of the answers is a refusal.
+fn is_some_refused(answers: &[Answer]) -> bool
+    ensures { result ≡ list_any is_refused answers.now }
+{
+    answers.iter().any(|answer| is_refused(answer))
+}
+
+/// The status where nothing was lost: where it is strict, a refusal is a fault.
+fn status_of(strict: bool, answers: &[Answer]) -> Status
+    ensures { result ≡ status_of strict answers.now }
+{
+    if !strict {
+        return Status::Success;
+    }
+    if is_some_refused(answers) {
+        Status::FaultFound
+    } else {
+        Status::Success
+    }
+}
+
 impl Answers {
-    /// The line of each answer, and then why the next arrival was lost, if it was. They are put into the room, in the
-    /// place of what it has. The error is out of memory, which can be only if there is too little room.
-    pub(crate) fn report(&self, alloc: Global, room: Room) -> Result<Report, AllocError>
-        ensures { IfOk result (λ report. outcome_of report ≡ answers_outcome self.now.answers.items
-            self.now.lost) }
+    /// What is printed of each answer to the arrivals, and then why the next one was lost, if it was. It is put into
+    /// the room, in the place of what it has. The error is out of memory, which can be only if there is too little
+    /// room.
+    pub(crate) fn report(
+        &self,
+        alloc: Global,
+        arrivals: &[Arrival],
+        manner: Manner,
+        room: Room,
+    ) -> Result<Report, AllocError>
+        ensures { IfOk result (λ report. outcome_of report
+            ≡ answers_outcome manner arrivals.now self.now.answers.items self.now.lost) }
     {
-        let Room { answers, loss } = room;
-        let mut output = answers;
-        output.clear();
-        add_lines(&mut output, &self.answers)?;
-        let output = output.into_bytes();
+        let Room {
+            lines,
+            echoes,
+            loss,
+        } = room;
+        let output = printed(manner.echo, arrivals, &self.answers, lines, echoes)?;
         match self.lost {
-            None => Ok(Report::of_output(alloc, output, Status::Success)),
+            None => {
+                let status = status_of(manner.strict, &self.answers);
+                Ok(Report::of_output(alloc, output, status))
+            }
             Some(lost) => {
                 let mut errors = loss;
                 errors.clear();

@@ -8,6 +8,7 @@ ghost use Rattle.canoffice_cli.specs.Outcome.{outcome_of};
 use crate::answering::answer_in_memory;
 use crate::databases::Databases;
 use crate::files::FileSource;
+use crate::manner::Manner;
 use crate::progress::Progress;
 use crate::report::{Report, bad_line, cannot_read};
 use crate::room::Room;
@@ -31,19 +32,19 @@ fn apply_in_memory<F: FileSource, W: Write>(
     alloc: Global,
     script: &[u8],
     files: &F,
+    manner: Manner,
     progress: &mut Progress<W>,
 ) -> Result<Report, AllocError>
-    ensures { IfOk result (λ report. IsScriptOutcome (F.held files.now) Dash.LineNumber InMemory ⊤
-        script.now
-        (outcome_of report)) }
+    ensures { IfOk result (λ report. IsScriptOutcome (F.held files.now) Dash.LineNumber manner
+        InMemory ⊤ script.now (outcome_of report)) }
 {
     match arrivals_of(alloc, script, Dash::LineNumber, files) {
         Ok(arrivals) => {
             // Room first, so that no answer is lost because memory for its line runs out.
-            let room = Room::for_answers(alloc, &arrivals)?;
-            let reported = answer_in_memory(alloc, script, &arrivals, progress);
+            let room = Room::for_answers(alloc, &arrivals, manner.echo)?;
+            let reported = answer_in_memory(alloc, script, &arrivals, manner.strict, progress);
             progress.clear();
-            reported?.report(alloc, room)
+            reported?.report(alloc, &arrivals, manner, room)
         }
         Err(fault) => amiss_report(alloc, fault),
     }
@@ -54,21 +55,29 @@ fn apply_in_database<F: FileSource, D: Databases, W: Write>(
     alloc: Global,
     script: &[u8],
     files: &F,
+    manner: Manner,
     databases: &mut D,
     path: &str,
     progress: &mut Progress<W>,
 ) -> Result<Report, AllocError>
-    ensures { IfOk result (λ report. IsScriptOutcome (F.held files.now) Dash.Wrong
+    ensures { IfOk result (λ report. IsScriptOutcome (F.held files.now) Dash.Wrong manner
         (InDatabase (D.known databases.old) (D.known databases.new) path.now)
         (AreKept (D.known databases.old) (D.known databases.new)) script.now (outcome_of report)) }
 {
     match arrivals_of(alloc, script, Dash::Wrong, files) {
         Ok(arrivals) => {
             // Room first, so that no answer is lost because memory for its line runs out.
-            let room = Room::for_answers(alloc, &arrivals)?;
-            let reported = databases.answer(alloc, path, script, &arrivals, progress);
+            let room = Room::for_answers(alloc, &arrivals, manner.echo)?;
+            let reported = databases.answer(
+                alloc,
+                path,
+                script,
+                &arrivals,
+                manner.strict,
+                progress,
+            );
             progress.clear();
-            reported?.report(alloc, room)
+            reported?.report(alloc, &arrivals, manner, room)
         }
         Err(fault) => amiss_report(alloc, fault),
     }
@@ -78,23 +87,26 @@ fn apply_in_database<F: FileSource, D: Databases, W: Write>(
 ///
 /// The whole script is read first, and each file that it names, line by line: if a line is wrong, the number of the
 /// first one is reported, and if a file can't be read, the path of the first one; then nothing is done. Else each
-/// arrival is answered in turn, up to the first that is lost, and the answers are printed, with the status `Success`
-/// whatever was refused; after the last one `lost` and its number if one was lost, with the status `Failed`. The error
-/// is out of memory for the report. Room for the lines of all answers is taken before the first arrival.
+/// arrival is answered in turn, up to the first that is lost, or in the strict manner up to the first that is refused,
+/// and the answers are printed, with `echo` each after what was requested. The status is `Success` whatever was refused,
+/// but `FaultFound` where the strict manner stopped; after the last one `lost` and its number if one was lost, with the
+/// status `Failed`. The error is out of memory for the report. Room for the lines of all answers is taken before the
+/// first arrival.
 pub fn apply_script<F: FileSource, D: Databases, W: Write>(
     alloc: Global,
     script: &[u8],
     files: &F,
     database: Option<&str>,
+    manner: Manner,
     databases: &mut D,
     progress: &mut Progress<W>,
 ) -> Result<Report, AllocError>
     ensures { IfOk result (λ report. IsApplyOutcome (F.held files.now)
-        (option_map (λ path. path.now) database.entry)
+        (option_map (λ path. path.now) database.entry) manner
         (D.known databases.old) (D.known databases.new) script.now (outcome_of report)) }
 {
     match database {
-        None => apply_in_memory(alloc, script, files, progress),
-        Some(path) => apply_in_database(alloc, script, files, databases, path, progress),
+        None => apply_in_memory(alloc, script, files, manner, progress),
+        Some(path) => apply_in_database(alloc, script, files, manner, databases, path, progress),
     }
 }

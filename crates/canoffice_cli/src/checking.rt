@@ -1,7 +1,7 @@
 //! Checking DBC texts.
 ghost use Rattle.std.specs.Prelude.{◌≡◌, IfOk, map, string_bytes};
 ghost use Rattle.canoffice_cli.specs.Outcome.{outcome_of};
-ghost use Rattle.canoffice_cli.specs.Checked.{clear_line, fault_line, fault_output, passed_lines, unclear_line};
+ghost use Rattle.canoffice_cli.specs.Checked.{clear_line, fault_line, passed_lines, unclear_line};
 ghost use Rattle.canoffice_cli.specs.Checked.{IsCheckOutcome, IsVerdict};
 ghost use Rattle.dbc_read.specs.Passed.{start_and_keyword};
 

@@ -2,10 +2,10 @@
 ghost use Rattle.std.specs.Prelude.{◌≡◌, IfOk, codes, false};
 ghost use Rattle.clap.specs.Words.{app_of, new_app, rule_of};
 ghost use Rattle.clap.specs.declared.builder.command.Command.TheViews.{out-Command as fields_of};
-ghost use Rattle.canoffice_cli.specs.CommandLine.{apply_app, canoffice_app, chart_app, check_app, explain_flag};
+ghost use Rattle.canoffice_cli.specs.CommandLine.{apply_app, canoffice_app, chart_app, check_app, explain_flag, flag};
 ghost use Rattle.canoffice_cli.specs.CommandLine.{export_app, format_app, migrate_app, option_word, optional_word};
 ghost use Rattle.canoffice_cli.specs.CommandLine.{requests_app, required_option, required_word, required_words};
-ghost use Rattle.canoffice_cli.specs.CommandLine.{serve_app, show_app, table_app, with_place, with_sought};
+ghost use Rattle.canoffice_cli.specs.CommandLine.{serve_app, show_app, table_app, with_manner, with_place, with_sought};
 ghost use Rattle.canoffice_cli.specs.CommandLine.{wants_subcommand, with_version};
 
 use clap::{Arg, ArgAction, Command};
@@ -60,18 +60,39 @@ fn required_option<'a>(alloc: Global, id: &'a str, value: &'a str, help: &'a str
     option(alloc, id, value, help).required(true)
 }
 
+/// A flag `--id`.
+fn flag<'a>(alloc: Global, id: &'a str, help: &'a str) -> Arg<'a>
+    ensures rule { rule_of result ≡ flag id.entry.now }
+    ensures local { result.global ≡ false }
+{
+    Arg::new(alloc, id)
+        .long(id)
+        .action(ArgAction::SetTrue)
+        .help(help)
+}
+
 /// The flag `--explain`.
 fn explain<'a>(alloc: Global, help: &'a str) -> Arg<'a>
     ensures rule { rule_of result ≡ explain_flag }
     ensures local { result.global ≡ false }
 {
-    Arg::new(alloc, "explain")
-        .long("explain")
-        .action(ArgAction::SetTrue)
-        .help(help)
+    flag(alloc, "explain", help)
 }
 
-/// `apply [--db FILE] [--explain] SCRIPT`
+/// The subcommand with `--strict` and `--echo`, the manners in which a script is applied.
+fn with_manner<'a>(alloc: Global, command: Command<'a>) -> Result<Command<'a>, AllocError>
+    requires { (fields_of command).has_globals ≡ false }
+    ensures app { IfOk result (λ c. app_of c ≡ with_manner (app_of command.entry)) }
+    ensures local { IfOk result (λ c. (fields_of c).has_globals ≡ false) }
+{
+    let strict = "Stops after the first refusal, with status 1";
+    let echo = "Prints before each reply its key, its command and what that names";
+    let with_strict = command.arg(flag(alloc, "strict", strict))?;
+    let with_both = with_strict.arg(flag(alloc, "echo", echo))?;
+    Ok(with_both)
+}
+
+/// `apply [--db FILE] [--explain] [--strict] [--echo] SCRIPT`
 fn apply_command<'a>(alloc: Global) -> Result<Command<'a>, AllocError>
     ensures app { IfOk result (λ c. app_of c ≡ apply_app) }
     ensures local { IfOk result (λ c. (fields_of c).has_globals ≡ false) }
@@ -81,7 +102,8 @@ fn apply_command<'a>(alloc: Global) -> Result<Command<'a>, AllocError>
     let with_database = named.arg(option(alloc, "db", "FILE", database))?;
     let wrong = "Says of a wrong line also which field is wrong, and how";
     let with_explain = with_database.arg(explain(alloc, wrong))?;
-    let apply = with_explain.arg(required_argument(alloc, "SCRIPT", SCRIPT))?;
+    let with_manners = with_manner(alloc, with_explain)?;
+    let apply = with_manners.arg(required_argument(alloc, "SCRIPT", SCRIPT))?;
     Ok(apply)
 }
 

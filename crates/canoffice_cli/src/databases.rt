@@ -1,8 +1,8 @@
 //! Databases by their paths.
-ghost use Rattle.std.specs.Prelude.{◌≡◌, ◌≤◌, length, None, IfOk};
+ghost use Rattle.std.specs.Prelude.{IfOk};
 ghost use Rattle.std.specs.Option.{option_map};
 ghost use Rattle.std.specs.Result.{result_map_both};
-ghost use Rattle.canoffice_cli.specs.Answered.{InDatabase, answered_with};
+ghost use Rattle.canoffice_cli.specs.Answered.{InDatabase, IsFarEnough, answered_with};
 ghost use Rattle.canoffice_cli.specs.Databases.{Databases as Known};
 ghost use Rattle.canoffice_cli.specs.Looked.{IsLookedUp};
 ghost use Rattle.canoffice_cli.specs.Migrated.{IsMigrated};
@@ -20,33 +20,33 @@ use std::alloc::{AllocError, Global};
 use std::io::Write;
 use store::Lost;
 
-/// Databases that are found by their paths, each with the tables of an office. One is made where there is none, unless
-/// it is only looked at.
+/// Databases that are found by their paths, each with the tables of an office. One that is absent is made, unless it is
+/// only looked at.
 pub trait Databases {
     /// What is known of them.
     ghost known: { Self → Known };
 
-    /// Answers the arrivals in turn by the office in the database at the path, up to the first that is lost. It is
-    /// shown how far the script of the arrivals is. Opening the database, or closing it after the last answer, may be
-    /// lost too. The error is out of memory for the answers: then nothing arrived.
+    /// Answers the arrivals in turn by the office in the database at the path, up to the first that is lost, and where
+    /// it is strict, up to the first that is refused. It is shown how far the script of the arrivals is. Opening the
+    /// database, or closing it after the last answer, may be lost too. The error is out of memory for the answers: then
+    /// nothing arrived.
     fn answer<W: Write>(
         &mut self,
         alloc: Global,
         path: &str,
         script: &[u8],
         arrivals: &[Arrival],
+        strict: bool,
         progress: &mut Progress<W>,
     ) -> Result<Answers, AllocError>
-        ensures some { IfOk result
-            (λ reported. length reported.answers.items ≤ length arrivals.now) }
-        ensures all { IfOk result (λ reported. reported.lost ≡ None
-            → length reported.answers.items ≡ length arrivals.now) }
+        ensures far { IfOk result
+            (λ reported. IsFarEnough strict arrivals.now reported.answers.items reported.lost) }
         ensures goes_on { IfOk result
             (λ reported. InDatabase (known self.old) (known self.new) path.now
             (answered_with arrivals.now reported.answers.items) reported.lost) };
 
-    /// What the office in the database at the path shows for the look; nothing where there is none. The error is why
-    /// that was lost.
+    /// What the office in the database at the path shows for the look; nothing where the database is absent. The error
+    /// is why that was lost.
     fn look(&mut self, alloc: Global, path: &str, look: &Look) -> Result<Option<Vec<u8>>, Lost>
         ensures { IsLookedUp (known self.old) (known self.new) path.now look.now
             (result_map_both (option_map (λ text. text.items)) (λ lost. lost) result) };

@@ -47,7 +47,7 @@ pub(crate) fn stated<F: FileSource>(
     match task {
         FileTask::Check => explained(alloc, source),
         FileTask::Format => stated_of_format(alloc, source),
-        FileTask::Apply(database) => {
+        FileTask::Apply(database, _) => {
             let dash = dash_of(database);
             office_advice::explained(alloc, source.name, source.text, dash, files)
         }

@@ -20,8 +20,9 @@ fn sheet_requested(net: NetName, number: u32) -> Look
 }
 
 /// Prints the release of the network with this number, or for 0 its live sheet, as the office in the database of the
-/// path has it, or that there is no such sheet. There is none where NET has no network name's form, and the database
-/// isn't opened then; nor where there is no database, and none is made then. The error is out of memory for the report.
+/// path has it, or that there is no such sheet. There is no such sheet where NET hasn't the form of a network's name:
+/// then the database isn't opened; nor where the database is absent: then it isn't made. The error is out of memory for
+/// the report.
 pub fn export_report<D: Databases>(
     alloc: Global,
     databases: &mut D,

@@ -1,7 +1,6 @@
 //! Jobs on the bytes of one file, or of standard input.
 ghost use Rattle.std.specs.Prelude.{◌≡◌, IfOk};
 ghost use Rattle.office_script.specs.declared.files.PathFault.TheVariants.{Unreadable};
-ghost use Rattle.canoffice_cli.specs.Databases.{AreKept};
 ghost use Rattle.canoffice_cli.specs.Outcome.{outcome_of, unreadable};
 ghost use Rattle.canoffice_cli.specs.Performance.{IsTaskOutcome, IsFileOutcome, IsOfBytes};
 
@@ -11,6 +10,7 @@ use crate::databases::Databases;
 use crate::explaining::stated;
 use crate::files::{FileSource, PathFault, StandardInput, bytes_at};
 use crate::formatting::format_report;
+use crate::manner::Manner;
 use crate::progress::Progress;
 use crate::report::{Report, cannot_read};
 use crate::tabling::table_report;
@@ -21,8 +21,8 @@ use std::io::Write;
 /// What is done with the bytes of a file.
 #[derive(Clone, Copy)]
 pub(crate) enum FileTask<'a> {
-    /// They are a script, which is applied to the office in the database of this path, or to one in memory.
-    Apply(Option<&'a str>),
+    /// They are a script, which is applied so to the office in the database of this path, or to one in memory.
+    Apply(Option<&'a str>, Manner),
     /// They are DBC text, which is checked.
     Check,
     /// They are DBC text, which is printed in its canonical form.
@@ -124,8 +124,8 @@ fn task_report<F: FileSource, D: Databases, W: Write>(
         (D.known databases.new) task.entry bytes.now (outcome_of report)) }
 {
     match task {
-        FileTask::Apply(database) => {
-            apply_script(alloc, bytes, files, database, databases, progress)
+        FileTask::Apply(database, manner) => {
+            apply_script(alloc, bytes, files, database, manner, databases, progress)
         }
         FileTask::Check => check_report(alloc, bytes),
         FileTask::Format => format_report(alloc, bytes),

@@ -2,9 +2,10 @@
 ghost use Rattle.std.specs.Prelude.{◌≡◌, IfOk, IfErr, map, codes};
 ghost use Rattle.clap.specs.Words.{found_of, kind_of, rows_of, subcommand_rows_of};
 ghost use Rattle.canoffice_cli.specs.CommandLine.{HasSome, IsEntered, IsJob, IsJobIn, IsJobOf, IsFaultOfKind};
-ghost use Rattle.canoffice_cli.specs.CommandLine.{IsJobFault, IsValueFault, IsValueFaultIn, is_set};
+ghost use Rattle.canoffice_cli.specs.CommandLine.{IsJobFault, IsValueFault, IsValueFaultIn, is_set, manner_in};
 
 use crate::command_line::canoffice_command;
+use crate::manner::Manner;
 use crate::numbers::{Number, count_given, length_given, port_given, release_number};
 use crate::place::{LookCommand, Place, PlaceFault, place_given};
 use canoffice_looks::{What, WhatFault, shown_by};
@@ -23,6 +24,8 @@ pub enum Job<'a> {
         script: &'a str,
         /// Whether a wrong line is explained.
         explain: bool,
+        /// How it is applied.
+        manner: Manner,
     },
     /// Print the chart of the signals that the words describe, in a message of this length.
     Chart {
@@ -275,7 +278,16 @@ fn is_set(found: &ArgMatches, id: &str) -> bool
     }
 }
 
-/// `apply [--db FILE] [--explain] SCRIPT`
+/// How a script is applied, by the flags.
+fn manner_given(found: &ArgMatches) -> Manner
+    ensures { result ≡ manner_in (rows_of (found_of found.now)) }
+{
+    let strict = is_set(found, "strict");
+    let echo = is_set(found, "echo");
+    Manner { strict, echo }
+}
+
+/// `apply [--db FILE] [--explain] [--strict] [--echo] SCRIPT`
 #[tactic(auto, using(crate::proofs::CommandLine::value_in_rows, crate::proofs::CommandLine::optional_in_rows, crate::proofs::CommandLine::text_is_given))]
 fn apply_job<'a>(found: &ArgMatches<'a>) -> Job<'a>
     requires { HasSome (rows_of (found_of found.now)) (codes "SCRIPT") }
@@ -284,10 +296,12 @@ fn apply_job<'a>(found: &ArgMatches<'a>) -> Job<'a>
     let database = found.get_str("db");
     let script = found.get_str("SCRIPT").unwrap();
     let explain = is_set(found, "explain");
+    let manner = manner_given(found);
     Job::Apply {
         database,
         script,
         explain,
+        manner,
     }
 }
 

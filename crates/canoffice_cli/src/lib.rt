@@ -8,7 +8,7 @@
 //! - `apply`, `looking`, `exporting`, `migrating`, `serving`, `charting`, `checking`, `formatting` and `tabling` do the
 //!   jobs. What the words of `show` and `requests` look up is in the crate `canoffice_looks`.
 //!   `answering` answers the arrivals of a script, by an office in memory or on a connection to a database, `progress`
-//!   shows how far it is, and `room` is taken before for what is printed after.
+//!   shows how far it is, and `room` is taken before for what is printed after. `manner` is how a script is applied.
 //! - `file_jobs` does the jobs that read a file, and `explaining` says what `--explain` adds to them.
 //! - `report` is the result of a run: bytes for standard output and standard error, and a `Status`.
 //! - `delivery` writes a report to the two streams.
@@ -34,6 +34,7 @@ mod formatting;
 mod job;
 mod lines;
 mod looking;
+mod manner;
 mod migrating;
 mod numbers;
 mod place;
@@ -58,6 +59,7 @@ pub use files::{
 pub use formatting::format_report;
 pub use job::{Job, JobFault, job_of, not_utf8_fault};
 pub use looking::{look_on, requests_report, show_report};
+pub use manner::Manner;
 pub use migrating::{migrate_on, migrate_report};
 pub use place::Place;
 pub use program::{fault_report, perform, report_of};

@@ -19,8 +19,8 @@ use std::io::Write;
 use store::{Lost, StoredOffice};
 
 /// Makes the tables on the connection, which is given back, those of this version: they hold the history that they
-/// held. New ones are made where there are none. It is shown which message is carried over. Where it is lost, they are
-/// as before.
+/// held. New ones are made where it has no tables. It is shown which message is carried over. Where it is lost, they
+/// are as before.
 pub fn migrate_on<S: Alter + Drop, W: Write>(
     alloc: Global,
     conn: Connection<S>,

@@ -101,8 +101,9 @@ pub fn report_of<F: FileSource + StandardInput, D: Databases, K: Desks, W: Write
             database,
             script,
             explain,
+            manner,
         } => {
-            let task = FileTask::Apply(*database);
+            let task = FileTask::Apply(*database, *manner);
             let job = FileJob::new(task, script, *explain);
             file_report(alloc, job, files, databases, progress)
         }

@@ -1,5 +1,4 @@
 //! How far a script is, or a database that is carried over, for whoever waits for it.
-ghost use Rattle.std.specs.Prelude.{◌≤◌, length};
 
 use dbc_words::Name;
 use office_script::{first_line, says_nothing};

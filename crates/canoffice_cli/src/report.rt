@@ -1,5 +1,5 @@
 //! The result of a run: bytes for the program's two streams, and its exit status.
-ghost use Rattle.std.specs.Prelude.{◌≡◌, [], IfOk, codes, string_bytes};
+ghost use Rattle.std.specs.Prelude.{◌≡◌, [], IfOk, string_bytes};
 ghost use Rattle.canoffice_cli.specs.Outcome.{and_errors, code_of, outcome_of, success, wrong_input, unreadable};
 ghost use Rattle.canoffice_cli.specs.Outcome.{wrong_line, wrong_word};
 
@@ -11,7 +11,8 @@ use std::alloc::{AllocError, Global};
 pub enum Status {
     /// All went well: 0.
     Success,
-    /// A fault was found in what was checked, formatted or charted, or what was looked up isn't there: 1.
+    /// A fault was found in what was checked, formatted or charted, what was looked up isn't there, or a script stopped
+    /// at a refusal: 1.
     FaultFound,
     /// The command line or a script is wrong: 2.
     WrongInput,

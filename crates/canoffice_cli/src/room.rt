@@ -1,8 +1,11 @@
 //! Room for what is printed of the answers to a script.
-ghost use Rattle.std.specs.Prelude.{◌≡◌, ◌≤◌, IfOk, IfSome};
+ghost use Rattle.std.specs.Prelude.{◌≡◌, ◌≤◌, length, IfOk, IfSome, IsTrue};
 ghost use Rattle.std.specs.String.{string_capacity};
+ghost use Rattle.std.specs.Vec.{vec_capacity};
+ghost use Rattle.office_echo.specs.Lines.{longest_echoes};
 ghost use Rattle.canoffice_cli.specs.LongestLines.{AnswersFit, longest_line, longest_loss, room_for};
 
+use office_echo::add_longest_echoes;
 use office_history::Arrival;
 use office_types::Task;
 use std::alloc::{AllocError, Global};
@@ -22,12 +25,14 @@ const LONGEST_LATER_PART: usize = 20;
 /// The length of the line of a loss, such as `lost 71`, with its newline.
 const LOSS: usize = 8;
 
-/// Two texts, of which one has room for the lines of answers, and the other for that of a loss.
+/// Texts with room for what is printed.
 #[derive(Drop)]
 pub(crate) struct Room {
-    /// For the answers.
-    pub answers: String,
-    /// For the loss.
+    /// For the lines of the answers.
+    pub lines: String,
+    /// For their echoes; no room where none are printed.
+    pub echoes: Vec<u8>,
+    /// For the line of a loss.
     pub loss: String,
 }
 
@@ -58,23 +63,37 @@ fn room_for(arrivals: &[Arrival]) -> Option<usize>
 }
 
 impl Room {
-    /// Room for the longest lines that can answer the arrivals, and for that of a loss. The error is out of memory.
-    pub(crate) fn for_answers(alloc: Global, arrivals: &[Arrival]) -> Result<Room, AllocError>
-        ensures answers { IfOk result
-            (λ room. room_for arrivals.now ≤ string_capacity room.answers) }
+    /// Room for the longest lines that can answer the arrivals, with `echo` for their longest echoes, and for the line of
+    /// a loss. The error is out of memory.
+    pub(crate) fn for_answers(
+        alloc: Global,
+        arrivals: &[Arrival],
+        echo: bool,
+    ) -> Result<Room, AllocError>
+        ensures lines { IfOk result (λ room. room_for arrivals.now ≤ string_capacity room.lines) }
+        ensures echoes { IfOk result (λ room. IsTrue echo
+            → length (longest_echoes arrivals.now) ≤ vec_capacity room.echoes) }
         ensures loss { IfOk result (λ room. longest_loss ≤ string_capacity room.loss) }
     {
         let Some(bytes) = room_for(arrivals) else {
             return Err(AllocError);
         };
         let loss = String::with_capacity(alloc, LOSS)?;
-        let answers = String::with_capacity(alloc, bytes)?;
-        Ok(Room { answers, loss })
+        let lines = String::with_capacity(alloc, bytes)?;
+        let mut echoes = Vec::new(alloc);
+        if echo {
+            add_longest_echoes(&mut echoes, arrivals)?;
+        }
+        Ok(Room {
+            lines,
+            echoes,
+            loss,
+        })
     }
 }
 
 /// The lines of answers to the first of the arrivals, each of which is one that its task can have, are no longer than
-/// the room for all of them.
+/// the room for all of them; nor are their echoes.
 pub fn answers_fit()
     ensures { AnswersFit }
 {}

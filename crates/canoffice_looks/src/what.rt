@@ -95,7 +95,7 @@ impl WhatFault<'_> {
         match self {
             WhatFault::Unknown(word) => {
                 let all = "state, blocks, messages, message, held, releases, nodes, spns and who";
-                format!(in alloc; "invalid value '{word}' for '[WHAT]': it is none of {all}")
+                format!(in alloc; "invalid value '{word}' for '[WHAT]': not one of {all}")
             }
             WhatFault::NoName(what) => {
                 let what = what.word();

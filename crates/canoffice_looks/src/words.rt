@@ -88,8 +88,8 @@ fn net_look(alloc: Global, what: What, name: Option<&str>) -> Result<Option<NetL
 
 /// What `show` looks up: of the network that the first word names what comes next, by the name after that, if there
 /// is one; without a network the list of networks. `None` where a word hasn't the form of what it names: the network
-/// and a team 1 to 32 bytes of `a` to `z`, `0` to `9` and `-`, a message and a node a name of a DBC file, and what `who`
-/// looks for a word of [`Sought`]. The error is out of memory.
+/// and a team 1 to 32 bytes of `a` to `z`, `0` to `9` and `-`, a message and a node a name of a DBC file, and what
+/// `who` looks for a word of [`Sought`]. The error is out of memory.
 pub fn show_look(
     alloc: Global,
     net: Option<&str>,

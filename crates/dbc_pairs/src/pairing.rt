@@ -34,7 +34,7 @@ fn renumbered<'a>(sheet: &'a Sheet, other: &Sheet, message: &Message) -> Option<
 }
 
 /// The partner in the sheet of a message of the other sheet: the message of its DBC number; else, where neither number
-/// is in the other sheet, the one of its name. `None` where there is none. Takes no memory.
+/// is in the other sheet, the one of its name. `None` where it has no partner. Takes no memory.
 pub fn partner<'a>(sheet: &'a Sheet, other: &Sheet, message: &Message) -> Option<&'a Message>
     ensures { option_copied result
         ≡ partner sheet.now.messages other.now.messages message.now }

@@ -1,12 +1,10 @@
 -- What is read at the target of a look is that look.
-use Rattle.std.proofs.Common.{◌≡◌, ◌≤◌, ◌<◌, ◌^◌, ◌&&◌, ℕ, Bool, true, List, [], ◌∷◌, ◌++◌, length, Option, Some, None}
+use Rattle.std.proofs.Common.{◌≡◌, ◌≤◌, ◌<◌, ◌^◌, ◌&&◌, ℕ, true, List, ◌∷◌, ◌++◌, length, Some, None}
 use Rattle.std.proofs.Common.{codes, refl, arith, nat_le}
 use Rattle.std.specs.Fmt.{decimal}
 use Rattle.std.specs.List.{list_all}
 use Rattle.std.proofs.lemmas.Bool.Decides.{nat_tests}
 use Rattle.httparse.specs.Grammar.{RequestHead}
-use Rattle.httparse.specs.Spans.{name_and_value}
-use Rattle.dbc_words.specs.Name.{IsName}
 use Rattle.office_types.specs.PlainName.{IsPlainName}
 use Rattle.office_types.specs.declared.look.Look.{Look}
 use Rattle.office_types.specs.declared.look.Look.TheVariants as look
@@ -15,7 +13,7 @@ use Rattle.office_types.specs.declared.look.NetLook.TheVariants as of_net
 use Rattle.office_rules.specs.Reviewing.{release_limit}
 use Rattle.desk_head.specs.Asked.{IsLook, IsNetLook, net_showing, net_target, part_of, showing_of, target_of, word_of}
 use Rattle.desk_head.specs.Demand.{demand_of}
-use Rattle.desk_head.specs.Target.{first_parameter, second_parameter}
+use Rattle.desk_head.specs.Target.{second_parameter}
 use Rattle.desk_head.proofs.Leading.{targets_lead_there}
 use Rattle.desk_head.proofs.Parameters.{first_alone, first_before, second_alone, second_before}
 use Rattle.desk_head.proofs.TargetParts.{IsPart, decimal_part, is_part_byte, name_part, plain_part, word_part}

@@ -1,6 +1,7 @@
 -- The word that looks for something is read as that.
-use Rattle.std.proofs.Common.{◌≡◌, ◌≤◌, ◌<◌, ◌^◌, ◌*◌, ◌+◌, ◌∙◌, ℕ, zero, suc, Bool, true, false, ◌&&◌, ◌==◌, not, nat_le}
-use Rattle.std.proofs.Common.{List, [], ◌∷◌, ◌++◌, length, take, Option, Some, None, codes, refl, sym, arith, nat_lt, nat_eq}
+use Rattle.std.proofs.Common.{◌≡◌, ◌≤◌, ◌<◌, ◌^◌, ◌*◌, ◌+◌, ◌∙◌, ℕ, Bool, true, false, ◌&&◌, ◌==◌, not, nat_le}
+use Rattle.std.proofs.Common.{List, [], ◌∷◌, ◌++◌, length, take, Option, Some}
+use Rattle.std.proofs.Common.{None, codes, refl, sym, arith, nat_lt, nat_eq}
 use Rattle.std.specs.Char.{digit_value}
 use Rattle.std.specs.Fmt.{decimal, digits}
 use Rattle.std.specs.List.{list_all}
@@ -10,11 +11,10 @@ use Rattle.std.specs.Prelude.{if◌then◌else◌}
 use Rattle.std.proofs.lemmas.Bool.{and_parts, false≢true}
 use Rattle.std.proofs.lemmas.Bool.Decides.{nat_tests}
 use Rattle.std.proofs.lemmas.Fmt.{decimal_is_IsNumeral, digits_is_IsNumeral, length-decimal-le}
-use Rattle.base.specs.Split.{split_once}
-use Rattle.base.specs.WholeNumber.{is_numeral, whole_of}
+use Rattle.base.specs.WholeNumber.{whole_of}
 use Rattle.base.proofs.WholeNumbers.{whole_of-is}
 use Rattle.dbc_words.specs.Name.{IsName, continues_identifier, starts_identifier}
-use Rattle.office_types.specs.Sought.{hexadecimal_after, hexadecimal_of, named_sought, plain_sought, short_decimal}
+use Rattle.office_types.specs.Sought.{hexadecimal_after, plain_sought, short_decimal}
 use Rattle.office_types.specs.Sought.{sought_of}
 use Rattle.office_types.specs.declared.sought.Sought.{Sought}
 use Rattle.office_types.specs.declared.sought.Sought.TheVariants as sought

@@ -1,5 +1,4 @@
 //! Names, keys and numbers in a head.
-ghost use Rattle.std.specs.Prelude.{◌≡◌};
 ghost use Rattle.office_fields.specs.Reading.{ReadsField};
 ghost use Rattle.office_fields.specs.Value.{name_of, plain_name_of};
 ghost use Rattle.office_types.specs.Sought.{sought_of};

@@ -21,24 +21,64 @@ use Rattle.desk_client.proofs.ReplyTexts.{IsReplyStatus, comes_back}
 
 ok : IsReplyStatus 200
 unfolding digits
-ok = record { three = refl; small = omega arith; code = refl; phrase = AllPass-from_list_all is_value_byte (phrase_of 200) refl }
+ok = record {
+  three = refl;
+  small = omega arith;
+  code = refl;
+  phrase = AllPass-from_list_all is_value_byte (phrase_of 200) refl;
+}
 
 missing : IsReplyStatus 404
 unfolding digits
-missing = record { three = refl; small = omega arith; code = refl; phrase = AllPass-from_list_all is_value_byte (phrase_of 404) refl }
+missing = record {
+  three = refl;
+  small = omega arith;
+  code = refl;
+  phrase = AllPass-from_list_all is_value_byte (phrase_of 404) refl;
+}
 
 conflict : IsReplyStatus 409
 unfolding digits
-conflict = record { three = refl; small = omega arith; code = refl; phrase = AllPass-from_list_all is_value_byte (phrase_of 409) refl }
+conflict = record {
+  three = refl;
+  small = omega arith;
+  code = refl;
+  phrase = AllPass-from_list_all is_value_byte (phrase_of 409) refl;
+}
 
 problem_is : (p : Problem) → IsReplyStatus (problem_status p)
 unfolding digits
-problem_is BadRequest = record { three = refl; small = omega arith; code = refl; phrase = AllPass-from_list_all is_value_byte (phrase_of 400) refl }
+problem_is BadRequest = record {
+  three = refl;
+  small = omega arith;
+  code = refl;
+  phrase = AllPass-from_list_all is_value_byte (phrase_of 400) refl;
+}
 problem_is NotFound = missing
-problem_is WrongMethod = record { three = refl; small = omega arith; code = refl; phrase = AllPass-from_list_all is_value_byte (phrase_of 405) refl }
-problem_is NoLength = record { three = refl; small = omega arith; code = refl; phrase = AllPass-from_list_all is_value_byte (phrase_of 411) refl }
-problem_is TooLarge = record { three = refl; small = omega arith; code = refl; phrase = AllPass-from_list_all is_value_byte (phrase_of 413) refl }
-problem_is TryAgain = record { three = refl; small = omega arith; code = refl; phrase = AllPass-from_list_all is_value_byte (phrase_of 503) refl }
+problem_is WrongMethod = record {
+  three = refl;
+  small = omega arith;
+  code = refl;
+  phrase = AllPass-from_list_all is_value_byte (phrase_of 405) refl;
+}
+problem_is NoLength = record {
+  three = refl;
+  small = omega arith;
+  code = refl;
+  phrase = AllPass-from_list_all is_value_byte (phrase_of 411) refl;
+}
+problem_is TooLarge = record {
+  three = refl;
+  small = omega arith;
+  code = refl;
+  phrase = AllPass-from_list_all is_value_byte (phrase_of 413) refl;
+}
+problem_is TryAgain = record {
+  three = refl;
+  small = omega arith;
+  code = refl;
+  phrase = AllPass-from_list_all is_value_byte (phrase_of 503) refl;
+}
 
 refusal_is : (r : Refusal) → IsReplyStatus (refusal_status r)
 refusal_is no.NoNet = missing

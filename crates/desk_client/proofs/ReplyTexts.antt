@@ -27,7 +27,7 @@ use Rattle.desk_client.specs.Replies.{ComesBack}
 use Rattle.desk_client.specs.Request.{header}
 use Rattle.desk_client.proofs.Heads.{is_field}
 
--- ---- a number behind a space
+-- ---- a number after a space
 
 digit_is : (c : ℕ) → digit_value c < 10 → is_ascii_digit c ≡ true
 digit_is c h = grind (arith, nat_tests)
@@ -116,7 +116,8 @@ size_field n of =
     is_field (codes "Content-Length") (32 ∷ decimal n) (omega arith)
     (passes is_token_byte (codes "Content-Length") refl)
     (All-cons (λ b. IsTrue (is_value_byte b)) 32 (decimal n) refl
-    (All-weaker (λ b. IsTrue (is_ascii_digit b)) (λ b. IsTrue (is_value_byte b)) digit_value_byte (decimal n) of.digits))
+    (All-weaker (λ b. IsTrue (is_ascii_digit b)) (λ b. IsTrue (is_value_byte b)) digit_value_byte
+    (decimal n) of.digits))
 
 close_field : IsField (header (codes "Connection") (codes " close"))
 unfolding is_token_byte

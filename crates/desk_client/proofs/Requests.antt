@@ -8,7 +8,8 @@ use Rattle.std.proofs.lemmas.List.Sums.{AllPass-from_list_all}
 use Rattle.std.proofs.lemmas.Str.{IsUtf8-from_ascii}
 use Rattle.std.specs.Char.{is_ascii_graphic}
 use Rattle.std.specs.List.{All, list_all}
-use Rattle.httparse.specs.Grammar.{AllPass, IsField, IsRequestHead, print_request, is_token_byte, is_uri_byte, is_value_byte}
+use Rattle.httparse.specs.Grammar.{AllPass, IsField, IsRequestHead, print_request}
+use Rattle.httparse.specs.Grammar.{is_token_byte, is_uri_byte, is_value_byte}
 use Rattle.desk_head.specs.Head.{HasHead, IsSmall}
 use Rattle.desk_client.proofs.Heads.{is_field}
 use Rattle.desk_client.specs.Limits.{target_limit}

@@ -1,10 +1,9 @@
 -- The target of a look can be asked for.
-use Rattle.std.proofs.Common.{◌≡◌, ◌≤◌, ◌+◌, ℕ, Bool, true, List, [], ◌∷◌, ◌++◌, length, Option, None, Some, IsTrue, codes}
+use Rattle.std.proofs.Common.{◌≡◌, ◌≤◌, ◌+◌, ℕ, true, List, ◌∷◌, ◌++◌, length, None, Some, IsTrue, codes}
 use Rattle.std.proofs.Common.{refl, arith, length-append}
 use Rattle.std.specs.Char.{is_ascii_graphic}
 use Rattle.std.specs.Fmt.{decimal}
 use Rattle.std.specs.List.{list_all}
-use Rattle.std.proofs.lemmas.Bool.{and_parts}
 use Rattle.std.proofs.lemmas.Bool.Decides.{nat_tests}
 use Rattle.std.proofs.lemmas.List.Folds.{list_all-append}
 use Rattle.office_types.specs.PlainName.{IsPlainName}
@@ -13,7 +12,8 @@ use Rattle.office_types.specs.declared.look.Look.TheVariants as look
 use Rattle.office_types.specs.declared.look.NetLook.{NetLook}
 use Rattle.office_types.specs.declared.look.NetLook.TheVariants as of_net
 use Rattle.desk_head.specs.Asked.{IsLook, IsNetLook, net_target, part_of, target_of, word_of}
-use Rattle.desk_head.proofs.TargetParts.{IsPart, all_weaker, decimal_part, is_part_byte, name_part, plain_part, word_part}
+use Rattle.desk_head.proofs.TargetParts.{IsPart, all_weaker, decimal_part, is_part_byte}
+use Rattle.desk_head.proofs.TargetParts.{name_part, plain_part, word_part}
 use Rattle.desk_client.specs.Request.{is_target}
 
 -- visible ASCII, of at most so many bytes
@@ -65,18 +65,23 @@ part_fits : (l : NetLook) → IsNetLook l → Fits 200 (part_of l)
 part_fits of_net.State h = alone (codes "/state") (omega arith) refl
 part_fits (of_net.Blocks None) h = alone (codes "/blocks") (omega arith) refl
 part_fits (of_net.Blocks (Some team)) h =
-    between (codes "/teams/") team (codes "/blocks") teams (plain_part team h) (a_word (codes "/blocks") (omega arith) refl)
+    between (codes "/teams/") team (codes "/blocks") teams (plain_part team h)
+    (a_word (codes "/blocks") (omega arith) refl)
 part_fits (of_net.Messages None) h = alone (codes "/messages") (omega arith) refl
 part_fits (of_net.Messages (Some team)) h =
-    between (codes "/teams/") team (codes "/messages") teams (plain_part team h) (a_word (codes "/messages") (omega arith) refl)
+    between (codes "/teams/") team (codes "/messages") teams (plain_part team h)
+    (a_word (codes "/messages") (omega arith) refl)
 part_fits (of_net.Message name) h =
-    between (codes "/messages/") name (codes "/signals") messages (name_part name h) (a_word (codes "/signals") (omega arith) refl)
+    between (codes "/messages/") name (codes "/signals") messages (name_part name h)
+    (a_word (codes "/signals") (omega arith) refl)
 part_fits of_net.Held h = alone (codes "/held") (omega arith) refl
 part_fits of_net.Releases h = alone (codes "/releases") (omega arith) refl
 part_fits of_net.Nodes h = alone (codes "/nodes") (omega arith) refl
-part_fits (of_net.Node name) h = after (codes "/nodes/") name (a_word (codes "/nodes/") (omega arith) refl) (name_part name h)
+part_fits (of_net.Node name) h =
+    after (codes "/nodes/") name (a_word (codes "/nodes/") (omega arith) refl) (name_part name h)
 part_fits of_net.Spns h = alone (codes "/spns") (omega arith) refl
-part_fits (of_net.Who wanted) h = after (codes "/who/") (word_of wanted) (a_word (codes "/who/") (omega arith) refl) (word_part wanted h)
+part_fits (of_net.Who wanted) h =
+    after (codes "/who/") (word_of wanted) (a_word (codes "/who/") (omega arith) refl) (word_part wanted h)
 
 -- ---- targets
 
@@ -92,7 +97,8 @@ of_one word part word_fits is =
 
 pub can_be_asked : (l : Look) → IsLook l → IsTrue (is_target (target_of l))
 can_be_asked look.Nets is = refl
-can_be_asked (look.Table net) is = of_one (codes "nets/") net (a_word (codes "/nets/") (omega arith) refl) (plain_part net is)
+can_be_asked (look.Table net) is =
+    of_one (codes "nets/") net (a_word (codes "/nets/") (omega arith) refl) (plain_part net is)
 can_be_asked (look.Live net) is = in_a_net net (codes "/live") is (alone (codes "/live") (omega arith) refl)
 can_be_asked (look.Release net n) is =
     in_a_net net (codes "/releases/" ++ decimal n) is.0
@@ -101,4 +107,5 @@ can_be_asked (look.Chart net message) is =
     in_a_net net (codes "/messages/" ++ message) is.0
     (after (codes "/messages/") message messages (name_part message is.1))
 can_be_asked (look.Net net l) is = in_a_net net (part_of l) is.0 (part_fits l is.1)
-can_be_asked (look.Requests team) is = of_one (codes "requests/") team (a_word (codes "/requests/") (omega arith) refl) (plain_part team is)
+can_be_asked (look.Requests team) is =
+    of_one (codes "requests/") team (a_word (codes "/requests/") (omega arith) refl) (plain_part team is)

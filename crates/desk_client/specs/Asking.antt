@@ -1,4 +1,4 @@
--- What becomes of the sink and the source that a desk is asked over.
+-- What becomes of the sink and the source through which something is requested of a desk.
 use Rattle.std.specs.Prelude.{◌≡◌, ◌⊎◌, ℕ, ◌+◌, ◌<◌, List, length, Option, IfSome, Result, Ok, Err}
 use Rattle.std.specs.Io.KnownBytes.{Appends, Consumes, IsAtEnd}
 use Rattle.desk_types.specs.Moved.{AppendsFront}

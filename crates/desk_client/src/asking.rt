@@ -43,8 +43,8 @@ fn exchange<W: Sink, R: Source>(
 /// Writes a GET of the target to the sink, reads the source to its end, and says what came. Whatever the source has,
 /// no more is read of it than the greatest response and one byte.
 ///
-/// `Write` if the sink failed: then nothing is read. `Read` if the source failed before its end: what came until then is
-/// lost. `Memory` if memory ran out, for the request, of which nothing is written then, or for what came.
+/// `Write` if the sink failed: then nothing is read. `Read` if the source failed before its end: what came until then
+/// is lost. `Memory` if memory ran out, for the request, of which nothing is written then, or for what came.
 pub fn asked<W: Sink, R: Source>(
     alloc: Global,
     sink: &mut W,

@@ -31,9 +31,9 @@ fn connection<R: Net<Stream = TcpStream>>(rt: &R, port: u16) -> io::Result<TcpSt
 /// Asks the desk at the port of 127.0.0.1 for a target, and says what came back, whatever it is. A connection is waited
 /// for 10 seconds, each read and write 90 seconds, and none begins later than 120 seconds after the connection.
 ///
-/// `Connect` if nothing takes a connection there, or its time can't be limited. `Connection` if the connection ended by a
-/// fault: `Write` and `Read` if a call of the socket failed or took too long, and `Memory` if memory ran out. No contract
-/// says when each comes, nor what a socket gives.
+/// `Connect` if nothing takes a connection there, or its time can't be limited. `Connection` if the connection ended by
+/// a fault: `Write` and `Read` if a call of the socket failed or took too long, and `Memory` if memory ran out. No
+/// contract says when each comes, nor what a socket gives.
 pub fn ask<R: Net<Stream = TcpStream> + Clock>(
     alloc: Global,
     rt: &R,

@@ -6,12 +6,12 @@
 //! bytes than are read. [`response_in`] says which of them bytes are; its contract holds for all bytes. [`request_for`]
 //! makes the bytes of the request, for a target that passes [`is_target`].
 //!
-//! The law [`replies_come_back`] says that each response that a desk writes is received as what it is. That a desk reads
-//! the target of a look as that look are laws of `desk_head` and `desk_call`.
+//! The law [`replies_come_back`] says that each response that a desk writes is received as what it is. That a desk
+//! reads the target of a look as that look are laws of `desk_head` and `desk_call`.
 //!
 //! The definitions are in `specs/`: `Request.antt` has what is sent, `Received.antt` what bytes are received as, by
-//! `httparse`'s grammar, `Asking.antt` what becomes of the sink and the source, `Replies.antt` the law, and `Limits.antt`
-//! the limits. No contract states the bytes of a socket.
+//! `httparse`'s grammar, `Asking.antt` what becomes of the sink and the source, `Replies.antt` the law, and
+//! `Limits.antt` the limits. No contract states the bytes of a socket.
 #![tactic(auto)]
 
 mod asking;

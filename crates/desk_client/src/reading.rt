@@ -1,5 +1,5 @@
 //! Reading all that comes back.
-ghost use Rattle.std.specs.Prelude.{◌≡◌, ◌+◌, ◌-◌, ◌<◌, ◌^◌, [], OnOk, vec_len};
+ghost use Rattle.std.specs.Prelude.{◌≡◌, ◌+◌, ◌-◌, ◌<◌, ◌^◌, [], OnOk};
 ghost use Rattle.desk_types.specs.Reading.{ReadsAtMost};
 ghost use Rattle.desk_client.specs.Asking.{GivesAll};
 ghost use Rattle.desk_client.specs.Limits.{response_limit};

@@ -38,8 +38,8 @@ pub enum Received {
     Whole(Response),
     /// The beginning of a response: its head doesn't end, or its body is shorter than its `Content-Length`.
     Cut,
-    /// No response of HTTP/1.0 or 1.1 that a desk gives: no head, more than 32 headers, a transfer coding, or not exactly
-    /// one `Content-Length` that is a whole number of 32 bits.
+    /// No response of HTTP/1.0 or 1.1 that a desk gives: no head, more than 32 headers, a transfer coding, or not
+    /// exactly one `Content-Length` that is a whole number of 32 bits.
     NotHttp,
     /// More than [`RESPONSE_LIMIT`] bytes, whatever they are.
     TooLong,

@@ -6,8 +6,8 @@ use std::io::{self, ErrorKind, Read, Write};
 use std::net::TcpStream;
 use std::time::{Clock, Duration, Instant};
 
-/// For how many seconds from the connection on a desk is read or written: no read or write begins later. This time begins
-/// anew for a side whose process is stopped while it waits for the desk, and goes on.
+/// For how many seconds from the connection on a desk is read or written: no read or write begins later. This time
+/// begins anew for a side whose process is stopped while it waits for the desk, and goes on.
 const SIDE_SECONDS: u64 = 120;
 
 /// Whether a call of a socket was interrupted: then it has moved nothing, and is made again. Where a process is stopped

@@ -1,15 +1,12 @@
 -- What is at the target of a look shows it.
-use Rattle.std.proofs.Common.{◌≡◌, ℕ, List, [], ◌∷◌, ◌++◌, length, Option, Some, None, Bool, true, codes, refl, arith, cond}
+use Rattle.std.proofs.Common.{◌≡◌, ℕ, List, [], ◌∷◌, ◌++◌, Some, None, true, codes, refl, arith}
 use Rattle.std.specs.Fmt.{decimal}
 use Rattle.std.specs.Option.{option_map}
-use Rattle.std.specs.List.{list_all}
 use Rattle.matchit.specs.Router.{RouteOf}
 use Rattle.matchit.specs.Rows.{RowsOf, param_token}
 use Rattle.matchit.specs.Seek.{own, step, with_suffix}
 use Rattle.matchit.proofs.OnLiterals.{matchit_on_literals}
-use Rattle.dbc_words.specs.Name.{IsName}
 use Rattle.office_types.specs.PlainName.{IsPlainName}
-use Rattle.office_types.specs.declared.look.Look.{Look}
 use Rattle.office_types.specs.declared.look.Look.TheVariants as look
 use Rattle.office_types.specs.declared.look.NetLook.{NetLook}
 use Rattle.office_types.specs.declared.look.NetLook.TheVariants as of_net
@@ -20,7 +17,8 @@ use Rattle.desk_head.specs.declared.endpoint.Showing.{Showing}
 use Rattle.desk_head.specs.declared.endpoint.Showing.TheVariants as shown
 use Rattle.desk_head.specs.declared.routes.Route.{Route}
 use Rattle.desk_head.specs.declared.routes.Route.TheVariants as route
-use Rattle.desk_head.proofs.Matching.{Finds, all_end, all_parameters, at_bytes, at_part, past_bytes, past_part, some_slash}
+use Rattle.desk_head.proofs.Matching.{Finds, all_end, all_parameters, at_bytes}
+use Rattle.desk_head.proofs.Matching.{at_part, past_bytes, past_part, some_slash}
 use Rattle.desk_head.proofs.Matching.{steps}
 use Rattle.desk_head.proofs.TargetParts.{IsPart, decimal_part, name_part, plain_part, word_part}
 
@@ -61,7 +59,8 @@ goes_on s rows (b ∷ part) rest is branch some h =
 ends_there : (s : Showing) (rows : Rows) (part : List ℕ) → IsPart part → Branch rows
     → EndsAs s (step param_token rows) → Leads s rows part
 ends_there s rows [] is branch h = absurd (omega (arith, is.some))
-ends_there s rows (b ∷ part) is branch h = at_part value_of (route.Shows s) b part rows is.seen branch.begin branch.ends h
+ends_there s rows (b ∷ part) is branch h =
+    at_part value_of (route.Shows s) b part rows is.seen branch.begin branch.ends h
 
 -- ---- the rows of networks
 

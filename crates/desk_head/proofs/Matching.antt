@@ -1,16 +1,16 @@
 -- How a target matches a route, part by part.
-use Rattle.std.proofs.Common.{◌≡◌, ◌≢◌, ◌∙◌, ◌+◌, ◌-◌, ◌<◌, ℕ, zero, suc, List, [], ◌∷◌, ◌++◌, length, drop, Option, Some}
-use Rattle.std.proofs.Common.{None, Bool, true, false, ◌==◌, ◌||◌, ◌&&◌, refl, sym, ap, arith, length-append, cond, ltb}
-use Rattle.std.proofs.Common.{nat_eq, nat_lt}
+use Rattle.std.proofs.Common.{◌≡◌, ◌-◌, ℕ, zero, suc, List, [], ◌∷◌, ◌++◌, length, drop, Option, Some}
+use Rattle.std.proofs.Common.{None, Bool, true, false, ◌==◌, ◌||◌, ◌&&◌, refl, ap, arith, length-append, cond, ltb}
+use Rattle.std.proofs.Common.{nat_eq}
 use Rattle.std.specs.Option.{option_map}
-use Rattle.std.specs.List.{ends_with, list_all}
+use Rattle.std.specs.List.{list_all}
 use Rattle.std.proofs.Math.Seq.{drop-append_seam}
 use Rattle.std.proofs.lemmas.List.{drop_all}
 use Rattle.std.specs.Cmp.Lexicographic.{pointwise}
-use Rattle.std.proofs.lemmas.Bool.{and_parts, ne_eqb}
+use Rattle.std.proofs.lemmas.Bool.{and_parts}
 use Rattle.std.proofs.lemmas.Bool.Decides.{nat_tests}
-use Rattle.matchit.specs.Rows.{RowsOf, param_token, catch_all_token}
-use Rattle.matchit.specs.Seek.{cuts, first, has_slash, longest_from, longest_suffix, or_else, own, param_step, seek}
+use Rattle.matchit.specs.Rows.{RowsOf, param_token}
+use Rattle.matchit.specs.Seek.{cuts, first, has_slash, longest_from, or_else, own, param_step, seek}
 use Rattle.matchit.specs.Seek.{segment, step, with_suffix}
 use Rattle.desk_head.proofs.TargetParts.{is_part_byte}
 

@@ -54,7 +54,8 @@ unfolding endpoint_of the_routes with_route matchit_on_literals
 empty_parts = refl
 
 of_a_network : map endpoint_of (codes "/nets/truck/state" ∷ codes "/nets/truck/blocks" ∷ codes "/nets/truck/messages"
-    ∷ codes "/nets/truck/held" ∷ codes "/nets/truck/releases" ∷ codes "/nets/truck/nodes" ∷ codes "/nets/truck/spns" ∷ [])
+    ∷ codes "/nets/truck/held" ∷ codes "/nets/truck/releases" ∷ codes "/nets/truck/nodes"
+    ∷ codes "/nets/truck/spns" ∷ [])
     ≡ Some (Shows showing.State) ∷ Some (Shows showing.Blocks) ∷ Some (Shows showing.Messages)
     ∷ Some (Shows showing.Held) ∷ Some (Shows showing.Releases) ∷ Some (Shows showing.Nodes)
     ∷ Some (Shows showing.Spns) ∷ []

@@ -1,12 +1,13 @@
 -- Names, numbers and words are parts of a target: visible ASCII other than a slash, and not too long.
-use Rattle.std.proofs.Common.{◌≡◌, ◌≤◌, ◌<◌, ◌^◌, ◌+◌, ◌*◌, ℕ, zero, suc, Bool, true, false, ◌&&◌, not, ◌==◌, List, [], ◌∷◌}
-use Rattle.std.proofs.Common.{◌++◌, length, codes, refl, sym, ap, ◌∙◌, arith, length-append, nat_le, IsTrue, ◌/◌, ◌%◌}
+use Rattle.std.proofs.Common.{◌≡◌, ◌≤◌, ◌<◌, ◌^◌, ◌+◌, ◌*◌, ℕ, zero, suc, Bool}
+use Rattle.std.proofs.Common.{true, false, ◌&&◌, not, ◌==◌, List, [], ◌∷◌}
+use Rattle.std.proofs.Common.{◌++◌, length, codes, refl, arith, length-append, nat_le, ◌/◌, ◌%◌}
 use Rattle.std.specs.Prelude.{if◌then◌else◌}
 use Rattle.std.specs.Char.{digit_value}
 use Rattle.std.specs.Fmt.{decimal, digits, digits_onto, digit_glyph}
 use Rattle.std.specs.List.{list_all}
 use Rattle.std.specs.Str.{bytes_eq}
-use Rattle.std.specs.Str.Parse.{AllDigits, IsNumeral}
+use Rattle.std.specs.Str.Parse.{AllDigits}
 use Rattle.std.proofs.lemmas.Bool.{and_parts, false≢true}
 use Rattle.std.proofs.lemmas.Bool.Decides.{nat_tests}
 use Rattle.std.proofs.lemmas.Fmt.{decimal_is_IsNumeral, digits_is_IsNumeral, length-decimal-le}
@@ -85,7 +86,8 @@ digit_byte b h = grind (arith, nat_tests, h)
 
 digits_seen : (radix : ℕ) (bytes : List ℕ) → radix ≤ 36 → AllDigits radix bytes → list_all is_part_byte bytes ≡ true
 digits_seen radix [] small h = refl
-digits_seen radix (b ∷ bytes) small h = rw (digit_byte b (omega (arith, h.0, small))) (digits_seen radix bytes small h.1)
+digits_seen radix (b ∷ bytes) small h =
+    rw (digit_byte b (omega (arith, h.0, small))) (digits_seen radix bytes small h.1)
 
 pub decimal_part : (n : ℕ) → n < 2 ^ 32 → IsPart (decimal n)
 decimal_part n h =

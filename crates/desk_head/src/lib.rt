@@ -7,8 +7,8 @@
 //! the target.
 //!
 //! The definitions are in `specs/`: `Head.antt` has the heads that bytes begin with, `Fields.antt` header fields and
-//! lengths, `Target.antt` what is at a target, and `Demand.antt` the tests that a head has to pass, in order. `Asked.antt`
-//! has the target of each look; the law [`targets_lead_there`] says that what is there shows it.
+//! lengths, `Target.antt` what is at a target, and `Demand.antt` the tests that a head has to pass, in order.
+//! `Asked.antt` has the target of each look; the law [`targets_lead_there`] says that what is there shows it.
 #![tactic(auto)]
 
 mod demand;

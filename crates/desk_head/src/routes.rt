@@ -1,6 +1,7 @@
 //! The routes.
 ghost use Rattle.std.specs.Prelude.{◌≡◌, IfOk, OnOk, IsUtf8};
-ghost use Rattle.desk_head.specs.Target.{done_by, endpoint_at, endpoint_of, route_of, the_routes, with_parts, with_route};
+ghost use Rattle.desk_head.specs.Target.{done_by, endpoint_at, endpoint_of, route_of};
+ghost use Rattle.desk_head.specs.Target.{the_routes, with_parts, with_route};
 ghost use Rattle.desk_head.specs.Target.{with_sheets, with_things};
 
 use crate::endpoint::{Endpoint, Posting, Showing};

@@ -14,11 +14,15 @@ mod copies;
 #[cfg(test)]
 mod decimals;
 #[cfg(test)]
+mod echoes;
+#[cfg(test)]
 mod identifiers;
 #[cfg(test)]
 mod layouts;
 #[cfg(test)]
 mod lists;
+#[cfg(test)]
+mod looks;
 #[cfg(test)]
 mod made;
 #[cfg(test)]

@@ -64,6 +64,23 @@ all_kinds =
     ∷ Act kind.Reject ∷
     Act kind.Release ∷ Bundle ∷ []
 
+-- the command that requests an action
+abbrev pub kind_of : Action → ActionKind
+kind_of (act.OpenNet opening) = kind.OpenNet
+kind_of (act.Grant grant) = kind.Grant
+kind_of (act.AddNode name) = kind.AddNode
+kind_of (act.TakeIdent take) = kind.TakeIdent
+kind_of (act.TakePgn take) = kind.TakePgn
+kind_of (act.TakeSpn take) = kind.TakeSpn
+kind_of (act.TakeBits take) = kind.TakeBits
+kind_of (act.SetValues set) = kind.SetValues
+kind_of (act.RemoveSignal path) = kind.RemoveSignal
+kind_of (act.Retire name) = kind.Retire
+kind_of act.Submit = kind.Submit
+kind_of act.Approve = kind.Approve
+kind_of act.Reject = kind.Reject
+kind_of act.Release = kind.Release
+
 -- the command that a word names
 abbrev pub kind_of_word : List ℕ → Option CommandKind
 kind_of_word word = find (λ kind. bytes_eq (word_of kind) word) all_kinds

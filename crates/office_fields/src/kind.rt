@@ -78,7 +78,29 @@ const COMMANDS: [CommandKind; 16] = [
 ];
 
 impl ActionKind {
-    ghost use Rattle.office_fields.specs.Kind.{action_word};
+    ghost use Rattle.office_fields.specs.Kind.{action_word, kind_of};
+
+    /// The command that requests the action.
+    pub fn of(action: &Action) -> ActionKind
+        ensures { result ≡ kind_of action.now }
+    {
+        match action {
+            Action::OpenNet(_) => ActionKind::OpenNet,
+            Action::Grant(_) => ActionKind::Grant,
+            Action::AddNode(_) => ActionKind::AddNode,
+            Action::TakeIdent(_) => ActionKind::TakeIdent,
+            Action::TakePgn(_) => ActionKind::TakePgn,
+            Action::TakeSpn(_) => ActionKind::TakeSpn,
+            Action::TakeBits(_) => ActionKind::TakeBits,
+            Action::SetValues(_) => ActionKind::SetValues,
+            Action::RemoveSignal(_) => ActionKind::RemoveSignal,
+            Action::Retire(_) => ActionKind::Retire,
+            Action::Submit => ActionKind::Submit,
+            Action::Approve => ActionKind::Approve,
+            Action::Reject => ActionKind::Reject,
+            Action::Release => ActionKind::Release,
+        }
+    }
 
     /// The command's word.
     pub fn word(self) -> &'static str

@@ -1,5 +1,6 @@
 -- The last name of an identifier, from the last release on.
-use Rattle.std.proofs.Common.{◌≡◌, ◌+◌, ◌<◌, ◌++◌, ℕ, List, [], ◌∷◌, Option, None, Some, length, take, get_or, refl, sym, ap, ◌∙◌}
+use Rattle.std.proofs.Common.{◌≡◌, ◌+◌, ◌<◌, ◌++◌, ℕ, List, [], ◌∷◌, Option, None}
+use Rattle.std.proofs.Common.{Some, length, take, get_or, refl, sym, ap, ◌∙◌}
 use Rattle.std.specs.Prelude.{option_map}
 use Rattle.std.specs.List.{cons_option, filter_map, last_or}
 use Rattle.std.proofs.lemmas.List.{append-nil, take_more}
@@ -20,7 +21,8 @@ last_of_more o (y ∷ ys) x = last_of_more (Some y) ys x
 
 -- one release more
 one_more : (sheets : List Sheet) (k : ℕ) (s : Sheet) (i : Ident) → k < length sheets → s ≡ get_or sheets k s
-    → filter_map (name_in i) (take (k + 1) sheets) ≡ filter_map (name_in i) (take k sheets) ++ cons_option (name_in i s) []
+    → filter_map (name_in i) (take (k + 1) sheets)
+    ≡ filter_map (name_in i) (take k sheets) ++ cons_option (name_in i s) []
 one_more sheets k s i within is =
     ap (filter_map (name_in i)) (take_more sheets k s within ∙ ap (λ x. take k sheets ++ x ∷ []) (sym is))
     ∙ filter_map-append (name_in i) (take k sheets) (s ∷ [])
@@ -33,10 +35,10 @@ named_here sheets k s i n within is named =
     ∙ ap (λ o. filter_map (name_in i) (take k sheets) ++ cons_option o []) named)
     ∙ last_of_more None (filter_map (name_in i) (take k sheets)) n
 
--- it has none
+-- it has no name
 pub named_before : (sheets : List Sheet) (k : ℕ) (s : Sheet) (i : Ident) → k < length sheets → s ≡ get_or sheets k s
     → name_in i s ≡ None → last_name (take (k + 1) sheets) i ≡ last_name (take k sheets) i
-named_before sheets k s i within is none =
-    ap (last_or None) (one_more sheets k s i within is
-    ∙ ap (λ o. filter_map (name_in i) (take k sheets) ++ cons_option o []) none
+named_before sheets k s i within here unnamed =
+    ap (last_or None) (one_more sheets k s i within here
+    ∙ ap (λ o. filter_map (name_in i) (take k sheets) ++ cons_option o []) unnamed
     ∙ append-nil (filter_map (name_in i) (take k sheets)))

@@ -1,5 +1,5 @@
 -- The lines of a message computed.
-use Rattle.std.proofs.Common.{◌≡◌, ℕ, List, [], ◌∷◌, None, Some, codes, refl, true, false}
+use Rattle.std.proofs.Common.{◌≡◌, ℕ, [], ◌∷◌, ◌++◌, None, Some, codes, refl, true, false}
 use Rattle.std.specs.Prelude.{pos, negsuc}
 use Rattle.std.specs.Fmt.{digits}
 use Rattle.bitlayout.specs.declared.layout.Order.TheVariants.{Intel, Motorola}
@@ -10,13 +10,12 @@ use Rattle.decimal.specs.Printing.{unsigned_text}
 use Rattle.dbc_sheet.specs.Sheet.{empty_sheet}
 use Rattle.dbc_sheet.specs.declared.message.Message.{Message}
 use Rattle.dbc_sheet.specs.declared.signal.Signal.{Signal}
-use Rattle.dbc_sheet.specs.declared.value_texts.ValueText.{ValueText}
 use Rattle.dbc_words.specs.declared.value_type.ValueType.TheVariants.{Integer, Float}
 use Rattle.office_types.specs.declared.command.NetKind.TheVariants.{J1939}
 use Rattle.office_types.specs.declared.state.Phase.TheVariants.{Draft}
-use Rattle.office_looks.specs.Message.{destination_text, field_text, layout_text, message_facts, message_text, mux_text}
+use Rattle.office_seen.specs.declared.view.View.{View}
+use Rattle.office_looks.specs.Message.{destination_text, field_text, message_facts, message_text, mux_text}
 use Rattle.office_looks.specs.Message.{signal_lines}
-use Rattle.office_looks.specs.declared.view.View.{View}
 
 abbrev whole : ℕ → Number
 whole n = record { mantissa = pos n; exponent = pos 0 }
@@ -100,17 +99,33 @@ view = record {
 }
 
 two_signals : signal_lines engine.signals
-    ≡ codes "signal          8|8@1+ -       513 Torque                 (1,-125)       [-125|125]     %25    Dash,Gateway\nsignal        24|16@1+ -       190 Speed                  (0.125,0)      [0|8031.875]   rpm    Dash\nnote        Speed                  Engine speed,%0aover two lines\n"
+    ≡ codes "signal          8|8@1+ -       513 Torque                 (1,-125)       [-125|125]     %25    Dash,Gateway\n"
+    ++ codes "signal        24|16@1+ -       190 Speed                  (0.125,0)      [0|8031.875]   rpm    Dash\n"
+    ++ codes "note        Speed                  Engine speed,%0aover two lines\n"
 unfolding digits unsigned_text
 two_signals = refl
 
 all_lines : signal_lines (reason ∷ [])
-    ≡ codes "signal         7|32@0- m3        - DerateReason           (1,0)          [0|63]         -      -\ntype        DerateReason float\nvalue       DerateReason                3 Exhaust fluid\n"
+    ≡ codes "signal         7|32@0- m3        - DerateReason           (1,0)          [0|63]         -      -\n"
+    ++ codes "type        DerateReason float\n"
+    ++ codes "value       DerateReason                3 Exhaust fluid\n"
 unfolding digits unsigned_text
 all_lines = refl
 
 its_facts : message_facts view (engine, codes "office")
-    ≡ codes "message     EngineSpeed\nnumber      2364540158\nidentifier  ext 0cf004fe\npgn         61444\npriority    3\nsource      254\ndestination -\nlength      8\ntransmitter Engine\nowner       office\nreleases    -\nsince       new\ncomment     Electronic engine controller 1\n"
+    ≡ codes "message     EngineSpeed\n"
+    ++ codes "number      2364540158\n"
+    ++ codes "identifier  ext 0cf004fe\n"
+    ++ codes "pgn         61444\n"
+    ++ codes "priority    3\n"
+    ++ codes "source      254\n"
+    ++ codes "destination -\n"
+    ++ codes "length      8\n"
+    ++ codes "transmitter Engine\n"
+    ++ codes "owner       office\n"
+    ++ codes "releases    -\n"
+    ++ codes "since       new\n"
+    ++ codes "comment     Electronic engine controller 1\n"
 unfolding digits
 its_facts = refl
 

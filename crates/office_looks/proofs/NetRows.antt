@@ -1,5 +1,5 @@
 -- The state, the messages, the held identifiers and the releases of a small network.
-use Rattle.std.proofs.Common.{◌≡◌, List, [], ◌∷◌, None, Some, codes, refl}
+use Rattle.std.proofs.Common.{◌≡◌, List, [], ◌∷◌, ◌++◌, None, Some, codes, refl}
 use Rattle.std.specs.Fmt.{digits}
 use Rattle.can_id.specs.declared.ident.Ident.TheVariants.{Std, Ext}
 use Rattle.dbc_sheet.specs.Sheet.{empty_sheet}
@@ -8,11 +8,11 @@ use Rattle.dbc_sheet.specs.declared.sheet.Sheet.{Sheet}
 use Rattle.office_types.specs.declared.block.BlockForm.TheVariants.{Pgn}
 use Rattle.office_types.specs.declared.command.NetKind.TheVariants.{J1939}
 use Rattle.office_types.specs.declared.state.Phase.TheVariants.{Review}
+use Rattle.office_seen.specs.declared.view.View.{View}
 use Rattle.office_looks.specs.Held.{held_line, held_text}
 use Rattle.office_looks.specs.Messages.{messages_text}
 use Rattle.office_looks.specs.Releases.{releases_text}
 use Rattle.office_looks.specs.State.{state_text}
-use Rattle.office_looks.specs.declared.view.View.{View}
 
 abbrev plain : Message
 plain = record { ident = Std 256; name = codes "E1"; length = 64; transmitter = None; comment = []; signals = [] }
@@ -30,7 +30,14 @@ group = record {
 
 -- of parameter group 65300
 abbrev pads : Message
-pads = record { ident = Ext 486478859; name = codes "BrakePads"; length = 8; transmitter = None; comment = []; signals = [] }
+pads = record {
+  ident = Ext 486478859;
+  name = codes "BrakePads";
+  length = 8;
+  transmitter = None;
+  comment = [];
+  signals = [];
+}
 
 abbrev sheet_with : List Message → Sheet
 sheet_with messages = record empty_sheet { messages = messages }
@@ -56,21 +63,52 @@ abbrev new_truck : View
 new_truck = record truck { sheet = empty_sheet; owners = []; held = []; approvals = []; releases = [] }
 
 state : state_text truck
-    ≡ codes "network     truck\nkind        j1939\nphase       review\nsubmitted   engine\napproved    brakes\nlacking     1 of 2\nreleases    2\nadded       1\nremoved     0\nchanged     0\nheld        1\nblocks      1\nnodes       0\nmessages    2\nsignals     0\n"
+    ≡ codes "network     truck\n"
+    ++ codes "kind        j1939\n"
+    ++ codes "phase       review\n"
+    ++ codes "submitted   engine\n"
+    ++ codes "approved    brakes\n"
+    ++ codes "lacking     1 of 2\n"
+    ++ codes "releases    2\n"
+    ++ codes "added       1\n"
+    ++ codes "removed     0\n"
+    ++ codes "changed     0\n"
+    ++ codes "held        1\n"
+    ++ codes "blocks      1\n"
+    ++ codes "nodes       0\n"
+    ++ codes "messages    2\n"
+    ++ codes "signals     0\n"
 unfolding digits
 state = refl
 
 no_approval : state_text new_truck
-    ≡ codes "network     truck\nkind        j1939\nphase       review\nsubmitted   engine\napproved    -\nlacking     2 of 2\nreleases    0\nadded       0\nremoved     0\nchanged     0\nheld        0\nblocks      1\nnodes       0\nmessages    0\nsignals     0\n"
+    ≡ codes "network     truck\n"
+    ++ codes "kind        j1939\n"
+    ++ codes "phase       review\n"
+    ++ codes "submitted   engine\n"
+    ++ codes "approved    -\n"
+    ++ codes "lacking     2 of 2\n"
+    ++ codes "releases    0\n"
+    ++ codes "added       0\n"
+    ++ codes "removed     0\n"
+    ++ codes "changed     0\n"
+    ++ codes "held        0\n"
+    ++ codes "blocks      1\n"
+    ++ codes "nodes       0\n"
+    ++ codes "messages    0\n"
+    ++ codes "signals     0\n"
 unfolding digits
 no_approval = refl
 
 all_messages : messages_text None truck
-    ≡ codes "       256 std 00000100      -   64    0 brakes         1-2 -       - E1\n2566851584 ext 18ff0c00  65292    8    0 engine           - new     ECM ECM_New1\nmessages 2 signals 0\n"
+    ≡ codes "       256 std 00000100      -   64    0 brakes         1-2 -       - E1\n"
+    ++ codes "2566851584 ext 18ff0c00  65292    8    0 engine           - new     ECM ECM_New1\n"
+    ++ codes "messages 2 signals 0\n"
 unfolding digits
 all_messages = refl
 
-changed_message : messages_text (Some (codes "brakes")) (record truck { sheet = sheet_with (record plain { length = 8 } ∷ group ∷ []) })
+changed_message : messages_text (Some (codes "brakes"))
+    (record truck { sheet = sheet_with (record plain { length = 8 } ∷ group ∷ []) })
     ≡ codes "       256 std 00000100      -    8    0 brakes         1-2 changed - E1\nmessages 1 signals 0\n"
 unfolding digits
 changed_message = refl
@@ -93,7 +131,9 @@ unfolding digits
 none_held = refl
 
 releases : releases_text truck
-    ≡ codes "    1 messages     2 signals     0 added    2 removed    0 changed    0\n    2 messages     1 signals     0 added    0 removed    1 changed    0\nreleases 2\n"
+    ≡ codes "    1 messages     2 signals     0 added    2 removed    0 changed    0\n"
+    ++ codes "    2 messages     1 signals     0 added    0 removed    1 changed    0\n"
+    ++ codes "releases 2\n"
 unfolding digits
 releases = refl
 

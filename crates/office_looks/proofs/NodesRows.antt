@@ -1,5 +1,5 @@
 -- The lines of nodes computed.
-use Rattle.std.proofs.Common.{◌≡◌, List, [], ◌∷◌, None, Some, codes, refl, false}
+use Rattle.std.proofs.Common.{◌≡◌, List, [], ◌∷◌, ◌++◌, None, Some, codes, refl, false}
 use Rattle.std.specs.Prelude.{pos}
 use Rattle.std.specs.Fmt.{digits}
 use Rattle.bitlayout.specs.declared.layout.Order.TheVariants.{Intel}
@@ -12,8 +12,8 @@ use Rattle.dbc_sheet.specs.declared.signal.Signal.{Signal}
 use Rattle.dbc_words.specs.declared.value_type.ValueType.TheVariants.{Integer}
 use Rattle.office_types.specs.declared.command.NetKind.TheVariants.{J1939}
 use Rattle.office_types.specs.declared.state.Phase.TheVariants.{Draft}
+use Rattle.office_seen.specs.declared.view.View.{View}
 use Rattle.office_looks.specs.Nodes.{node_text, nodes_text}
-use Rattle.office_looks.specs.declared.view.View.{View}
 
 abbrev torque : Signal
 torque = record {
@@ -76,7 +76,11 @@ view = record {
 }
 
 four_nodes : nodes_text view
-    ≡ codes "sends    1 receives    1 Engine       -\nsends    1 receives    1 Dash         Instrument cluster\nsends    0 receives    2 Gateway      -\nsends    0 receives    0 Ecm          -\nnodes 4\n"
+    ≡ codes "sends    1 receives    1 Engine       -\n"
+    ++ codes "sends    1 receives    1 Dash         Instrument cluster\n"
+    ++ codes "sends    0 receives    2 Gateway      -\n"
+    ++ codes "sends    0 receives    0 Ecm          -\n"
+    ++ codes "nodes 4\n"
 unfolding digits
 four_nodes = refl
 
@@ -86,7 +90,9 @@ no_nodes = refl
 
 -- a signal that names it twice counts once
 one_node : node_text (codes "Dash") view
-    ≡ Some (codes "sends           256 std 00000100      -    1 DashLamp\nreceives 2364540158 ext 0cf004fe  61444    2 EngineSpeed\nsends 1 receives 1\n")
+    ≡ Some (codes "sends           256 std 00000100      -    1 DashLamp\n"
+    ++ codes "receives 2364540158 ext 0cf004fe  61444    2 EngineSpeed\n"
+    ++ codes "sends 1 receives 1\n")
 unfolding digits
 one_node = refl
 

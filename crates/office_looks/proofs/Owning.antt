@@ -1,5 +1,6 @@
 -- The live messages with their owners, one after the other.
-use Rattle.std.proofs.Common.{◌≡◌, ◌+◌, ◌<◌, ◌≤◌, ◌++◌, ℕ, zero, suc, Bool, true, false, List, [], ◌∷◌, length, drop, filter}
+use Rattle.std.proofs.Common.{◌≡◌, ◌+◌, ◌<◌, ◌≤◌, ◌++◌, ℕ, zero, suc, Bool, true}
+use Rattle.std.proofs.Common.{false, List, [], ◌∷◌, length, drop, filter}
 use Rattle.std.proofs.Common.{get_or, map, refl, sym, ap, ◌∙◌, arith, append_assoc, cond}
 use Rattle.std.proofs.Math.Nat.{min-eq_left, min-eq_right}
 use Rattle.std.proofs.lemmas.List.{drop_more, length-append}
@@ -7,8 +8,8 @@ use Rattle.std.proofs.lemmas.Slice.Zip.{get_or-zip, length-zip}
 use Rattle.std.specs.List.{flat_map}
 use Rattle.dbc_sheet.specs.declared.message.Message.{Message}
 use Rattle.office_views.specs.Table.{signal_count}
-use Rattle.office_looks.specs.View.{owned}
-use Rattle.office_looks.specs.declared.view.View.{View}
+use Rattle.office_seen.specs.View.{owned}
+use Rattle.office_seen.specs.declared.view.View.{View}
 
 pub fewer_messages : (view : View) → length view.sheet.messages ≤ length view.owners
     → length view.sheet.messages ≡ length (owned view)

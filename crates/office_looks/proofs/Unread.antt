@@ -1,5 +1,5 @@
 -- A look that doesn't read releases shows the same of a network without them.
-use Rattle.std.proofs.Common.{◌≡◌, ◌++◌, ℕ, true, false, List, [], ◌∷◌, Some, filter, refl, sym, ap, ◌∙◌}
+use Rattle.std.proofs.Common.{◌≡◌, ◌++◌, ℕ, false, List, [], ◌∷◌, Some, filter, refl, sym, ap, ◌∙◌}
 use Rattle.std.proofs.lemmas.Bool.{false≢true}
 use Rattle.std.specs.List.{flat_map}
 use Rattle.office_types.specs.declared.block.BlockForm.{BlockForm}
@@ -9,9 +9,9 @@ use Rattle.office_types.specs.declared.look.NetLook.{NetLook}
 use Rattle.office_types.specs.declared.look.NetLook.TheVariants as look
 use Rattle.office_types.specs.declared.state.GrantedBlock.{GrantedBlock}
 use Rattle.office_types.specs.declared.state.Net.{Net}
-use Rattle.office_looks.specs.Blocks.{block_line, blocks_total, is_wanted, line_with, live_numbers, taken_numbers}
+use Rattle.office_seen.specs.View.{blocks_of, view_of}
+use Rattle.office_blocks.specs.Blocks.{block_line, blocks_total, is_wanted, line_with, live_numbers, taken_numbers}
 use Rattle.office_looks.specs.Looks.{reads_releases, text_of}
-use Rattle.office_looks.specs.View.{blocks_of, view_of}
 
 abbrev pub bare : Net → Net
 bare net = record net { releases = [] }

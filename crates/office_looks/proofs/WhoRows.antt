@@ -18,8 +18,8 @@ use Rattle.office_types.specs.declared.command.NetKind.TheVariants.{J1939}
 use Rattle.office_types.specs.declared.sought.Sought.TheVariants as sought
 use Rattle.office_types.specs.declared.state.GrantedBlock.{GrantedBlock}
 use Rattle.office_types.specs.declared.state.Phase.TheVariants.{Draft}
+use Rattle.office_seen.specs.declared.view.View.{View}
 use Rattle.office_looks.specs.Who.{numbers_sought, who_text}
-use Rattle.office_looks.specs.declared.view.View.{View}
 
 abbrev zero_value : Number
 zero_value = record { mantissa = pos 0; exponent = pos 0 }

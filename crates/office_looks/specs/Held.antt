@@ -1,5 +1,5 @@
 -- The identifiers that are held.
-use Rattle.std.specs.Prelude.{ℕ, ◌&&◌, nat_le, Bool, List, [], ◌++◌, length, find, codes, unwrap_or}
+use Rattle.std.specs.Prelude.{ℕ, List, [], ◌++◌, length, find, codes, unwrap_or}
 use Rattle.std.specs.Prelude.{Option, Some, None, option_map}
 use Rattle.std.specs.List.{filter_map, flat_map, last_or}
 use Rattle.can_id.specs.Ident.{dbc_number}
@@ -12,17 +12,13 @@ use Rattle.columns.specs.Word.{word}
 use Rattle.dbc_sheet.specs.Messages.{message_at}
 use Rattle.dbc_sheet.specs.declared.message.Message.{Message}
 use Rattle.dbc_sheet.specs.declared.sheet.Sheet.{Sheet}
-use Rattle.office_types.specs.Block.{same_form}
 use Rattle.office_types.specs.declared.block.BlockForm.{BlockForm}
 use Rattle.office_types.specs.declared.block.BlockForm.TheVariants as form
 use Rattle.office_types.specs.declared.state.GrantedBlock.{GrantedBlock}
-use Rattle.office_looks.specs.Lines.{total}
-use Rattle.office_looks.specs.Since.{releases_text}
-use Rattle.office_looks.specs.declared.view.View.{View}
-
--- the number of the form is in the block
-abbrev pub has_number_in : BlockForm → ℕ → GrantedBlock → Bool
-has_number_in form n g = same_form g.block.form form && (nat_le g.block.first n && nat_le n g.block.last)
+use Rattle.office_seen.specs.Granted.{has_number_in}
+use Rattle.office_seen.specs.Lines.{total}
+use Rattle.office_seen.specs.Since.{releases_text}
+use Rattle.office_seen.specs.declared.view.View.{View}
 
 -- the team of the first block that has the number
 abbrev pub team_at : List GrantedBlock → BlockForm → ℕ → Option (List ℕ)
@@ -39,7 +35,8 @@ team_of blocks (id.Ext n) = elim (team_at blocks form.Pgn (pgn_of (fields_of n))
 -- its name in the last release that has it; none where none has
 abbrev pub last_name : List Sheet → Ident → Option (List ℕ)
 last_name releases i =
-    last_or None (filter_map (λ (s : Sheet). option_map (λ (m : Message). m.name) (message_at s.messages (dbc_number i))) releases)
+    last_or None (filter_map
+    (λ (s : Sheet). option_map (λ (m : Message). m.name) (message_at s.messages (dbc_number i))) releases)
 
 -- identifier, team, releases, name
 abbrev pub held_line : View → Ident → List ℕ

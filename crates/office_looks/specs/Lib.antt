@@ -1,8 +1,3 @@
-pub mod View
-pub mod Lines
-pub mod Since
-pub mod Blocks
-pub mod Numbers
 pub mod State
 pub mod Messages
 pub mod Message
@@ -10,7 +5,5 @@ pub mod Held
 pub mod Releases
 pub mod Tally
 pub mod Nodes
-pub mod SpnIndex
-pub mod Spns
 pub mod Who
 pub mod Looks

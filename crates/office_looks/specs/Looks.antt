@@ -4,17 +4,17 @@ use Rattle.office_types.specs.declared.book.SpnBook.{SpnBook}
 use Rattle.office_types.specs.declared.look.NetLook.{NetLook}
 use Rattle.office_types.specs.declared.look.NetLook.TheVariants as look
 use Rattle.office_types.specs.declared.state.Net.{Net}
-use Rattle.office_looks.specs.Blocks.{blocks_text}
+use Rattle.office_seen.specs.View.{view_of}
+use Rattle.office_seen.specs.declared.view.View.{View}
+use Rattle.office_blocks.specs.Blocks.{blocks_text}
+use Rattle.office_spns.specs.Spns.{spns_text}
 use Rattle.office_looks.specs.Held.{held_text}
 use Rattle.office_looks.specs.Message.{message_text}
 use Rattle.office_looks.specs.Messages.{messages_text}
 use Rattle.office_looks.specs.Nodes.{node_text, nodes_text}
 use Rattle.office_looks.specs.Releases.{releases_text}
-use Rattle.office_looks.specs.Spns.{spns_text}
 use Rattle.office_looks.specs.State.{state_text}
-use Rattle.office_looks.specs.View.{view_of}
 use Rattle.office_looks.specs.Who.{who_text}
-use Rattle.office_looks.specs.declared.view.View.{View}
 
 -- nothing exactly where there is no such message, node, or name or number
 abbrev pub text_of : NetLook → View → Option (List ℕ)

@@ -1,5 +1,5 @@
 -- All of a live message.
-use Rattle.std.specs.Prelude.{ℕ, ◌==◌, Bool, List, [], ◌∷◌, ◌++◌, find, codes, decimal, unwrap_or, Option, Some, None}
+use Rattle.std.specs.Prelude.{ℕ, ◌==◌, List, [], ◌++◌, find, codes, decimal, unwrap_or, Option}
 use Rattle.std.specs.Prelude.{if◌then◌else◌, option_map}
 use Rattle.std.specs.List.{flat_map}
 use Rattle.std.specs.Option.{option_map_or}
@@ -18,14 +18,12 @@ use Rattle.dbc_sheet.specs.Messages.{number_of}
 use Rattle.dbc_sheet.specs.declared.message.Message.{Message}
 use Rattle.dbc_sheet.specs.declared.signal.Signal.{Signal}
 use Rattle.dbc_sheet.specs.declared.value_texts.ValueText.{ValueText}
-use Rattle.dbc_words.specs.declared.value_type.ValueType.{ValueType}
 use Rattle.dbc_words.specs.declared.value_type.ValueType.TheVariants.{Integer, Float, Double}
 use Rattle.office_views.specs.Message.{message_chart}
-use Rattle.office_looks.specs.Lines.{fact}
-use Rattle.office_looks.specs.Since.{last_release, releases_text, since}
-use Rattle.office_looks.specs.State.{number_fact}
-use Rattle.office_looks.specs.View.{owned}
-use Rattle.office_looks.specs.declared.view.View.{View}
+use Rattle.office_seen.specs.Lines.{fact, number_fact}
+use Rattle.office_seen.specs.Since.{last_release, releases_text, since}
+use Rattle.office_seen.specs.View.{owned}
+use Rattle.office_seen.specs.declared.view.View.{View}
 
 -- ---- what it has once
 
@@ -130,7 +128,8 @@ text_lines s = flat_map (text_line s) s.values
 
 -- a line where it has a comment
 abbrev pub comment_line : Signal → List ℕ
-comment_line s = if bytes_eq s.comment [] then [] else fact (codes "note") (set_left 22 s.name ++ (codes " " ++ rest s.comment))
+comment_line s =
+    if bytes_eq s.comment [] then [] else fact (codes "note") (set_left 22 s.name ++ (codes " " ++ rest s.comment))
 
 abbrev pub signal_lines : List Signal → List ℕ
 signal_lines signals =

@@ -9,10 +9,10 @@ use Rattle.dbc_sheet.specs.Messages.{number_of}
 use Rattle.dbc_sheet.specs.declared.message.Message.{Message}
 use Rattle.office_views.specs.Table as table
 use Rattle.office_views.specs.Table.{signal_count, size_columns}
-use Rattle.office_looks.specs.Lines.{total}
-use Rattle.office_looks.specs.Since.{last_release, releases_text, since}
-use Rattle.office_looks.specs.View.{owned}
-use Rattle.office_looks.specs.declared.view.View.{View}
+use Rattle.office_seen.specs.Lines.{total}
+use Rattle.office_seen.specs.Since.{last_release, releases_text, since}
+use Rattle.office_seen.specs.View.{owned}
+use Rattle.office_seen.specs.declared.view.View.{View}
 
 -- a line's columns before those that are put in, and those after them: together they are the line of the table
 abbrev pub columns_before : Message → List ℕ
@@ -38,7 +38,8 @@ is_wanted (Some team) p = bytes_eq p.1 team
 -- as in the last line of the table, of the messages that are shown
 abbrev pub messages_total : List (Message × List ℕ) → List ℕ
 messages_total messages = total (codes "messages") (length messages)
-    ++ (codes " " ++ (total (codes "signals") (signal_count (map (λ (p : Message × List ℕ). p.0) messages)) ++ codes "\n"))
+    ++ (codes " "
+    ++ (total (codes "signals") (signal_count (map (λ (p : Message × List ℕ). p.0) messages)) ++ codes "\n"))
 
 abbrev pub messages_text : Option (List ℕ) → View → List ℕ
 messages_text team view =

@@ -10,8 +10,8 @@ use Rattle.dbc_sheet.specs.declared.message.Message.{Message}
 use Rattle.dbc_sheet.specs.declared.node.Node.{Node}
 use Rattle.dbc_sheet.specs.declared.signal.Signal.{Signal}
 use Rattle.office_rules.specs.Facts.{has_node}
-use Rattle.office_looks.specs.Lines.{counted, total}
-use Rattle.office_looks.specs.declared.view.View.{View}
+use Rattle.office_seen.specs.Lines.{counted, total}
+use Rattle.office_seen.specs.declared.view.View.{View}
 
 abbrev pub is_name_of : List ℕ → Option (List ℕ) → Bool
 is_name_of name None = false
@@ -41,7 +41,8 @@ counts_line sends receives node =
     ++ (codes " " ++ (set_left 12 node.name ++ (codes " " ++ (rest node.comment ++ codes "\n"))))))
 
 abbrev pub node_line : List Message → Node → List ℕ
-node_line messages node = counts_line (count_by (sends node.name) messages) (count_by (receives_some node.name) messages) node
+node_line messages node =
+    counts_line (count_by (sends node.name) messages) (count_by (receives_some node.name) messages) node
 
 abbrev pub nodes_text : View → List ℕ
 nodes_text view = flat_map (node_line view.sheet.messages) view.sheet.nodes

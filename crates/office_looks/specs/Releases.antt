@@ -6,12 +6,13 @@ use Rattle.dbc_pairs.specs.declared.counts.Counts.{Counts}
 use Rattle.dbc_sheet.specs.Sheet.{empty_sheet}
 use Rattle.dbc_sheet.specs.declared.sheet.Sheet.{Sheet}
 use Rattle.office_views.specs.Table.{signal_count}
-use Rattle.office_looks.specs.Lines.{counted, total}
-use Rattle.office_looks.specs.declared.view.View.{View}
+use Rattle.office_seen.specs.Lines.{counted, total}
+use Rattle.office_seen.specs.declared.view.View.{View}
 
 abbrev pub change_columns : Counts → List ℕ
 change_columns counts = counted (codes "added") 4 counts.added
-    ++ (codes " " ++ (counted (codes "removed") 4 counts.removed ++ (codes " " ++ counted (codes "changed") 4 counts.changed)))
+    ++ (codes " " ++ (counted (codes "removed") 4 counts.removed
+    ++ (codes " " ++ counted (codes "changed") 4 counts.changed)))
 
 -- number, messages, signals, and how many differ from those of the release before it
 abbrev pub release_line : ℕ → Sheet → Sheet → List ℕ

@@ -7,12 +7,9 @@ use Rattle.dbc_sheet.specs.declared.sheet.Sheet.{Sheet}
 use Rattle.office_types.specs.State.{submitter_of}
 use Rattle.office_views.specs.NetList.{kind_word, phase_word}
 use Rattle.office_views.specs.Table.{signal_count}
-use Rattle.office_looks.specs.Lines.{fact}
-use Rattle.office_looks.specs.Since.{last_release}
-use Rattle.office_looks.specs.declared.view.View.{View}
-
-abbrev pub number_fact : List ℕ → ℕ → List ℕ
-number_fact key n = fact key (decimal n)
+use Rattle.office_seen.specs.Lines.{fact, number_fact}
+use Rattle.office_seen.specs.Since.{last_release}
+use Rattle.office_seen.specs.declared.view.View.{View}
 
 -- how many approvals a release still needs, of how many
 abbrev pub lacking : View → List ℕ

@@ -16,13 +16,14 @@ use Rattle.office_types.specs.declared.block.BlockForm.TheVariants as form
 use Rattle.office_types.specs.declared.sought.Sought.{Sought}
 use Rattle.office_types.specs.declared.sought.Sought.TheVariants as sought
 use Rattle.office_types.specs.declared.state.GrantedBlock.{GrantedBlock}
-use Rattle.office_looks.specs.Blocks.{block_line}
-use Rattle.office_looks.specs.Held.{has_number_in, held_line, last_name}
-use Rattle.office_looks.specs.Lines.{total}
+use Rattle.office_seen.specs.Granted.{has_number_in}
+use Rattle.office_seen.specs.Lines.{total}
+use Rattle.office_seen.specs.View.{owned}
+use Rattle.office_seen.specs.declared.view.View.{View}
+use Rattle.office_blocks.specs.Blocks.{block_line}
+use Rattle.office_spns.specs.Spns.{shown_spns, spn_lines}
+use Rattle.office_looks.specs.Held.{held_line, last_name}
 use Rattle.office_looks.specs.Messages.{message_line}
-use Rattle.office_looks.specs.Spns.{shown_spns, spn_lines}
-use Rattle.office_looks.specs.View.{owned}
-use Rattle.office_looks.specs.declared.view.View.{View}
 
 -- ---- what has what is looked for
 

@@ -4,25 +4,14 @@ ghost use Rattle.std.specs.List.{flat_map};
 ghost use Rattle.std.specs.Option.{option_copied};
 ghost use Rattle.columns.specs.Padding.{set_left};
 ghost use Rattle.columns.specs.Word.{word};
-ghost use Rattle.office_looks.specs.Held.{has_number_in, held_line, held_text, last_name, team_at, team_of};
+ghost use Rattle.office_looks.specs.Held.{held_line, held_text, last_name, team_at, team_of};
 
-use crate::frozen::FrozenSheets;
-use crate::lines::{team_column, total};
-use crate::since::releases_column;
-use crate::view::View;
 use can_id::{Ident, J1939};
 use columns::{ident_columns, word};
 use dbc_words::Name;
+use office_seen::{FrozenSheets, View, has_number_in, releases_column, team_column, total};
 use office_types::{BlockForm, GrantedBlock, Team};
 use std::alloc::{AllocError, Global};
-
-/// Whether the number of the form is in the block.
-pub(crate) fn has_number_in(form: BlockForm, number: u32, granted: &GrantedBlock) -> bool
-    ensures { result ≡ has_number_in form number granted.now }
-{
-    let numbers = granted.block.numbers();
-    granted.block.form() == form && (numbers.first <= number && number <= numbers.last)
-}
 
 /// The team of the first block that has the number of the form.
 fn team_at(blocks: &[GrantedBlock], form: BlockForm, number: u32) -> Option<&Team>
@@ -62,7 +51,7 @@ pub(crate) fn last_name<'a>(releases: &'a FrozenSheets, ident: &Ident) -> Option
     None
 }
 
-/// The team of the identifier's block in its columns, `-` where there is none.
+/// The team of the identifier's block in its columns, `-` where no block has it.
 fn team_of_column(alloc: Global, view: &View, ident: &Ident) -> Result<Vec<u8>, AllocError>
     ensures { IfOk result (λ text. text.items ≡ set_left 12
         (word (unwrap_or (team_of view.now.blocks ident.now) []))) }

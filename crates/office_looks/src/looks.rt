@@ -2,16 +2,16 @@
 ghost use Rattle.std.specs.Prelude.{◌≡◌, IfOk, option_map};
 ghost use Rattle.office_looks.specs.Looks.{reads_releases, text_of};
 
-use crate::blocks::blocks_text;
 use crate::held::held_text;
 use crate::message_whole::message_text;
 use crate::messages::messages_text;
 use crate::nodes::{node_text, nodes_text};
 use crate::release_lines::releases_text;
-use crate::spns::spns_text;
 use crate::state::state_text;
-use crate::view::View;
 use crate::who::who_text;
+use office_blocks::blocks_text;
+use office_seen::View;
+use office_spns::spns_text;
 use office_types::NetLook;
 use std::alloc::{AllocError, Global};
 

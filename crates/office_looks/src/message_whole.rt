@@ -5,14 +5,12 @@ ghost use Rattle.office_looks.specs.Message.{destination_text, field_facts, fiel
 ghost use Rattle.office_looks.specs.Message.{message_facts, message_text, owned_named, release_facts, sender_facts};
 ghost use Rattle.office_looks.specs.Message.{whole_text};
 
-use crate::lines::{fact, number_fact};
 use crate::signal_lines::signal_lines;
-use crate::since::{last_release, releases_text, since};
-use crate::view::View;
 use can_id::{J1939, has_destination};
 use columns::{form_word, hexadecimal, rest, word};
 use dbc_sheet::{Message, Sheet};
 use dbc_words::Name;
+use office_seen::{View, fact, last_release, number_fact, releases_text, since};
 use office_types::Team;
 use office_views::message_chart;
 use std::alloc::{AllocError, Global};

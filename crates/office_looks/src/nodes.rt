@@ -6,13 +6,12 @@ ghost use Rattle.office_looks.specs.Nodes.{received_lines, receives, receives_so
 ghost use Rattle.office_looks.specs.Nodes.{uses_total};
 ghost use Rattle.office_looks.specs.Tally.{times};
 
-use crate::lines::{counted, total};
 use crate::tally::{Tally, received_tally, sent_tally};
-use crate::view::View;
 use columns::{ident_columns, number_right, rest, set_left};
 use dbc_sheet::{Message, Node, Signal};
 use dbc_words::Name;
 use office_facts::has_node;
+use office_seen::{View, counted, total};
 use std::alloc::{AllocError, Global};
 
 /// Whether the node sends the message.

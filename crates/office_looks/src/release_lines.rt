@@ -3,13 +3,10 @@ ghost use Rattle.std.specs.Prelude.{◌≡◌, IfOk};
 ghost use Rattle.dbc_sheet.specs.Sheet.{empty_sheet};
 ghost use Rattle.office_looks.specs.Releases.{change_columns, lines_after, release_line, releases_text};
 
-use crate::frozen::FrozenSheets;
-use crate::lines::{counted, total};
-use crate::since::last_of;
-use crate::view::View;
 use columns::number_right;
 use dbc_pairs::{Counts, counts_of};
 use dbc_sheet::Sheet;
+use office_seen::{FrozenSheets, View, counted, last_of, total};
 use office_views::signal_count;
 use std::alloc::{AllocError, Global};
 

@@ -1,13 +1,14 @@
 //! What has what is looked for.
 ghost use Rattle.std.specs.Prelude.{◌≡◌, ◌++◌, ◌∷◌, [], IfOk, OnOk, unwrap_or};
 ghost use Rattle.office_looks.specs.Held.{last_name};
-ghost use Rattle.office_looks.specs.Who.{each_form, has_digits, has_one, ident_written, is_group, is_number_of, is_sought};
+ghost use Rattle.office_looks.specs.Who.{each_form, has_digits, has_one, ident_written};
+ghost use Rattle.office_looks.specs.Who.{is_group, is_number_of, is_sought};
 ghost use Rattle.office_looks.specs.Who.{is_spn_sought, numbers_if, numbers_of, numbers_sought};
 
-use crate::frozen::FrozenSheets;
-use crate::held::{has_number_in, last_name};
+use crate::held::last_name;
 use can_id::{EXTENDED_FLAG, Ident, IdentForm, J1939, is_pgn};
 use office_facts::group_of;
+use office_seen::{FrozenSheets, has_number_in};
 use office_types::{BlockForm, GrantedBlock, Sought};
 use std::alloc::{AllocError, Global};
 
@@ -45,7 +46,8 @@ pub(crate) fn is_sought(sought: &Sought, ident: &Ident, name: &[u8]) -> bool
 
 /// Whether a held identifier is looked for, under its name in the last release that has it.
 pub(crate) fn is_held_sought(sought: &Sought, releases: &FrozenSheets, ident: &Ident) -> bool
-    ensures { result ≡ is_sought sought.now ident.now (unwrap_or (last_name releases.now ident.now) []) }
+    ensures { result
+        ≡ is_sought sought.now ident.now (unwrap_or (last_name releases.now ident.now) []) }
 {
     match last_name(releases, ident) {
         Some(name) => is_sought(sought, ident, name.as_bytes()),

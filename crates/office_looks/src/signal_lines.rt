@@ -5,12 +5,12 @@ ghost use Rattle.office_looks.specs.Message.{comment_line, later_columns, layout
 ghost use Rattle.office_looks.specs.Message.{place_columns, signal_columns, signal_line, signal_lines, spn_text};
 ghost use Rattle.office_looks.specs.Message.{text_line, text_lines, type_line, typed, value_columns};
 
-use crate::lines::fact;
 use bitlayout::Mux;
 use columns::{filled, rest, set_left, word, words};
 use dbc_sheet::{Signal, ValueText};
 use dbc_words::{Spn, ValueType};
 use decimal::Decimal;
+use office_seen::fact;
 use std::alloc::{AllocError, Global};
 
 /// The signal's layout, as a DBC file has it.

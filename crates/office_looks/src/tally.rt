@@ -113,7 +113,8 @@ impl Tally {
 /// How many of the messages each node sends.
 pub(crate) fn sent_tally(alloc: Global, messages: &[Message]) -> Result<Tally, AllocError>
     requires { length messages.now < 2 ^ 64 }
-    ensures { IfOk result (λ tally. (n : List ℕ) → times tally n ≡ count_by (sends n) messages.now) }
+    ensures { IfOk result
+        (λ tally. (n : List ℕ) → times tally n ≡ count_by (sends n) messages.now) }
 {
     let mut tally = Tally::new(alloc);
     for message in messages {

@@ -1,25 +1,23 @@
 //! Who has a name or a number.
 ghost use Rattle.std.specs.Prelude.{◌≡◌, ◌==◌, ◌++◌, IfOk, OnOk, length, option_map};
 ghost use Rattle.std.specs.List.{flat_map};
-ghost use Rattle.office_looks.specs.Since.{last_release};
-ghost use Rattle.office_looks.specs.Who.{block_lines, held_lines, held_numbers, live_lines, live_numbers, numbers_shown};
-ghost use Rattle.office_looks.specs.Who.{lines_with, spn_hit_lines, spn_lines_of, tagged, text_with, who_text, who_total};
+ghost use Rattle.office_seen.specs.Since.{last_release};
+ghost use Rattle.office_looks.specs.Who.{block_lines, held_lines, held_numbers};
+ghost use Rattle.office_looks.specs.Who.{live_lines, live_numbers, numbers_shown};
+ghost use Rattle.office_looks.specs.Who.{lines_with, spn_hit_lines, spn_lines_of};
+ghost use Rattle.office_looks.specs.Who.{tagged, text_with, who_text, who_total};
 
-use crate::blocks::block_line;
 use crate::held::held_line;
-use crate::lines::total;
 use crate::messages::{message_line, owned_count};
-use crate::numbers::Numbers;
 use crate::seeking::{
     add_numbers, has_one, is_held_sought, is_sought, is_spn_sought, numbers_sought,
 };
-use crate::since::last_release;
-use crate::spn_view::SpnView;
-use crate::spns::{shown_spns, spn_lines};
-use crate::view::View;
 use base::Items;
 use columns::set_left;
 use dbc_sheet::Sheet;
+use office_blocks::{Numbers, block_line};
+use office_seen::{View, last_release, total};
+use office_spns::{SpnView, shown_spns, spn_lines};
 use office_types::{BlockForm, Sought};
 use std::alloc::{AllocError, Global};
 
@@ -215,7 +213,7 @@ fn are_none(live: &Lines, held: &Lines, spns: &Lines, blocks: &Lines) -> bool
         && blocks.as_slice().is_empty()
 }
 
-/// The lines of each kind, one kind after the other, and how many there are of each; `None` where there are none.
+/// The lines of each kind, one kind after the other, and how many there are of each; `None` where there are no lines.
 fn text_with(
     alloc: Global,
     live: &Lines,

@@ -19,11 +19,15 @@ use Rattle.office_requests.specs.Requests.{IsReplied, IsRequestsText, content_te
 bundle : request_lines (codes "drivercard")
     (codes "bundle net=truck file=examples/truck/tachograph/DriverCard.txt\ntake_pgn name=DriverCard")
     (Bundle (part.Number 65330 ∷ part.Start 0 ∷ part.Done ∷ []))
-    ≡ codes "drivercard               bundle 3                 <- bundle net=truck file=examples/truck/tachograph/DriverCard.txt ..\ndrivercard               number 65330             <- command 1\ndrivercard               start 0                  <- command 2\ndrivercard               done                     <- command 3\n"
+    ≡ codes "drivercard               bundle 3                 <- bundle net=truck file=examples/truck/tachograph/DriverCard.txt ..\n"
+    ++ codes "drivercard               number 65330             <- command 1\n"
+    ++ codes "drivercard               start 0                  <- command 2\n"
+    ++ codes "drivercard               done                     <- command 3\n"
 unfolding digits
 bundle = refl
 
-refused : request_lines (codes "x5") (codes "take_bits net=coach message=ECM_Oil signal=OilX start=60") (Refused no.OutsidePayload)
+refused : request_lines (codes "x5") (codes "take_bits net=coach message=ECM_Oil signal=OilX start=60")
+    (Refused no.OutsidePayload)
     ≡ codes "x5                       refused 22 OutsidePayload <- take_bits net=coach message=ECM_Oil signal=OilX start=60\n"
 unfolding digits
 refused = refl
@@ -66,7 +70,9 @@ abbrev history : List Answered
 history = done ∷ answered (codes "brakes") (codes "s1") (answer.Reply (Refused no.InReview)) ∷ not_done ∷ done ∷ []
 
 of_engine : IsRequestsText (codes "engine") history
-    (codes "s10                      refused 54 InReview      <- submit net=bus\ns2                       done                     <- submit net=bus\nrequests 2 refused 1\n")
+    (codes "s10                      refused 54 InReview      <- submit net=bus\n"
+    ++ codes "s2                       done                     <- submit net=bus\n"
+    ++ codes "requests 2 refused 1\n")
 unfolding digits IsStrictlySortedBy
 of_engine = record {
   listed = not_done ∷ done ∷ [];

@@ -61,7 +61,7 @@ fn number_sought(kind: &[u8], digits: &[u8]) -> Option<Sought>
     None
 }
 
-/// The number, or what has the name where there is none.
+/// The number, or what has the name where no number is given.
 fn named_sought(
     alloc: Global,
     bytes: &[u8],

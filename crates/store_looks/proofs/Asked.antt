@@ -1,5 +1,6 @@
 -- The requests of a team: those of its keys, one after the other.
-use Rattle.std.proofs.Common.{◌≡◌, ◌∙◌, ℕ, ◌+◌, ◌<◌, ◌≤◌, Bool, true, false, cond, not, ◌&&◌, List, [], ◌∷◌, ◌++◌, map}
+use Rattle.std.proofs.Common.{◌≡◌, ◌∙◌, ℕ, ◌+◌, ◌<◌, ◌≤◌, Bool, true, false}
+use Rattle.std.proofs.Common.{cond, not, ◌&&◌, List, [], ◌∷◌, ◌++◌, map}
 use Rattle.std.proofs.Common.{filter, length, take, set, get_or, Some, refl, sym, ap, subst, arith}
 use Rattle.std.specs.Prelude.{IsPermutation}
 use Rattle.std.specs.List.{AllByRecursion, flat_map, swap}
@@ -145,7 +146,8 @@ none_told = record { lines = refl; counted = refl }
 one_more : (xs : List Answered) (a : Answered)
     → length (filter was_refused (xs ++ a ∷ [])) ≡ length (filter was_refused xs) + cond (was_refused a) 1 0
 one_more xs a =
-    ap length (filter-append was_refused xs (a ∷ [])) ∙ length-append (filter was_refused xs) (filter was_refused (a ∷ []))
+    ap length (filter-append was_refused xs (a ∷ []))
+    ∙ length-append (filter was_refused xs) (filter was_refused (a ∷ []))
     ∙ ap (λ n. length (filter was_refused xs) + n) (by_test (was_refused a))
   where
     by_test : (t : Bool) → length (cond t (a ∷ []) []) ≡ cond t 1 0

@@ -9,9 +9,9 @@ use Rattle.office_types.specs.declared.book.SpnBook.{SpnBook}
 use Rattle.office_types.specs.declared.look.NetLook.{NetLook}
 use Rattle.office_types.specs.declared.state.Net.{Net}
 use Rattle.office_law.specs.Released.{with_releases}
+use Rattle.office_seen.specs.View.{view_of}
+use Rattle.office_seen.specs.declared.view.View.{View}
 use Rattle.office_looks.specs.Looks.{reads_releases}
-use Rattle.office_looks.specs.View.{view_of}
-use Rattle.office_looks.specs.declared.view.View.{View}
 use Rattle.office_looks.proofs.Unread.{unread}
 use Rattle.store_tables.specs.Tables.{Tables}
 use Rattle.store_rows.specs.NetIn.{IsNetAt}

@@ -4,9 +4,9 @@ use Rattle.std.specs.Option.{option_map}
 use Rattle.office_types.specs.declared.book.SpnBook.{SpnBook}
 use Rattle.office_types.specs.declared.look.NetLook.{NetLook}
 use Rattle.office_types.specs.declared.state.Net.{Net}
+use Rattle.office_seen.specs.View.{view_of}
+use Rattle.office_seen.specs.declared.view.View.{View}
 use Rattle.office_looks.specs.Looks.{net_text, text_of}
-use Rattle.office_looks.specs.View.{view_of}
-use Rattle.office_looks.specs.declared.view.View.{View}
 use Rattle.store_rows.specs.NetIn.{IsNetAt}
 use Rattle.store_rows.specs.Rows.{IsBookIn}
 use Rattle.store_tables.specs.Tables.{Tables}

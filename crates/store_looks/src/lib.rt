@@ -5,9 +5,9 @@
 //! text of a team's requests (`office_requests`). Both are called in a transaction, and change nothing. An error is out
 //! of memory, what `sqlite` answers, or `InvalidQuery` where the rows are no office's.
 //!
-//! The definitions are of `office_looks`: `View.antt` (what is seen of a network) and `Looks.antt` (the text), and of
-//! `office_requests`: `Requests.antt`. Those in `specs/` say what is seen of the tables (`Seen.antt`), and which
-//! requests are those of a team (`Asked.antt`).
+//! The definitions are of `office_seen`: `View.antt` (what is seen of a network), of `office_looks`: `Looks.antt` (the
+//! text), and of `office_requests`: `Requests.antt`. Those in `specs/` say what is seen of the tables (`Seen.antt`), and
+//! which requests are those of a team (`Asked.antt`).
 #![tactic(auto)]
 
 mod requests;

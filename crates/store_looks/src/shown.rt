@@ -6,7 +6,8 @@ ghost use Rattle.store_looks.specs.Seen.{IsSeenBy, OnNetAndBook, seen_text};
 ghost use Rattle.store_tables.specs.Frames.{Asks, ReadsOnly};
 
 use crate::view::{unreleased_view_at, view_at};
-use office_looks::{View, reads_releases, text_of};
+use office_looks::{reads_releases, text_of};
+use office_seen::View;
 use office_types::{NetLook, NetName};
 use sqlite::{Alter, Error, Transaction};
 use std::alloc::{AllocError, Global};

@@ -4,14 +4,14 @@ ghost use Rattle.std.specs.List.Sorted.{IsStrictlySortedBy};
 ghost use Rattle.std.specs.Str.{bytes_eq};
 ghost use Rattle.dbc_sheet.specs.Messages.{by_number};
 ghost use Rattle.office_law.specs.Released.{with_releases};
-ghost use Rattle.office_looks.specs.View.{blocks_of, spn_block, view_of};
+ghost use Rattle.office_seen.specs.View.{blocks_of, spn_block, view_of};
 ghost use Rattle.office_types.specs.State.{live_messages};
 ghost use Rattle.store_looks.specs.Seen.{IsSeen, OnNetAndBook};
 ghost use Rattle.store_tables.specs.Frames.{Asks, ReadsOnly};
 
 use base::{Copying, Items};
 use dbc_sheet::Sheet;
-use office_looks::{FrozenSheets, View};
+use office_seen::{FrozenSheets, View};
 use office_types::{
     BlockForm, FormBlock, GrantedBlock, LiveMessage, Net, NetName, SpnBlock, SpnBook, Team,
 };

@@ -24,7 +24,7 @@ use store_tables::{is_new, knows_schema};
 /// One database in memory, which is found under any path.
 #[derive(Drop)]
 pub struct MemoryDatabase {
-    /// The connection that shows it. Where there is none, or a transaction has begun on it, each call is lost.
+    /// The connection that shows it. Where it is absent, or a transaction has begun on it, each call is lost.
     pub conn: Option<Connection<MemStore>>,
 }
 
@@ -79,11 +79,12 @@ impl Databases for MemoryDatabase {
         _path: &str,
         script: &[u8],
         arrivals: &[Arrival],
+        strict: bool,
         progress: &mut Progress<W>,
     ) -> Result<Answers, AllocError> {
         match self.taken() {
             Ok(conn) => {
-                let (reported, conn) = answer_on(alloc, conn, script, arrivals, progress);
+                let (reported, conn) = answer_on(alloc, conn, script, arrivals, strict, progress);
                 self.conn = Some(conn);
                 reported
             }

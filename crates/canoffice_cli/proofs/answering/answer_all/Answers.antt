@@ -1,5 +1,8 @@
 use Rattle.std.proofs.Common.{◌≡◌, ◌+◌, ◌<◌, ◌++◌, ◌∷◌, [], length, take, ap, ◌∙◌, subst, arith, length-append}
 use Rattle.std.proofs.lemmas.List.{take_more}
+use Rattle.std.specs.List.{list_any}
+use Rattle.office_echo.specs.Lines.{is_refused}
+use Rattle.canoffice_cli.proofs.Stopping.{far_at_end, far_at_loss, far_at_refusal, ends_here, still_none}
 use Rattle.sqlite.specs.Held.{state}
 use Rattle.sqlite.specs.State.{HasCleanDisk}
 use Rattle.store.specs.Holding.{Holding}
@@ -15,6 +18,7 @@ loop-arrival-init g c =
       len = c.in_ok-answers.ensures.len;
       room = let room = c.in_ok-answers.ensures.capacity in omega (arith, room);
       each = ap length c.in_ok-answers.ensures.items;
+      none = λ _. ap (list_any is_refused) c.in_ok-answers.ensures.items;
       clean = omega arith;
       held = λ clean h holding. subst (λ k. Holding k old)
           (history_at_first h (take 0 c.args.arrivals.now) c.in_ok-answers.answers.items c.in_ok-answers.ensures.items)
@@ -45,6 +49,8 @@ loop-arrival-preserved g c =
       room = let room = i.room in let same = c.push_reserved.ensures.capacity in omega (arith, room, same);
       each = let each = i.each in let one = length-append items (c.in-Ok.answer ∷ []) in
           ap length c.push_reserved.ensures.items ∙ omega (arith, each, one);
+      none = still_none c.args.strict c.stops_at-stops.result items _ c.in-Ok.answer i.none
+          c.stops_at-stops.ensures c.if-stops.false c.push_reserved.ensures.items;
       clean = let early = i.clean in omega (arith, early, arrive.call.clean);
       held = λ clean h holding.
           let early : HasCleanDisk mid = omega (arith, arrive.call.clean, clean) in
@@ -77,3 +83,45 @@ pub returns-clause-legal : goal.returns-clause-legal
 returns-clause-legal g c clean h holding =
     let i = c.loop-arrival.invariant in
     subst IsLegalHistory (history_so_far h c.args.arrivals.now _ _ i.each) (held_is_legal _ _ (i.held clean h holding))
+
+pub returns-then-stops-clause-held : goal.returns-then-stops-clause-held
+returns-then-stops-clause-held g c clean h holding is_open =
+    let i = c.loop-arrival.invariant in
+    let at = c.loop-arrival.arrival-index in
+    let arrivals = c.args.arrivals.now in
+    let item = c.arrival-item.result in
+    let items = c.loop-arrival.answers.items in
+    let all = c.push_reserved.new.self.items in
+    let now = state g.S.Store c.arrive.new.self.conn in
+    let arrive = c.in-Ok.ensures in
+    let within : at < length arrivals = c.loop-arrival-test.true in
+    let next : take (at + 1) arrivals ≡ take at arrivals ++ item ∷ [] =
+    rw (take_more arrivals at item within, ← c.arrival-item.is) in
+    let before = i.each in
+    let one = length-append items (c.in-Ok.answer ∷ []) in
+    let each : length all ≡ at + 1 = ap length c.push_reserved.ensures.items ∙ omega (arith, before, one) in
+    let early : HasCleanDisk (state g.S.Store c.loop-arrival.office.conn) = omega (arith, arrive.call.clean, clean) in
+    let held = reported_next (λ k. Holding k now) h arrivals at items all item c.in-Ok.answer within next i.each
+    c.push_reserved.ensures.items (arrive.answered clean _ (i.held early h holding)).0 in
+    subst (λ k. Holding k now) (history_so_far h arrivals all (at + 1) each) held
+
+pub returns-then-stops-clause-legal : goal.returns-then-stops-clause-legal
+returns-then-stops-clause-legal g c clean h holding =
+    let i = c.loop-arrival.invariant in
+    let at = c.loop-arrival.arrival-index in
+    let arrivals = c.args.arrivals.now in
+    let item = c.arrival-item.result in
+    let items = c.loop-arrival.answers.items in
+    let all = c.push_reserved.new.self.items in
+    let now = state g.S.Store c.arrive.new.self.conn in
+    let arrive = c.in-Ok.ensures in
+    let within : at < length arrivals = c.loop-arrival-test.true in
+    let next : take (at + 1) arrivals ≡ take at arrivals ++ item ∷ [] =
+    rw (take_more arrivals at item within, ← c.arrival-item.is) in
+    let before = i.each in
+    let one = length-append items (c.in-Ok.answer ∷ []) in
+    let each : length all ≡ at + 1 = ap length c.push_reserved.ensures.items ∙ omega (arith, before, one) in
+    let early : HasCleanDisk (state g.S.Store c.loop-arrival.office.conn) = omega (arith, arrive.call.clean, clean) in
+    let held = reported_next (λ k. Holding k now) h arrivals at items all item c.in-Ok.answer within next i.each
+    c.push_reserved.ensures.items (arrive.answered clean _ (i.held early h holding)).0 in
+    subst IsLegalHistory (history_so_far h arrivals all (at + 1) each) (held_is_legal _ _ held)

@@ -5,7 +5,8 @@ use Rattle.sqlite.specs.State.{HasCleanDisk}
 use Rattle.sqlite_trees.specs.View.{doubt}
 use Rattle.office_history.specs.History.{Answered}
 use Rattle.store.specs.Holding.{Holding}
-use Rattle.canoffice_cli.specs.Answered.{answered_with}
+use Rattle.std.specs.Prelude.{IsTrue}
+use Rattle.canoffice_cli.specs.Answered.{NoneRefused, answered_with}
 use Rattle.canoffice_cli.proofs.answering.answer_all.Given as goal
 
 -- the arrivals so far have answers, and the tables hold the history with them
@@ -18,6 +19,7 @@ invariant-loop-arrival g l =
       len : vec_len l.answers ≡ l.arrival-index;
       room : length l.arrivals ≤ vec_capacity l.answers;
       each : length l.answers.items ≡ l.arrival-index;
+      none : IsTrue l.strict → NoneRefused l.answers.items;
       clean : doubt old.is_clean ≤ doubt now.is_clean;
       held : HasCleanDisk now → (h : List Answered) → Holding h old
           → Holding (h ++ answered_with (take l.arrival-index l.arrivals) l.answers.items) now;

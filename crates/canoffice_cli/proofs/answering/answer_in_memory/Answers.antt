@@ -1,5 +1,8 @@
 use Rattle.std.proofs.Common.{◌≡◌, ◌+◌, ◌<◌, ◌++◌, ◌∷◌, [], length, take, ap, ◌∙◌, subst, arith, length-append}
 use Rattle.std.proofs.lemmas.List.{take_more}
+use Rattle.std.specs.List.{list_any}
+use Rattle.office_echo.specs.Lines.{is_refused}
+use Rattle.canoffice_cli.proofs.Stopping.{far_at_end, far_at_loss, far_at_refusal, ends_here, still_none}
 use Rattle.office_keyed.specs.Keyed.{HoldsHistory}
 use Rattle.office_history.specs.History.{IsLegalHistory}
 use Rattle.canoffice_cli.proofs.Reported.{history_at_first, history_so_far, reported_next}
@@ -11,6 +14,7 @@ loop-arrival-init g c = record {
   len = c.in_ok-answers.ensures.len;
   room = let room = c.in_ok-answers.ensures.capacity in omega (arith, room);
   each = ap length c.in_ok-answers.ensures.items;
+  none = λ _. ap (list_any is_refused) c.in_ok-answers.ensures.items;
   held = subst (λ k. HoldsHistory k c.new-office.result)
       (history_at_first [] (take 0 c.args.arrivals.now) c.in_ok-answers.answers.items c.in_ok-answers.ensures.items)
       c.new-office.ensures;
@@ -38,6 +42,8 @@ loop-arrival-preserved g c =
       room = let room = i.room in let same = c.push_reserved.ensures.capacity in omega (arith, room, same);
       each = let each = i.each in let one = length-append items (c.in-Ok.answer ∷ []) in
           ap length c.push_reserved.ensures.items ∙ omega (arith, each, one);
+      none = still_none c.args.strict c.stops_at-stops.result items _ c.in-Ok.answer i.none
+          c.stops_at-stops.ensures c.if-stops.false c.push_reserved.ensures.items;
       held = reported_next (λ k. HoldsHistory k now) [] arrivals at items _ item c.in-Ok.answer within next i.each
           c.push_reserved.ensures.items (c.in-Ok.ensures.held _ i.held);
     }
@@ -51,3 +57,34 @@ pub returns-clause-goes_on : goal.returns-clause-goes_on
 returns-clause-goes_on g c =
     let i = c.loop-arrival.invariant in
     subst IsLegalHistory (history_so_far [] c.args.arrivals.now _ _ i.each) (c.loop-arrival.office.office, i.held.legal)
+
+pub returns-then-stops-clause-far : goal.returns-then-stops-clause-far
+returns-then-stops-clause-far g c =
+    let i = c.loop-arrival.invariant in
+    let items = c.loop-arrival.answers.items in
+    let within = c.loop-arrival-test.true in
+    let each = i.each in
+    let one = length-append items (c.in-Ok.answer ∷ []) in
+    let all = ap length c.push_reserved.ensures.items in
+    far_at_refusal c.args.strict c.args.arrivals.now c.push_reserved.new.self.items (omega (arith, each, one, all, within))
+    (ends_here c.args.strict c.stops_at-stops.result items c.push_reserved.new.self.items c.in-Ok.answer i.none
+    c.stops_at-stops.ensures c.if-stops.true c.push_reserved.ensures.items)
+
+pub returns-then-stops-clause-goes_on : goal.returns-then-stops-clause-goes_on
+returns-then-stops-clause-goes_on g c =
+    let i = c.loop-arrival.invariant in
+    let at = c.loop-arrival.arrival-index in
+    let arrivals = c.args.arrivals.now in
+    let item = c.arrival-item.result in
+    let items = c.loop-arrival.answers.items in
+    let all = c.push_reserved.new.self.items in
+    let now = c.arrive.new.self in
+    let within : at < length arrivals = c.loop-arrival-test.true in
+    let next : take (at + 1) arrivals ≡ take at arrivals ++ item ∷ [] =
+    rw (take_more arrivals at item within, ← c.arrival-item.is) in
+    let before = i.each in
+    let one = length-append items (c.in-Ok.answer ∷ []) in
+    let each : length all ≡ at + 1 = ap length c.push_reserved.ensures.items ∙ omega (arith, before, one) in
+    let held = reported_next (λ k. HoldsHistory k now) [] arrivals at items all item c.in-Ok.answer within next i.each
+    c.push_reserved.ensures.items (c.in-Ok.ensures.held _ i.held) in
+    subst IsLegalHistory (history_so_far [] arrivals all (at + 1) each) (now.office, held.legal)

@@ -1,7 +1,8 @@
 use Rattle.std.proofs.Common.{◌≡◌, ◌≤◌, length, take}
 use Rattle.std.specs.Vec.{vec_capacity, vec_len}
 use Rattle.office_keyed.specs.Keyed.{HoldsHistory}
-use Rattle.canoffice_cli.specs.Answered.{answered_with}
+use Rattle.std.specs.Prelude.{IsTrue}
+use Rattle.canoffice_cli.specs.Answered.{NoneRefused, answered_with}
 use Rattle.canoffice_cli.proofs.answering.answer_in_memory.Given as goal
 
 -- the arrivals so far have answers, and the office holds them
@@ -11,5 +12,6 @@ invariant-loop-arrival g l = record {
   len : vec_len l.answers ≡ l.arrival-index;
   room : length l.arrivals ≤ vec_capacity l.answers;
   each : length l.answers.items ≡ l.arrival-index;
+  none : IsTrue l.strict → NoneRefused l.answers.items;
   held : HoldsHistory (answered_with (take l.arrival-index l.arrivals) l.answers.items) l.office;
 }

@@ -4,9 +4,9 @@ use Rattle.canoffice_cli.proofs.CommandLine.{entered_by_name}
 use Rattle.canoffice_cli.proofs.job.job_in.Goals as goal
 
 pub apply_job-requires : goal.apply_job-requires
-apply_job-requires c = (entered_by_name c.args.matches.now c.in-Some.name.now (rows_of (found_of c.in-Some.found.now))
-    (codes "apply") c.in-Some.ensures.name c.in-Some.ensures.rows (sym c.eq.ensures ∙ c.if-eq.true) c.requires).1.1.0
-    refl
+apply_job-requires c =
+    (entered_by_name c.args.matches.now c.in-Some.name.now (rows_of (found_of c.in-Some.found.now)) (codes "apply")
+    c.in-Some.ensures.name c.in-Some.ensures.rows (sym c.eq.ensures ∙ c.if-eq.true) c.requires).1.1.1.1.0 refl
 
 pub chart_job-requires-clause-length : goal.chart_job-requires-clause-length
 chart_job-requires-clause-length c =

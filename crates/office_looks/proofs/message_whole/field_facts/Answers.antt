@@ -1,5 +1,5 @@
 use Rattle.std.proofs.Common.{ap, codes, ◌∙◌}
-use Rattle.office_looks.specs.Lines.{fact}
+use Rattle.office_seen.specs.Lines.{fact}
 use Rattle.office_looks.proofs.Joined.{three_joined}
 use Rattle.office_looks.proofs.message_whole.field_facts.Goals as goal
 

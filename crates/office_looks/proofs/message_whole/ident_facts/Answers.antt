@@ -1,6 +1,5 @@
 use Rattle.std.proofs.Common.{ap, codes, ◌∙◌}
-use Rattle.office_looks.specs.Lines.{fact}
-use Rattle.office_looks.specs.State.{number_fact}
+use Rattle.office_seen.specs.Lines.{fact, number_fact}
 use Rattle.office_looks.proofs.Joined.{four_joined}
 use Rattle.office_looks.proofs.message_whole.ident_facts.Goals as goal
 

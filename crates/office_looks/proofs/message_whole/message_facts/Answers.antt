@@ -1,6 +1,6 @@
 use Rattle.std.proofs.Common.{ap, codes, ◌∙◌}
 use Rattle.columns.specs.Word.{rest}
-use Rattle.office_looks.specs.Lines.{fact}
+use Rattle.office_seen.specs.Lines.{fact}
 use Rattle.office_looks.proofs.Joined.{five_joined}
 use Rattle.office_looks.proofs.message_whole.message_facts.Goals as goal
 

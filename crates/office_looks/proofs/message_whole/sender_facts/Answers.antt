@@ -1,7 +1,6 @@
 use Rattle.std.proofs.Common.{ap, codes, ◌∙◌}
 use Rattle.columns.specs.Word.{word}
-use Rattle.office_looks.specs.Lines.{fact}
-use Rattle.office_looks.specs.State.{number_fact}
+use Rattle.office_seen.specs.Lines.{fact, number_fact}
 use Rattle.office_looks.proofs.Joined.{three_joined}
 use Rattle.office_looks.proofs.message_whole.sender_facts.Goals as goal
 

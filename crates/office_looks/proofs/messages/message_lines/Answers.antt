@@ -1,11 +1,12 @@
 use Rattle.std.proofs.Common.{◌≡◌, ◌+◌, ◌<◌, ◌++◌, ℕ, List, ◌∷◌, length, drop, filter, get_or, sym, ap, ◌∙◌, arith}
 use Rattle.std.specs.List.{flat_map}
 use Rattle.std.specs.Option.{option_copied}
+use Rattle.office_seen.specs.View.{owned}
 use Rattle.office_looks.specs.Messages.{is_wanted, message_line}
-use Rattle.office_looks.specs.View.{owned}
 use Rattle.office_looks.proofs.Owning.{element, failing, line_more, owned_at, passing}
 use Rattle.office_looks.proofs.messages.message_lines.Goals as goal
-use Rattle.office_looks.proofs.messages.message_lines.Goals.{then-is_wanted+in_ok-line+in_ok-extend_from_slice, else-is_wanted}
+use Rattle.office_looks.proofs.messages.message_lines.Goals.{then-is_wanted+in_ok-line+in_ok-extend_from_slice}
+use Rattle.office_looks.proofs.messages.message_lines.Goals.{else-is_wanted}
 
 pub loop-index-preserved : goal.loop-index-preserved
 loop-index-preserved c =
@@ -18,7 +19,8 @@ loop-index-preserved c =
     let in_messages : i < length view.sheet.messages = omega arith in
     let in_owners : i < length view.owners = omega arith in
     let o = c.index-owners-index.result in
-    let is_o : o ≡ get_or view.owners i o = c.index-owners-index.is ∙ ap (λ v. get_or v i o) c.as_slice-owners.ensures in
+    let is_o : o ≡ get_or view.owners i o =
+    c.index-owners-index.is ∙ ap (λ v. get_or v i o) c.as_slice-owners.ensures in
     let before = c.loop-index.lines.items in
     elim c.if-is_wanted.branch [
       | then-is_wanted+in_ok-line+in_ok-extend_from_slice w ↦

@@ -1,8 +1,8 @@
 use Rattle.std.proofs.Common.{◌≡◌, ◌++◌, drop, filter}
 use Rattle.std.specs.List.{flat_map}
 use Rattle.std.specs.Option.{option_copied}
+use Rattle.office_seen.specs.View.{owned}
 use Rattle.office_looks.specs.Messages.{is_wanted, message_line}
-use Rattle.office_looks.specs.View.{owned}
 use Rattle.office_looks.proofs.messages.message_lines.Given as goal
 
 -- those so far, and those of the messages that are left

@@ -1,7 +1,7 @@
 use Rattle.std.proofs.Common.{◌≡◌, ◌+◌, ◌<◌, ◌∷◌, length, drop, filter, get_or, sym, ap, ◌∙◌, arith}
 use Rattle.std.specs.Option.{option_copied}
+use Rattle.office_seen.specs.View.{owned}
 use Rattle.office_looks.specs.Messages.{is_wanted}
-use Rattle.office_looks.specs.View.{owned}
 use Rattle.office_looks.proofs.Owning.{element, failing, owned_at, passing}
 use Rattle.office_looks.proofs.messages.wanted_count.Goals as goal
 use Rattle.office_looks.proofs.messages.wanted_count.Goals.{then-is_wanted, else-is_wanted}
@@ -17,7 +17,8 @@ loop-index-preserved c =
     let in_owners : i < length view.owners = omega arith in
     let (m, is_m) = element view.sheet.messages i in_messages in
     let o = c.index-owners-index.result in
-    let is_o : o ≡ get_or view.owners i o = c.index-owners-index.is ∙ ap (λ v. get_or v i o) c.as_slice-owners.ensures in
+    let is_o : o ≡ get_or view.owners i o =
+    c.index-owners-index.is ∙ ap (λ v. get_or v i o) c.as_slice-owners.ensures in
     let here : drop i (owned view) ≡ (m, o) ∷ rest = owned_at view i m o within in_messages in_owners is_m is_o in
     elim c.if-is_wanted.branch [
       | then-is_wanted w ↦

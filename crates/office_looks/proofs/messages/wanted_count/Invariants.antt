@@ -1,7 +1,7 @@
 use Rattle.std.proofs.Common.{◌≡◌, ◌+◌, ◌≤◌, drop, filter, length}
 use Rattle.std.specs.Option.{option_copied}
+use Rattle.office_seen.specs.View.{owned}
 use Rattle.office_looks.specs.Messages.{is_wanted}
-use Rattle.office_looks.specs.View.{owned}
 use Rattle.office_looks.proofs.messages.wanted_count.Given as goal
 
 abbrev pub invariant-loop-index : goal.invariant-loop-index

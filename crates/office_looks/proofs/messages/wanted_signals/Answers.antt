@@ -2,8 +2,8 @@ use Rattle.std.proofs.Common.{◌≡◌, ◌+◌, ◌≤◌, ◌<◌, ℕ, List,
 use Rattle.std.specs.Option.{option_copied}
 use Rattle.dbc_sheet.specs.declared.message.Message.{Message}
 use Rattle.office_views.specs.Table.{signal_count}
+use Rattle.office_seen.specs.View.{owned}
 use Rattle.office_looks.specs.Messages.{is_wanted}
-use Rattle.office_looks.specs.View.{owned}
 use Rattle.office_looks.proofs.Owning.{element, failing, owned_at, passing, signals_more}
 use Rattle.office_looks.proofs.messages.wanted_signals.Goals as goal
 use Rattle.office_looks.proofs.messages.wanted_signals.Goals.{then-is_wanted, else-is_wanted}
@@ -21,7 +21,8 @@ loop-index-preserved c =
     let in_messages : i < length view.sheet.messages = omega arith in
     let in_owners : i < length view.owners = omega arith in
     let o = c.index-owners-index.result in
-    let is_o : o ≡ get_or view.owners i o = c.index-owners-index.is ∙ ap (λ v. get_or v i o) c.as_slice-owners.ensures in
+    let is_o : o ≡ get_or view.owners i o =
+    c.index-owners-index.is ∙ ap (λ v. get_or v i o) c.as_slice-owners.ensures in
     elim c.if-is_wanted.branch [
       | then-is_wanted w ↦
           let m = w.index-messages-index.result in

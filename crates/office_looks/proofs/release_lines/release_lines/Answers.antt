@@ -1,7 +1,7 @@
 use Rattle.std.proofs.Common.{◌≡◌, ◌+◌, ◌<◌, ◌++◌, ℕ, List, ◌∷◌, length, drop, take, get_or, sym, ap, ◌∙◌, append_assoc}
 use Rattle.std.proofs.lemmas.List.{drop_more}
+use Rattle.office_seen.specs.Since.{last_release}
 use Rattle.office_looks.specs.Releases.{lines_after, release_line}
-use Rattle.office_looks.specs.Since.{last_release}
 use Rattle.office_looks.proofs.LastOf.{last_taken}
 use Rattle.office_looks.proofs.release_lines.release_lines.Goals as goal
 
@@ -24,4 +24,5 @@ loop-index-preserved c =
     ∙ ap (λ v. written ++ lines_after (i + 1) before v) here
     ∙ sym (append_assoc written (release_line (i + 1) before s) (lines_after (i + 1 + 1) s rest))
     ∙ ap (λ v. v ++ lines_after (i + 1 + 1) s rest) (sym more)
-    ∙ ap (λ x. c.extend_from_slice.new.self.items ++ lines_after (i + 1 + 1) x rest) (sym (last_taken sheets i s within is))
+    ∙ ap (λ x. c.extend_from_slice.new.self.items ++ lines_after (i + 1 + 1) x rest)
+    (sym (last_taken sheets i s within is))

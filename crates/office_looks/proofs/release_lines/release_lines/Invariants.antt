@@ -1,7 +1,7 @@
 use Rattle.std.proofs.Common.{◌≡◌, ◌++◌, ◌+◌, drop, take}
 use Rattle.dbc_sheet.specs.Sheet.{empty_sheet}
+use Rattle.office_seen.specs.Since.{last_release}
 use Rattle.office_looks.specs.Releases.{lines_after}
-use Rattle.office_looks.specs.Since.{last_release}
 use Rattle.office_looks.proofs.release_lines.release_lines.Given as goal
 
 -- those so far, and those of the releases that are left

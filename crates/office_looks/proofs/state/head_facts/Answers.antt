@@ -1,7 +1,7 @@
 use Rattle.std.proofs.Common.{◌++◌, codes, ap, ◌∙◌, append_assoc}
 use Rattle.columns.specs.Word.{word}
 use Rattle.office_views.specs.NetList.{kind_word, phase_word}
-use Rattle.office_looks.specs.Lines.{fact}
+use Rattle.office_seen.specs.Lines.{fact}
 use Rattle.office_looks.proofs.Adding.{added}
 use Rattle.office_looks.proofs.state.head_facts.Goals as goal
 

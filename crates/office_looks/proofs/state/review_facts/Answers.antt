@@ -1,7 +1,7 @@
 use Rattle.std.proofs.Common.{◌++◌, [], codes, unwrap_or, ap, ◌∙◌, append_assoc}
 use Rattle.columns.specs.Word.{word, words}
 use Rattle.office_types.specs.State.{submitter_of}
-use Rattle.office_looks.specs.Lines.{fact}
+use Rattle.office_seen.specs.Lines.{fact}
 use Rattle.office_looks.specs.State.{lacking}
 use Rattle.office_looks.proofs.Adding.{added}
 use Rattle.office_looks.proofs.state.review_facts.Goals as goal

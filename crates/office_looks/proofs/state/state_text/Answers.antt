@@ -1,8 +1,9 @@
 use Rattle.std.proofs.Common.{◌++◌, List, length, codes, ap, ◌∙◌}
 use Rattle.dbc_pairs.specs.Pairs.{counts_of}
 use Rattle.dbc_sheet.specs.declared.sheet.Sheet.{Sheet}
-use Rattle.office_looks.specs.Since.{last_release}
-use Rattle.office_looks.specs.State.{change_facts, head_facts, number_fact, office_facts, review_facts, sheet_facts}
+use Rattle.office_seen.specs.Lines.{number_fact}
+use Rattle.office_seen.specs.Since.{last_release}
+use Rattle.office_looks.specs.State.{change_facts, head_facts, office_facts, review_facts, sheet_facts}
 use Rattle.office_looks.proofs.Adding.{added, of_six}
 use Rattle.office_looks.proofs.state.state_text.Goals as goal
 

@@ -7,5 +7,6 @@ use Rattle.office_looks.proofs.who.add_held_numbers.Given as goal
 
 -- those so far, and those of the identifiers that are left
 abbrev pub invariant-loop-ident : goal.invariant-loop-ident
-invariant-loop-ident l = l.initial.numbers.items ++ held_numbers l.sought l.view ≡ l.numbers.items ++ flat_map numbers_of
+invariant-loop-ident l = l.initial.numbers.items ++ held_numbers l.sought l.view
+    ≡ l.numbers.items ++ flat_map numbers_of
     (filter (λ i. is_sought l.sought i (unwrap_or (last_name l.view.releases i) [])) (drop l.ident-index l.view.held))

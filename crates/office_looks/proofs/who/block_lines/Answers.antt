@@ -1,8 +1,9 @@
-use Rattle.std.proofs.Common.{◌≡◌, ◌+◌, ◌<◌, ◌++◌, List, ℕ, [], ◌∷◌, length, drop, filter, map, get_or, sym, ap, ◌∙◌, arith}
+use Rattle.std.proofs.Common.{◌≡◌, ◌+◌, ◌<◌, ◌++◌, ◌∷◌, length}
+use Rattle.std.proofs.Common.{drop, filter, map, get_or, sym, ap, ◌∙◌, arith}
 use Rattle.std.proofs.lemmas.List.{drop_more}
 use Rattle.std.specs.Prelude.{codes}
 use Rattle.office_types.specs.declared.state.GrantedBlock.{GrantedBlock}
-use Rattle.office_looks.specs.Blocks.{block_line}
+use Rattle.office_blocks.specs.Blocks.{block_line}
 use Rattle.office_looks.specs.Who.{block_lines, has_one, tagged}
 use Rattle.office_looks.proofs.Owning.{failing, item_more, passing}
 use Rattle.office_looks.proofs.who.block_lines.Goals as goal
@@ -35,7 +36,8 @@ loop-granted-preserved c =
           ∙ ap (λ v. before ++ map line (filter (has_one wanted) v)) here
           ∙ ap (λ v. before ++ map line v) (passing (has_one wanted) granted rest (sym tested ∙ w.if-has_one.true)))
           (w.in_ok-tagged.ensures
-          ∙ ap (tagged (codes "block")) (w.deref-then-has_one.ensures.value ∙ w.in_ok-line.ensures view c.in_ok-numbers.ensures))
+          ∙ ap (tagged (codes "block"))
+          (w.deref-then-has_one.ensures.value ∙ w.in_ok-line.ensures view c.in_ok-numbers.ensures))
           (w.lines-is ∙ w.in_ok-push.ensures.ok)
       | else-has_one w ↦
           c.loop-granted.invariant

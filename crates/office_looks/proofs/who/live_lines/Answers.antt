@@ -1,8 +1,9 @@
-use Rattle.std.proofs.Common.{◌≡◌, ◌+◌, ◌<◌, ◌++◌, List, ℕ, [], ◌∷◌, length, drop, filter, map, get_or, sym, ap, ◌∙◌, arith}
+use Rattle.std.proofs.Common.{◌≡◌, ◌+◌, ◌<◌, ◌++◌, List, ℕ, ◌∷◌, length}
+use Rattle.std.proofs.Common.{drop, filter, map, get_or, sym, ap, ◌∙◌, arith}
 use Rattle.std.specs.Prelude.{codes}
 use Rattle.dbc_sheet.specs.declared.message.Message.{Message}
+use Rattle.office_seen.specs.View.{owned}
 use Rattle.office_looks.specs.Messages.{message_line}
-use Rattle.office_looks.specs.View.{owned}
 use Rattle.office_looks.specs.Who.{is_sought, live_lines, tagged}
 use Rattle.office_looks.proofs.Owning.{element, failing, item_more, owned_at, passing}
 use Rattle.office_looks.proofs.who.live_lines.Goals as goal

@@ -1,6 +1,6 @@
 use Rattle.std.proofs.Common.{◌≡◌, ◌++◌, filter, map, take}
 use Rattle.std.specs.Str.{bytes_eq}
-use Rattle.office_looks.specs.View.{spn_block}
+use Rattle.office_seen.specs.View.{spn_block}
 use Rattle.store_looks.proofs.view.blocks_of.Given as goal
 
 abbrev pub invariant-loop-block : goal.invariant-loop-block

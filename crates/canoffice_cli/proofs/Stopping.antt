@@ -1,0 +1,42 @@
+-- How far arrivals are answered.
+use Rattle.std.proofs.Common.{◌≡◌, ◌≤◌, inl, inr, Bool, true, false, ◌&&◌, ◌||◌, List, ◌∷◌, [], ◌++◌, length, Option, Some}
+use Rattle.std.proofs.Common.{None, refl, sym, ap, ◌∙◌}
+use Rattle.std.proofs.lemmas.Bool.{false≢true}
+use Rattle.std.proofs.lemmas.Option.{none-some}
+use Rattle.std.specs.Prelude.{IsTrue}
+use Rattle.std.specs.List.{list_any}
+use Rattle.std.proofs.lemmas.List.Folds.{list_any-append}
+use Rattle.office_echo.specs.Lines.{is_refused}
+use Rattle.office_history.specs.declared.arrival.Answer.{Answer}
+use Rattle.office_history.specs.declared.arrival.Arrival.{Arrival}
+use Rattle.store.specs.declared.lost.Lost.{Lost}
+use Rattle.canoffice_cli.specs.Answered.{EndsRefused, IsFarEnough, NoneRefused}
+
+-- where nothing was refused and it goes on after the next answer, nothing is refused with that
+pub still_none : (strict stops : Bool) (ys zs : List Answer) (answer : Answer) → (IsTrue strict → NoneRefused ys)
+    → stops ≡ (strict && is_refused answer) → stops ≡ false → zs ≡ ys ++ answer ∷ [] → IsTrue strict → NoneRefused zs
+still_none false stops ys zs answer none is goes_on more strictly = absurd (false≢true strictly)
+still_none true stops ys zs answer none is goes_on more strictly =
+    ap (list_any is_refused) more ∙ list_any-append is_refused ys (answer ∷ [])
+    ∙ ap (λ b. b || (is_refused answer || false)) (none strictly) ∙ ap (λ b. b || false) (sym is ∙ goes_on)
+
+-- it stops at a refusal
+pub ends_here : (strict stops : Bool) (ys zs : List Answer) (answer : Answer) → (IsTrue strict → NoneRefused ys)
+    → stops ≡ (strict && is_refused answer) → stops ≡ true → zs ≡ ys ++ answer ∷ []
+    → IsTrue strict × EndsRefused zs
+ends_here false stops ys zs answer none is here more = absurd (false≢true (sym is ∙ here))
+ends_here true stops ys zs answer none is here more = (refl, (ys, answer, more, none refl, sym is ∙ here))
+
+-- ---- how far it is then
+
+pub far_at_refusal : (strict : Bool) (arrivals : List Arrival) (zs : List Answer) → length zs ≤ length arrivals
+    → IsTrue strict × EndsRefused zs → IsFarEnough strict arrivals zs None
+far_at_refusal strict arrivals zs some ends = record { some = some; all = λ none. inr ends; stops = λ s. inr ends.1 }
+
+pub far_at_end : (strict : Bool) (arrivals : List Arrival) (zs : List Answer) → length zs ≡ length arrivals
+    → length zs ≤ length arrivals → (IsTrue strict → NoneRefused zs) → IsFarEnough strict arrivals zs None
+far_at_end strict arrivals zs all some none = record { some = some; all = λ _. inl all; stops = λ s. inl (none s) }
+
+pub far_at_loss : (strict : Bool) (arrivals : List Arrival) (zs : List Answer) (lost : Lost) → length zs ≤ length arrivals
+    → (IsTrue strict → NoneRefused zs) → IsFarEnough strict arrivals zs (Some lost)
+far_at_loss strict arrivals zs lost some none = record { some = some; all = λ never. absurd (none-some lost (sym never)); stops = λ s. inl (none s) }

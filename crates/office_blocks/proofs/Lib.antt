@@ -1,0 +1,8 @@
+pub mod Counting
+pub mod Gaps
+pub mod Parts
+pub mod Left
+pub mod Same
+pub mod Next
+pub mod Wanted
+mod BlockRows

@@ -1,0 +1,82 @@
+-- What is said of a block depends only on which numbers are live and which are taken.
+use Rattle.std.proofs.Common.{◌≡◌, ℕ, ◌+◌, ◌-◌, ◌&&◌, List, [], ◌∷◌, ◌++◌, not, length, refl, ap, ◌∙◌}
+use Rattle.std.specs.Prelude.{codes}
+use Rattle.std.specs.List.{flat_map}
+use Rattle.columns.specs.Padding.{set_left}
+use Rattle.columns.specs.Run.{runs_of}
+use Rattle.columns.specs.Word.{word}
+use Rattle.office_types.specs.Block.{Range}
+use Rattle.office_types.specs.Free.{has_form, is_taken}
+use Rattle.office_types.specs.declared.block.BlockForm.{BlockForm}
+use Rattle.office_types.specs.declared.free.NumberForm.{NumberForm}
+use Rattle.office_types.specs.declared.state.GrantedBlock.{GrantedBlock}
+use Rattle.office_seen.specs.Lines.{counted}
+use Rattle.office_seen.specs.declared.view.View.{View}
+use Rattle.office_blocks.specs.Blocks.{block_line, forms_in, free_columns, free_count}
+use Rattle.office_blocks.specs.Blocks.{free_numbers, free_runs, free_text}
+use Rattle.office_blocks.specs.Blocks.{held_count, left_columns, line_with, live_count}
+use Rattle.office_blocks.specs.Blocks.{live_numbers, range_columns, runs_in}
+use Rattle.office_blocks.specs.Blocks.{step_of, taken_numbers}
+use Rattle.office_blocks.specs.Numbers.{AreNumbersOf, AreOf, of_form}
+use Rattle.office_blocks.specs.declared.numbers.FormNumbers.{FormNumbers}
+use Rattle.office_blocks.specs.declared.numbers.Numbers.{Numbers}
+use Rattle.office_blocks.proofs.Counting.{count_alike, filter_alike}
+
+flat_map_alike : {X A : Type 0} (f g : X → List A) (xs : List X) → ((x : X) → f x ≡ g x) → flat_map f xs ≡ flat_map g xs
+flat_map_alike f g [] e = refl
+flat_map_alike f g (x ∷ xs) e = ap (λ v. v ++ flat_map f xs) (e x) ∙ ap (λ v. g x ++ v) (flat_map_alike f g xs e)
+
+module _ (live taken : List ℕ) (numbers : FormNumbers) (are : AreOf live taken numbers) where
+  live_same : (b : Range) → live_count numbers.live b ≡ live_count live b
+  live_same b = count_alike (λ n. is_taken n numbers.live) (λ n. is_taken n live) (b.last + 1 - b.first) b.first
+      (λ n low high. are.same_live n)
+
+  held_same : (b : Range) → held_count numbers.live numbers.taken b ≡ held_count live taken b
+  held_same b = count_alike (λ n. is_taken n numbers.taken && not (is_taken n numbers.live))
+      (λ n. is_taken n taken && not (is_taken n live)) (b.last + 1 - b.first) b.first
+      (λ n low high. ap (λ t. t && not (is_taken n numbers.live)) (are.same_taken n)
+      ∙ ap (λ t. is_taken n taken && not t) (are.same_live n))
+
+  free_same : (b : Range) (form : NumberForm) → free_numbers numbers.taken b form ≡ free_numbers taken b form
+  free_same b form = filter_alike (λ n. has_form form n && not (is_taken n numbers.taken))
+      (λ n. has_form form n && not (is_taken n taken)) (b.last + 1 - b.first) b.first
+      (λ n low high. ap (λ t. has_form form n && not t) (are.same_taken n))
+
+  pub count_same : (b : Range) → free_count numbers.taken b ≡ free_count taken b
+  count_same b =
+      ap length (flat_map_alike (free_numbers numbers.taken b) (free_numbers taken b) (forms_in b.form) (free_same b))
+
+  runs_same : (b : Range) → free_runs numbers.taken b ≡ free_runs taken b
+  runs_same b = flat_map_alike (runs_in numbers.taken b) (runs_in taken b) (forms_in b.form)
+      (λ form. ap (runs_of (step_of form)) (free_same b form))
+
+  free_columns_same : (b : Range) → free_columns numbers.taken b ≡ free_columns taken b
+  free_columns_same b =
+      ap (λ n. counted (codes "free") 5 n ++ (codes " " ++ free_text (free_runs numbers.taken b))) (count_same b)
+      ∙ ap (λ rs. counted (codes "free") 5 (free_count taken b) ++ (codes " " ++ free_text rs)) (runs_same b)
+
+  left_columns_same : (b : Range) → left_columns numbers.live numbers.taken b ≡ left_columns live taken b
+  left_columns_same b =
+      ap (λ n. counted (codes "live") 4 n
+      ++ (codes " " ++ (counted (codes "held") 3 (held_count numbers.live numbers.taken b)
+      ++ (codes " " ++ free_columns numbers.taken b)))) (live_same b)
+      ∙ ap (λ n. counted (codes "live") 4 (live_count live b)
+      ++ (codes " " ++ (counted (codes "held") 3 n ++ (codes " " ++ free_columns numbers.taken b)))) (held_same b)
+      ∙ ap (λ text. counted (codes "live") 4 (live_count live b)
+      ++ (codes " " ++ (counted (codes "held") 3 (held_count live taken b) ++ (codes " " ++ text))))
+      (free_columns_same b)
+
+  line_same : (g : GrantedBlock) → line_with numbers.live numbers.taken g ≡ line_with live taken g
+  line_same g = ap (λ left. range_columns g.block
+      ++ (codes " " ++ (set_left 12 (word g.team) ++ (codes " " ++ (left ++ codes "\n"))))) (left_columns_same g.block)
+
+pub line_is : (view : View) (numbers : Numbers) (g : GrantedBlock) → AreNumbersOf view numbers
+    → line_with (of_form g.block.form numbers).live (of_form g.block.form numbers).taken g ≡ block_line view g
+line_is view numbers g are =
+    let form = g.block.form in
+    line_same (live_numbers form view) (taken_numbers form view) (of_form form numbers) (are form) g
+
+pub free_is : (view : View) (numbers : Numbers) (form : BlockForm) (b : Range) → AreNumbersOf view numbers
+    → free_count (of_form form numbers).taken b ≡ free_count (taken_numbers form view) b
+free_is view numbers form b are =
+    count_same (live_numbers form view) (taken_numbers form view) (of_form form numbers) (are form) b

@@ -1,0 +1,62 @@
+-- The wanted blocks of a list, block by block.
+use Rattle.std.proofs.Common.{◌≡◌, ℕ, ◌+◌, ◌<◌, ◌&&◌, Bool, true, false, List}
+use Rattle.std.proofs.Common.{[], ◌∷◌, ◌++◌, length, take, get_or, cond}
+use Rattle.std.proofs.Common.{map, sum, sym, ap, ◌∙◌, append-nil, refl}
+use Rattle.std.specs.List.{filter, flat_map, sum_by}
+use Rattle.std.proofs.lemmas.List.Concat.{flat_map-append}
+use Rattle.std.proofs.lemmas.List.Elements.{filter-append, filter_more}
+use Rattle.office_types.proofs.Least.{both_true}
+use Rattle.std.proofs.lemmas.List.Sums.{sum-map, sum_by_push}
+
+module _ {X : Type 0} (p : X → Bool) (xs : List X) (i : ℕ) (x : X)
+    (below : i < length xs) (is : x ≡ get_or xs i x) where
+  filter_further : filter p (take (i + 1) xs) ≡ filter p (take i xs) ++ cond (p x) (x ∷ []) []
+  filter_further =
+      filter_more p xs i x below ∙ ap (λ (y : X). filter p (take i xs) ++ cond (p y) (y ∷ []) []) (sym is)
+
+  filter_kept : p x ≡ true → filter p (take (i + 1) xs) ≡ filter p (take i xs) ++ x ∷ []
+  filter_kept e = filter_further ∙ ap (λ b. filter p (take i xs) ++ cond b (x ∷ []) []) e
+
+  filter_passed : p x ≡ false → filter p (take (i + 1) xs) ≡ filter p (take i xs)
+  filter_passed e =
+      filter_further ∙ ap (λ b. filter p (take i xs) ++ cond b (x ∷ []) []) e ∙ append-nil (filter p (take i xs))
+
+  -- the piece of a wanted block more
+  pub piece_kept : (f : X → List ℕ) (before piece after : List ℕ) → p x ≡ true
+      → before ≡ flat_map f (filter p (take i xs)) → piece ≡ f x → after ≡ before ++ piece
+      → after ≡ flat_map f (filter p (take (i + 1) xs))
+  piece_kept f before piece after e so one more =
+      more ∙ ap (λ v. v ++ piece) so ∙ ap (λ v. flat_map f (filter p (take i xs)) ++ v) (one ∙ sym (append-nil (f x)))
+      ∙ sym (flat_map-append f (filter p (take i xs)) (x ∷ []))
+      ∙ ap (flat_map f) (sym (filter_kept e))
+
+  pub piece_passed : (f : X → List ℕ) (before : List ℕ) → p x ≡ false → before ≡ flat_map f (filter p (take i xs))
+      → before ≡ flat_map f (filter p (take (i + 1) xs))
+  piece_passed f before e so = so ∙ ap (flat_map f) (sym (filter_passed e))
+
+  module _ (q : X → Bool) (f : X → ℕ) where
+    twice_kept : p x ≡ true → q x ≡ true
+        → filter q (filter p (take (i + 1) xs)) ≡ filter q (filter p (take i xs)) ++ x ∷ []
+    twice_kept e d = ap (filter q) (filter_kept e) ∙ filter-append q (filter p (take i xs)) (x ∷ [])
+        ∙ ap (λ b. filter q (filter p (take i xs)) ++ cond b (x ∷ []) []) d
+
+    twice_passed : (b : Bool) → p x ≡ b → (b && q x) ≡ false
+        → filter q (filter p (take (i + 1) xs)) ≡ filter q (filter p (take i xs))
+    twice_passed true e d = ap (filter q) (filter_kept e) ∙ filter-append q (filter p (take i xs)) (x ∷ [])
+        ∙ ap (λ b. filter q (filter p (take i xs)) ++ cond b (x ∷ []) []) d
+        ∙ append-nil (filter q (filter p (take i xs)))
+    twice_passed false e d = ap (filter q) (filter_passed e)
+
+    pub sum_kept : (count more : ℕ) → (p x && q x) ≡ true → count ≡ sum (map f (filter q (filter p (take i xs))))
+        → more ≡ f x → count + more ≡ sum (map f (filter q (filter p (take (i + 1) xs))))
+    sum_kept count more e so one =
+        let both = both_true (p x) (q x) e in
+        ap (λ n. n + more) (so ∙ sum-map f (filter q (filter p (take i xs))))
+        ∙ ap (λ n. sum_by f (filter q (filter p (take i xs))) + n) one
+        ∙ sym (sum_by_push f (filter q (filter p (take i xs))) x)
+        ∙ ap (sum_by f) (sym (twice_kept both.0 both.1))
+        ∙ sym (sum-map f (filter q (filter p (take (i + 1) xs))))
+
+    pub sum_passed : (count : ℕ) → (p x && q x) ≡ false → count ≡ sum (map f (filter q (filter p (take i xs))))
+        → count ≡ sum (map f (filter q (filter p (take (i + 1) xs))))
+    sum_passed count e so = so ∙ ap (λ ys. sum (map f ys)) (sym (twice_passed (p x) refl e))

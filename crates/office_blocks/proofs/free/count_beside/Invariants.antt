@@ -1,0 +1,10 @@
+use Rattle.std.proofs.Common.{◌≡◌, ◌≤◌, not, take}
+use Rattle.std.specs.List.{count_by}
+use Rattle.office_types.specs.Free.{is_taken}
+use Rattle.office_blocks.proofs.free.count_beside.Given as goal
+
+abbrev pub invariant-loop-number : goal.invariant-loop-number
+invariant-loop-number l = record {
+  counted : l.count ≡ count_by (λ n. not (is_taken n l.others)) (take l.number-index l.numbers);
+  few : l.count ≤ l.number-index;
+}

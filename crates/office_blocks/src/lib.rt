@@ -1,0 +1,19 @@
+//! The granted blocks of a network as lines: how many numbers of each are live, held and free, and which are free.
+//!
+//! [`blocks_text`] gives the lines of a team's blocks, or of all, and a last line with the totals. [`block_line`] is
+//! the line of one block, by the [`Numbers`] of the network: for each form those that are live, and those that may not
+//! be given out, in ascending order (`numbers`). In them `free` finds what is left of a block by binary search, as
+//! runs, of which the first begins with the number that is given out next ([`first_run_is_next`]).
+//!
+//! The definitions are in `specs/`: `Blocks.antt` has which numbers are live and taken, what is left of a block, and
+//! the lines; `Numbers.antt` says which ascending lists have them.
+#![tactic(auto)]
+
+mod blocks;
+mod free;
+mod laws;
+mod numbers;
+
+pub use blocks::{block_line, blocks_text};
+pub use laws::first_run_is_next;
+pub use numbers::Numbers;

@@ -1,5 +1,0 @@
-use Rattle.office_looks.proofs.Left.{live_is}
-use Rattle.office_looks.proofs.free.live_count.Goals as goal
-
-pub returns : goal.returns
-returns c = live_is c.args.numbers.now.live c.part_in.result.now c.args.block c.part_in.ensures.range c.part_in.ensures.part

@@ -1,8 +1,0 @@
-use Rattle.std.proofs.Common.{◌≡◌, ◌++◌, not, map, take}
-use Rattle.std.specs.Prelude.{◌==◌}
-use Rattle.std.specs.List.{filter}
-use Rattle.office_looks.proofs.numbers.push_spns.Given as goal
-
-abbrev pub invariant-loop-signal : goal.invariant-loop-signal
-invariant-loop-signal l = l.numbers.items
-    ≡ l.initial.numbers.items ++ filter (λ n. not (n == 0)) (map (λ s. s.spn) (take l.signal-index l.signal-items))

@@ -1,0 +1,4 @@
+pub mod View
+pub mod Since
+pub mod Granted
+pub mod Lines

@@ -1,0 +1,3 @@
+pub mod SpnPlaces
+pub mod LastPlaces
+mod SpnRows

@@ -1,0 +1,2 @@
+pub mod Spns
+pub mod SpnIndex

@@ -1,0 +1,18 @@
+//! The suspect parameter numbers of a network as lines: what has become of each, its releases and its places.
+//!
+//! [`spns_text`] gives the lines of all numbers that are shown ([`shown_spns`]), and a last line with how many there
+//! are; [`spn_lines`] are those of one number. Both look in a [`SpnView`]: what is seen of a network (`office_seen`),
+//! with an index of each of its sheets (`spn_index`), in which a number is found by binary search.
+//!
+//! The definitions are in `specs/`: `Spns.antt` has where a number is, what has become of it (`SpnUse`) and the lines;
+//! `SpnIndex.antt` says what an index has. A number is shown if a live signal or a release has it, or a block of the
+//! network.
+#![tactic(auto)]
+
+mod spn_index;
+mod spn_use;
+mod spn_view;
+mod spns;
+
+pub use spn_view::SpnView;
+pub use spns::{shown_spns, spn_lines, spns_text};

@@ -349,6 +349,7 @@ CLASH = {"clash.dbc": b'BU_:\nBO_ 257 Clash: 2 Vector__XXX\n SG_ Big : 7|16@0+ (
          b' SG_ Little : 0|16@1+ (1,0) [0|0] "" Vector__XXX\n'}
 CLASHES = b"clash.dbc:4:6: 23 Clash: signals Big and Little share bit 0 in message Clash (0x101)\n"
 WRONG = {"wrong.txt": b"- engine take_ident net=truck form=std name=EngineSpeed length=1786\n"}
+SENT = {"sent.txt": b"a1 engine take_ident net=truck form=std name=EngineSpeed length=8\n"}
 TOO_LONG = b"wrong.txt:1:57: bad line: found 'length=1786', but length is a whole number from 0 to 1785\n"
 CHART = b"""   0 # # # # # # # #
    1 # # # # # # # #
@@ -393,6 +394,8 @@ COMMANDS = {
         EVERY_TABLE, ["show", "--db", "office.db", "truck", "who", "Nobody"], Answer(b"", b"not found\n", 1)),
     "show_no_desk": Printing(
         ["show", "--port", str(FREE)], {}, Answer(b"", f"no desk answers on port {FREE}\n".encode(), 3)),
+    "send_no_desk": Printing(
+        ["send", "--port", str(FREE), "--tries", "1", "sent.txt"], SENT, Answer(b"", b"lost 72\n", 3)),
     "requests": Looking(EVERY_TABLE, ["requests", "--db", "office.db", "engine"], Answer(REQUESTS)),
     "serve_taken": InNewDatabase(SERVE, {}, Answer(b"", b"cannot listen\n", 3)),
     "migrate": Migrating(

@@ -9,14 +9,19 @@ signal.signal(signal.SIGALRM, lambda *_: sys.exit("it takes too long"))
 signal.alarm(300)
 
 
-class Serve:
-    """`canoffice serve` on a database and a free port, from when it listens. If a file size is given, no file may grow beyond it:
-    a write there fails, as on a disk that is full. If a count of files is given, no more may be open."""
+def free_port():
+    """A port at which nothing listens."""
+    with socket.socket() as free:
+        free.bind(("127.0.0.1", 0))
+        return free.getsockname()[1]
 
-    def __init__(self, count, file_size=None, database="office.db", files=None):
-        with socket.socket() as free:
-            free.bind(("127.0.0.1", 0))
-            self.port = free.getsockname()[1]
+
+class Serve:
+    """`canoffice serve` on a database and a free port, or on this one, from when it listens. If a file size is given, no file
+    may grow beyond it: a write there fails, as on a disk that is full. If a count of files is given, no more may be open."""
+
+    def __init__(self, count, file_size=None, database="office.db", files=None, port=None):
+        self.port = port or free_port()
 
         def limit():
             if file_size is not None:

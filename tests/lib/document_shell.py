@@ -5,6 +5,7 @@ from desk_clients import Serve
 from documents import shows
 
 SHOWN_PORT = "127.0.0.1:8089"
+SENDS = "./canoffice send "
 START = re.compile(r"\./canoffice serve --db (\S+) --count ([0-9]+) &")
 
 
@@ -29,7 +30,7 @@ class Shell:
         elif word == "wait":
             self.end_serve()
         elif word != "sqlite3" or self.has_tables:
-            if word != "curl":
+            if word != "curl" and not command.text.startswith(SENDS):
                 self.end_serve()
             self.compare(command, self.written_by(command.text))
 
@@ -49,6 +50,7 @@ class Shell:
     def written_by(self, text):
         if self.serve:
             text = text.replace("curl ", "curl -s ", 1).replace(SHOWN_PORT, f"127.0.0.1:{self.serve.port}")
+            text = text.replace(SENDS, f"{SENDS}--port {self.serve.port} ")
         ran = subprocess.run(["sh", "-c", text], capture_output=True, text=True, stdin=subprocess.DEVNULL)
         # An answer over HTTP doesn't end its line.
         return ran.stdout.removesuffix("\n") + "\n" * bool(ran.stdout and ran.stderr) + ran.stderr.removesuffix("\n")

@@ -21,3 +21,5 @@ pub mod LongestLines
 pub mod Opened
 pub mod Applied
 pub mod LookRows
+pub mod Requesting
+pub mod Sent

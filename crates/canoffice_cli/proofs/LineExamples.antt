@@ -257,6 +257,44 @@ echoed_script : manner_of
 unfolding clap_on_literals
 echoed_script = refl
 
+-- ---- `send`
+
+send_no_script : line_faults (codes "canoffice" ∷ codes "send" ∷ codes "--port" ∷ codes "8090" ∷ [])
+    ≡ MissingRequiredArgument ∷ []
+unfolding clap_on_literals
+send_no_script = refl
+
+abbrev a_send : List Text
+a_send = codes "canoffice" ∷ codes "send" ∷ codes "--strict" ∷ codes "--port" ∷ codes "8090" ∷ codes "a.txt" ∷ []
+
+one_send : line_faults a_send ≡ []
+unfolding clap_on_literals
+one_send = refl
+
+abbrev sent_words : Option (Text × List Row) → Option (List (Option Text))
+sent_words = option_map (λ found. first_of (codes "port") found.1 ∷ first_of (codes "tries") found.1
+    ∷ first_of (codes "SCRIPT") found.1 ∷ [])
+
+its_sent_words : sent_words (subcommand_of canoffice_app a_send)
+    ≡ Some (Some (codes "8090") ∷ None ∷ Some (codes "a.txt") ∷ [])
+unfolding clap_on_literals
+its_sent_words = refl
+
+a_strict_send : manner_of (subcommand_of canoffice_app a_send) ≡ Some (record { strict = true; echo = false })
+unfolding clap_on_literals
+a_strict_send = refl
+
+tries_of_a_send : sent_words (subcommand_of canoffice_app (codes "canoffice" ∷ codes "send" ∷ codes "-"
+    ∷ codes "--tries=9" ∷ [])) ≡ Some (None ∷ Some (codes "9") ∷ Some (codes "-") ∷ [])
+unfolding clap_on_literals
+tries_of_a_send = refl
+
+-- a script is sent to a desk, and applied to a database
+send_to_a_database : line_faults (codes "canoffice" ∷ codes "send" ∷ codes "--db=office.db" ∷ codes "a.txt" ∷ [])
+    ≡ UnknownArgument ∷ []
+unfolding clap_on_literals
+send_to_a_database = refl
+
 -- ---- flags in wrong places
 
 flag_without_a_file : line_faults (codes "canoffice" ∷ codes "check" ∷ codes "--explain" ∷ []) ≡ MissingRequiredArgument

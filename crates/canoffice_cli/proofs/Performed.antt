@@ -8,7 +8,7 @@ use Rattle.canoffice_cli.specs.Delivery.{IsDelivered, Writing}
 use Rattle.canoffice_cli.specs.Outcome.{memory_lost, outcome_of, final_outcome}
 use Rattle.office_script.specs.Files.{Files, Holding}
 use Rattle.canoffice_cli.specs.Databases.{Databases}
-use Rattle.canoffice_cli.specs.Desks.{Desks}
+use Rattle.canoffice_desks.specs.Desks.{Desks}
 use Rattle.canoffice_cli.specs.Performance.{IsAnswered, IsPerformed}
 
 pub performed : (words : List (List ℕ)) (files : Files) (input : Holding) (desks : Desks) (before after : Databases)

@@ -13,14 +13,14 @@ use Rattle.clap.specs.declared.error.kind.ErrorKind.TheVariants.{DisplayHelp, Di
 use Rattle.office_views.specs.Word.{length_of}
 use Rattle.canoffice_cli.specs.declared.job.Job.{Job}
 use Rattle.canoffice_cli.specs.declared.job.Job.TheVariants.{Apply, Chart, Check, Export, Format, Migrate, Requests}
-use Rattle.canoffice_cli.specs.declared.job.Job.TheVariants.{Serve, Show, Table}
+use Rattle.canoffice_cli.specs.declared.job.Job.TheVariants.{Send, Serve, Show, Table}
 use Rattle.canoffice_cli.specs.declared.job.JobFault.{JobFault}
 use Rattle.canoffice_cli.specs.declared.job.JobFault.TheVariants.{Help, Usage, Memory}
 use Rattle.canoffice_cli.specs.declared.job.ValueFault.{ValueFault}
 use Rattle.canoffice_cli.specs.declared.job.ValueFault.TheVariants as value
 use Rattle.canoffice_cli.specs.declared.manner.Manner.{Manner}
 use Rattle.canoffice_cli.specs.declared.place.Place.{Place}
-use Rattle.canoffice_cli.specs.Numbers.{count_given, port_given, release_number}
+use Rattle.canoffice_cli.specs.Numbers.{count_given, port_given, release_number, tries_given}
 use Rattle.canoffice_cli.specs.Place.{IsNoPlace, IsPlace}
 use Rattle.canoffice_looks.specs.What.{shown_by}
 
@@ -95,6 +95,11 @@ with_place app = with_rule (with_rule app (option_word (codes "db"))) (option_wo
 abbrev pub requests_app : App
 requests_app = with_rule (with_place (new_app (codes "requests"))) (required_word (codes "TEAM"))
 
+-- send [--port N] [--tries N] [--strict] [--echo] SCRIPT
+abbrev pub send_app : App
+send_app = with_rule (with_manner (with_rule (with_rule (new_app (codes "send")) (option_word (codes "port")))
+    (option_word (codes "tries")))) (required_word (codes "SCRIPT"))
+
 -- serve --db FILE [--port N] [--count N]
 abbrev pub serve_app : App
 serve_app = with_rule (with_rule (with_rule (new_app (codes "serve")) (required_option (codes "db")))
@@ -121,7 +126,8 @@ with_version = on_top (λ s. record s { has_version = true })
 abbrev pub wants_subcommand : App → App
 wants_subcommand = on_top (λ s. record s { subcommand_required = true; arg_required_else_help = true })
 
--- canoffice apply .., chart .., check .., export .., format .., migrate .., requests .., serve .., show .., table ..
+-- canoffice apply .., chart .., check .., export .., format .., migrate .., requests .., send .., serve .., show ..,
+-- table ..
 abbrev pub canoffice_app : App
 canoffice_app =
     let to_apply = with_subcommand (wants_subcommand (with_version (new_app (codes "canoffice")))) apply_app.top in
@@ -131,7 +137,8 @@ canoffice_app =
     let to_format = with_subcommand to_export format_app.top in
     let to_migrate = with_subcommand to_format migrate_app.top in
     let to_requests = with_subcommand to_migrate requests_app.top in
-    let to_serve = with_subcommand to_requests serve_app.top in
+    let to_send = with_subcommand to_requests send_app.top in
+    let to_serve = with_subcommand to_send serve_app.top in
     let to_show = with_subcommand to_serve show_app.top in
     with_subcommand to_show table_app.top
 
@@ -181,6 +188,11 @@ IsJobOf (Format file explain) name rows = (name ≡ codes "format") × HasValue 
 IsJobOf (Migrate database) name rows = (name ≡ codes "migrate") × HasValue rows (codes "db") database.now
 IsJobOf (Requests place team) name rows =
     (name ≡ codes "requests") × IsPlaceIn place rows × HasValue rows (codes "TEAM") team.now
+IsJobOf (Send sending script) name rows =
+    (name ≡ codes "send") × HasValue rows (codes "SCRIPT") script.now
+    × (port_given (first_of (codes "port") rows) ≡ Some sending.port)
+    × (tries_given (first_of (codes "tries") rows) ≡ Some sending.tries)
+    × (sending.manner ≡ manner_in rows)
 IsJobOf (Serve database port count) name rows =
     (name ≡ codes "serve") × HasValue rows (codes "db") database.now
     × (port_given (first_of (codes "port") rows) ≡ Some port)
@@ -230,11 +242,14 @@ IsFaultOfKind kind (Usage text) = (kind ≢ DisplayHelp) × (kind ≢ DisplayVer
 IsFaultOfKind kind Memory = Unit {0}
 
 -- of the subcommand with these arguments, the word for a number gives none in its range; the port is looked at before
--- the count
+-- the count, and before the tries
 abbrev pub IsWrongNumber : Text → List Row → Text → Type 0
 IsWrongNumber name rows word =
     ((name ≡ codes "chart") × HasValue rows (codes "LENGTH") word × (length_of word ≡ None))
     ⊎ ((name ≡ codes "export") × HasValue rows (codes "N") word × (release_number word ≡ None))
+    ⊎ ((name ≡ codes "send") × HasValue rows (codes "port") word × (port_given (Some word) ≡ None))
+    ⊎ ((name ≡ codes "send") × HasValue rows (codes "tries") word × (tries_given (Some word) ≡ None)
+    × (port : ℕ) × (port_given (first_of (codes "port") rows) ≡ Some port))
     ⊎ ((name ≡ codes "serve") × HasValue rows (codes "port") word × (port_given (Some word) ≡ None))
     ⊎ ((name ≡ codes "serve") × HasValue rows (codes "count") word × (count_given (Some word) ≡ None)
     × (port : ℕ) × (port_given (first_of (codes "port") rows) ≡ Some port))

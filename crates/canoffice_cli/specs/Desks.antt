@@ -1,30 +1,12 @@
--- What is known of the desks of this machine, and what is printed of what came of asking one.
-use Rattle.std.specs.Prelude.{◌≡◌, ℕ, ◌++◌, List, Result, Ok, Err, codes, decimal}
-use Rattle.desk_client.specs.Received.{Reception, cut, not_http, too_long, whole}
-use Rattle.desk_client.specs.declared.fault.AskFault.{AskFault}
+-- What is printed of what came of asking a desk.
+use Rattle.std.specs.Prelude.{ℕ, ◌++◌, List, Ok, Err, codes, decimal}
+use Rattle.canoffice_desks.specs.Desks.{Asked}
+use Rattle.desk_client.specs.Received.{cut, not_http, too_long, whole}
 use Rattle.desk_client.specs.declared.fault.AskFault.TheVariants.{Connect, Connection}
 use Rattle.desk_client.specs.declared.received.Status.{Status}
 use Rattle.desk_client.specs.declared.received.Status.TheVariants.{NotFound, Other, Success}
 use Rattle.desk_types.specs.declared.fault.DeskFault.TheVariants.{Memory, Read, Write}
 use Rattle.canoffice_cli.specs.Outcome.{Outcome, failure, memory_lost, not_found, success}
-
--- what came of asking: what was received, or why nothing is known of it
-abbrev pub Asked : Type 0
-Asked = Result Reception AskFault
-
--- what may come of asking the desk on a port for a target
-abbrev pub Desks : Type 1
-Desks = ℕ → List ℕ → Asked → Type 0
-
--- nothing is known of any desk
-abbrev pub unknown_desks : Desks
-unknown_desks port target asked = Unit {0}
-
--- no desk can be connected to
-abbrev pub no_desk : Desks
-no_desk port target asked = asked ≡ Err Connect
-
--- ---- what is printed
 
 -- the line that no desk answers on the port
 abbrev pub no_answer : ℕ → Outcome

@@ -11,6 +11,7 @@ pub mod Desks
 pub mod Looked
 pub mod Exported
 pub mod Migrated
+pub mod Sent
 pub mod Served
 pub mod Charted
 pub mod WordFault

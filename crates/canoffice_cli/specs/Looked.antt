@@ -1,5 +1,6 @@
 -- What a look at an office prints.
-use Rattle.std.specs.Prelude.{◌≡◌, ℕ, List, [], Option, Some, None, Result, Ok, Err, IfOk}
+use Rattle.std.specs.Prelude.{◌≡◌, ℕ, List, Option, Some, None, Result, Ok, Err, IfOk}
+use Rattle.canoffice_desks.specs.Desks.{Asked, Desks}
 use Rattle.canoffice_looks.specs.Words.{requests_look, show_look}
 use Rattle.canoffice_looks.specs.declared.what.What.{What}
 use Rattle.desk_head.specs.Asked.{target_of}
@@ -10,7 +11,7 @@ use Rattle.office_types.specs.declared.look.Look.{Look}
 use Rattle.store.specs.Looking.{IsShown}
 use Rattle.canoffice_cli.specs.Answered.{lost_outcome}
 use Rattle.canoffice_cli.specs.Databases.{AreKept, Databases}
-use Rattle.canoffice_cli.specs.Desks.{Asked, Desks, asked_outcome}
+use Rattle.canoffice_cli.specs.Desks.{asked_outcome}
 use Rattle.canoffice_cli.specs.Outcome.{Outcome, not_found, success}
 use Rattle.canoffice_cli.specs.declared.place.Place.{Place}
 use Rattle.canoffice_cli.specs.declared.place.Place.TheVariants.{Database, Desk}
@@ -32,7 +33,8 @@ pub record IsLookedUp (before after : Databases) (path : List ℕ) (look : Look)
 
 -- the desk on the port was asked for the target of the look, and what came of it is printed
 abbrev pub IsAskedFor : Desks → ℕ → Look → Outcome → Type 0
-IsAskedFor desks port look o = (asked : Asked) × desks port (target_of look) asked × (o ≡ asked_outcome port asked)
+IsAskedFor desks port look o =
+    (asked : Asked) × desks.asked port (target_of look) asked × (o ≡ asked_outcome port asked)
 
 -- the office at the place looks, and what it shows is printed
 abbrev pub IsLookedAt : Desks → Databases → Databases → Place → Look → Outcome → Type 0

@@ -24,6 +24,10 @@ port_given = number_given 8089 65535
 abbrev pub count_given : Option (List ℕ) → Option ℕ
 count_given = number_given 1000000 1000000
 
+-- how often a request is sent
+abbrev pub tries_given : Option (List ℕ) → Option ℕ
+tries_given = number_given 3 1000
+
 no_port : port_given None ≡ Some 8089
 no_port = refl
 
@@ -44,3 +48,12 @@ live_sheet = refl
 
 too_many : count_given (Some (codes "1000001")) ≡ None
 too_many = refl
+
+no_tries : tries_given None ≡ Some 3
+no_tries = refl
+
+greatest_tries : tries_given (Some (codes "1000")) ≡ Some 1000
+greatest_tries = refl
+
+too_many_tries : tries_given (Some (codes "1001")) ≡ None
+too_many_tries = refl

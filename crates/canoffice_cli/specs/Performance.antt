@@ -1,5 +1,6 @@
 -- The outcome of the program, from its words and from what is known of files, standard input, desks and databases.
-use Rattle.std.specs.Prelude.{◌≡◌, ◌⊎◌, ℕ, false, List, map, option_map, Result, Ok, Err, string_bytes}
+use Rattle.std.specs.Prelude.{◌≡◌, ◌⊎◌, ⊤, ℕ, false, List, map, option_map, Result, Ok, Err, string_bytes}
+use Rattle.canoffice_desks.specs.Desks.{Desks}
 use Rattle.dbc_advice.specs.ShownPath.{shown_path}
 use Rattle.office_script.specs.Files.{Files, Holding, unknown, absent, holding}
 use Rattle.canoffice_cli.specs.CommandLine.{IsLine}
@@ -10,11 +11,11 @@ use Rattle.canoffice_cli.specs.Databases.{AreKept, Databases}
 use Rattle.canoffice_cli.specs.Applied.{IsApplyOutcome}
 use Rattle.canoffice_cli.specs.Charted.{IsChartOutcome}
 use Rattle.canoffice_cli.specs.Checked.{IsCheckOutcome}
-use Rattle.canoffice_cli.specs.Desks.{Desks}
 use Rattle.canoffice_cli.specs.Exported.{IsExportOutcome}
 use Rattle.canoffice_cli.specs.Formatted.{IsFormatOutcome}
 use Rattle.canoffice_cli.specs.Looked.{IsRequestsOutcome, IsShowOutcome}
 use Rattle.canoffice_cli.specs.Migrated.{IsMigrateOutcome}
+use Rattle.canoffice_cli.specs.Sent.{IsSendOutcome}
 use Rattle.canoffice_cli.specs.Served.{IsServeOutcome}
 use Rattle.canoffice_cli.specs.Tabled.{IsTableOutcome}
 use Rattle.canoffice_cli.specs.Delivery.{IsDelivered, Writing}
@@ -24,7 +25,7 @@ use Rattle.canoffice_cli.specs.declared.file_jobs.FileTask.{FileTask}
 use Rattle.canoffice_cli.specs.declared.file_jobs.FileTask.TheVariants as task
 use Rattle.canoffice_cli.specs.declared.job.Job.{Job}
 use Rattle.canoffice_cli.specs.declared.job.Job.TheVariants.{Apply, Chart, Check, Export, Format, Migrate, Requests}
-use Rattle.canoffice_cli.specs.declared.job.Job.TheVariants.{Serve, Show, Table}
+use Rattle.canoffice_cli.specs.declared.job.Job.TheVariants.{Send, Serve, Show, Table}
 use Rattle.canoffice_cli.specs.declared.job.JobFault.{JobFault}
 use Rattle.canoffice_cli.specs.declared.job.JobFault.TheVariants.{Help, Usage, Memory}
 
@@ -69,6 +70,9 @@ IsDone files input desks before after (Format file explain) o =
 IsDone files input desks before after (Migrate database) o = IsMigrateOutcome before after database.now o
 IsDone files input desks before after (Requests place team) o =
     IsRequestsOutcome desks before after place team.now o
+IsDone files input desks before after (Send sending script) o =
+    IsOfFile ⊤ (IsSendOutcome files desks sending) script.now (source_at files input script.now) o
+    × AreKept before after
 IsDone files input desks before after (Serve database port count) o = IsServeOutcome before after database.now count o
 IsDone files input desks before after (Show place net what name) o =
     IsShowOutcome desks before after place (option_map (λ word. word.now) net) what

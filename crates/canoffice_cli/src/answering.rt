@@ -30,8 +30,8 @@ use store::{Lost, StoredOffice};
 /// The answers to the first arrivals, and why the next one was lost, if one was.
 #[derive(Drop)]
 pub struct Answers {
-    answers: Vec<Answer>,
-    lost: Option<Lost>,
+    pub(crate) answers: Vec<Answer>,
+    pub(crate) lost: Option<Lost>,
 }
 
 /// No answer, since already the first call was lost.
@@ -68,7 +68,7 @@ pub(crate) fn office_on<S: Alter>(
 }
 
 /// Whether answering stops at this answer: it is a refusal, and it is strict.
-fn stops_at(strict: bool, answer: &Answer) -> bool
+pub(crate) fn stops_at(strict: bool, answer: &Answer) -> bool
     ensures { result ≡ (strict && is_refused answer.now) }
 {
     strict && is_refused(answer)

@@ -17,7 +17,7 @@ use std::alloc::{AllocError, Global};
 use std::io::Write;
 
 /// The report that a script can't be read.
-fn amiss_report(alloc: Global, fault: ScriptFault) -> Result<Report, AllocError>
+pub(crate) fn amiss_report(alloc: Global, fault: ScriptFault) -> Result<Report, AllocError>
     ensures { IfOk result (λ report. Reports fault (outcome_of report)) }
 {
     match fault {

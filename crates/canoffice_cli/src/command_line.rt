@@ -5,8 +5,8 @@ ghost use Rattle.clap.specs.declared.builder.command.Command.TheViews.{out-Comma
 ghost use Rattle.canoffice_cli.specs.CommandLine.{apply_app, canoffice_app, chart_app, check_app, explain_flag, flag};
 ghost use Rattle.canoffice_cli.specs.CommandLine.{export_app, format_app, migrate_app, option_word, optional_word};
 ghost use Rattle.canoffice_cli.specs.CommandLine.{requests_app, required_option, required_word, required_words};
-ghost use Rattle.canoffice_cli.specs.CommandLine.{serve_app, show_app, table_app, with_manner, with_place, with_sought};
-ghost use Rattle.canoffice_cli.specs.CommandLine.{wants_subcommand, with_version};
+ghost use Rattle.canoffice_cli.specs.CommandLine.{send_app, serve_app, show_app, table_app, with_manner, with_place};
+ghost use Rattle.canoffice_cli.specs.CommandLine.{wants_subcommand, with_sought, with_version};
 
 use clap::{Arg, ArgAction, Command};
 use std::alloc::{AllocError, Global};
@@ -17,7 +17,7 @@ const VERSION: &str = "0.2.0";
 /// What the help says of the argument of `check`, `format` and `table`.
 const DBC_FILE: &str = "The DBC file, or - for standard input";
 
-/// What the help says of the argument of `apply`.
+/// What the help says of the argument of `apply` and `send`.
 const SCRIPT: &str = "The script's file, or - for standard input";
 
 /// A positional argument that may be left out.
@@ -198,6 +198,24 @@ pub(crate) fn requests_command<'a>(alloc: Global) -> Result<Command<'a>, AllocEr
     Ok(requests)
 }
 
+/// `send [--port N] [--tries N] [--strict] [--echo] SCRIPT`
+pub(crate) fn send_command<'a>(alloc: Global) -> Result<Command<'a>, AllocError>
+    ensures app { IfOk result (λ c. app_of c ≡ send_app) }
+    ensures local { IfOk result (λ c. (fields_of c).has_globals ≡ false) }
+{
+    let named = Command::new(alloc, "send").about(
+        "Sends each line of a script to a desk of this machine, and prints each reply",
+    );
+    let port = "The port of this machine, 1 to 65535, of the desk; 8089 where none is given";
+    let tries =
+        "How often a request is sent until it is answered, 1 to 1000; 3 where none is given";
+    let with_port = named.arg(option(alloc, "port", "N", port))?;
+    let with_tries = with_port.arg(option(alloc, "tries", "N", tries))?;
+    let with_manners = with_manner(alloc, with_tries)?;
+    let send = with_manners.arg(required_argument(alloc, "SCRIPT", SCRIPT))?;
+    Ok(send)
+}
+
 /// `serve --db FILE [--port N] [--count N]`
 pub(crate) fn serve_command<'a>(alloc: Global) -> Result<Command<'a>, AllocError>
     ensures app { IfOk result (λ c. app_of c ≡ serve_app) }
@@ -276,7 +294,8 @@ pub fn canoffice_command<'a>(alloc: Global) -> Result<Command<'a>, AllocError>
     let with_format = with_export.subcommand(format_command(alloc)?)?;
     let with_migrate = with_format.subcommand(migrate_command(alloc)?)?;
     let with_requests = with_migrate.subcommand(requests_command(alloc)?)?;
-    let with_serve = with_requests.subcommand(serve_command(alloc)?)?;
+    let with_send = with_requests.subcommand(send_command(alloc)?)?;
+    let with_serve = with_send.subcommand(serve_command(alloc)?)?;
     let with_show = with_serve.subcommand(show_command(alloc)?)?;
     let with_table = with_show.subcommand(table_command(alloc)?)?;
     Ok(with_table)

@@ -56,7 +56,11 @@ impl<'a> FileJob<'a> {
 }
 
 /// The report that the file can't be read, unless memory ran out.
-fn unreadable_report(alloc: Global, file: &str, fault: PathFault) -> Result<Report, AllocError>
+pub(crate) fn unreadable_report(
+    alloc: Global,
+    file: &str,
+    fault: PathFault,
+) -> Result<Report, AllocError>
     ensures { IfOk result (λ report. (fault ≡ Unreadable)
         × (outcome_of report ≡ unreadable file.now)) }
 {

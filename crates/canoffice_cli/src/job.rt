@@ -6,8 +6,9 @@ ghost use Rattle.canoffice_cli.specs.CommandLine.{IsJobFault, IsValueFault, IsVa
 
 use crate::command_line::canoffice_command;
 use crate::manner::Manner;
-use crate::numbers::{Number, count_given, length_given, port_given, release_number};
+use crate::numbers::{Number, count_given, length_given, port_given, release_number, tries_given};
 use crate::place::{LookCommand, Place, PlaceFault, place_given};
+use crate::sending::Sending;
 use canoffice_looks::{What, WhatFault, shown_by};
 use clap::error::ErrorKind;
 use clap::{ArgMatches, Command, Error};
@@ -68,6 +69,13 @@ pub enum Job<'a> {
         place: Place<'a>,
         /// The word that names the team.
         team: &'a str,
+    },
+    /// Send the lines of the script in the file of this name to a desk.
+    Send {
+        /// To which desk, and how.
+        sending: Sending,
+        /// The path of the script, or `-`.
+        script: &'a str,
     },
     /// Serve the office over HTTP.
     Serve {
@@ -255,6 +263,9 @@ fn job_in<'a>(alloc: Global, matches: &ArgMatches<'a>) -> Result<Job<'a>, ValueF
     if name == "requests" {
         return requests_job(found);
     }
+    if name == "send" {
+        return send_job(found);
+    }
     if name == "serve" {
         return serve_job(found);
     }
@@ -389,6 +400,32 @@ fn requests_job<'a>(found: &ArgMatches<'a>) -> Result<Job<'a>, ValueFault<'a>>
     match place_given(found.get_str("db"), found.get_str("port")) {
         Ok(place) => Ok(Job::Requests { place, team }),
         Err(fault) => Err(ValueFault::WrongPlace(LookCommand::Requests, fault)),
+    }
+}
+
+/// `send [--port N] [--tries N] [--strict] [--echo] SCRIPT`
+#[tactic(auto, using(crate::proofs::CommandLine::value_in_rows, crate::proofs::CommandLine::optional_in_rows, crate::proofs::CommandLine::text_is_given))]
+fn send_job<'a>(found: &ArgMatches<'a>) -> Result<Job<'a>, ValueFault<'a>>
+    requires { HasSome (rows_of (found_of found.now)) (codes "SCRIPT") }
+    ensures job { IfOk result (λ job. IsJobOf job (codes "send") (rows_of (found_of found.now))) }
+    ensures fault { IfErr result (IsValueFault (codes "send") (rows_of (found_of found.now))) }
+{
+    let script = found.get_str("SCRIPT").unwrap();
+    let port = match port_given(found.get_str("port")) {
+        Ok(port) => port,
+        Err(word) => return Err(ValueFault::WrongNumber(Number::SendPort, word)),
+    };
+    let manner = manner_given(found);
+    match tries_given(found.get_str("tries")) {
+        Ok(tries) => {
+            let sending = Sending {
+                port,
+                tries,
+                manner,
+            };
+            Ok(Job::Send { sending, script })
+        }
+        Err(word) => Err(ValueFault::WrongNumber(Number::Tries, word)),
     }
 }
 

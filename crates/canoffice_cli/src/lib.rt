@@ -3,10 +3,10 @@
 //! - `command_line` describes the subcommands and their arguments for clap; with it `job` turns the words into a `Job`
 //!   or a `JobFault`. `numbers` has the ranges of the numbers that words give.
 //! - `files` reads files and standard input: those of the machine, or those of a list in memory. `databases` has the
-//!   offices in databases, of which one in memory is here, and `desks` has those that desks serve; those of the machine
-//!   are in the program itself. `place` says which of the two the words name.
-//! - `apply`, `looking`, `exporting`, `migrating`, `serving`, `charting`, `checking`, `formatting` and `tabling` do the
-//!   jobs. What the words of `show` and `requests` look up is in the crate `canoffice_looks`.
+//!   offices in databases, of which one in memory is here, and the crate `canoffice_desks` those that desks serve; those
+//!   of the machine are in the program itself. `place` says which of the two the words name.
+//! - `apply`, `sending`, `looking`, `exporting`, `migrating`, `serving`, `charting`, `checking`, `formatting` and
+//!   `tabling` do the jobs. What the words of `show` and `requests` look up is in the crate `canoffice_looks`.
 //!   `answering` answers the arrivals of a script, by an office in memory or on a connection to a database, `progress`
 //!   shows how far it is, and `room` is taken before for what is printed after. `manner` is how a script is applied.
 //! - `file_jobs` does the jobs that read a file, and `explaining` says what `--explain` adds to them.
@@ -25,7 +25,6 @@ mod checking;
 mod command_line;
 mod databases;
 mod delivery;
-mod desks;
 mod explaining;
 mod exporting;
 mod file_jobs;
@@ -42,16 +41,17 @@ mod program;
 mod progress;
 mod report;
 mod room;
+mod sending;
 mod serving;
 mod tabling;
 
 pub use answering::{Answers, answer_on, answers_when_closed, nothing_answered};
 pub use apply::apply_script;
+pub use canoffice_desks::{Desks, NoDesk};
 pub use charting::chart_report;
 pub use checking::check_report;
 pub use databases::{Databases, MemoryDatabase};
 pub use delivery::deliver;
-pub use desks::{Desks, NoDesk};
 pub use exporting::export_report;
 pub use files::{
     FileSource, HostFiles, ListedFiles, NamedFile, PathFault, StandardInput, bytes_at,
@@ -66,5 +66,6 @@ pub use program::{fault_report, perform, report_of};
 pub use progress::Progress;
 pub use report::{LOST_MEMORY, Report, Status, bad_line, bad_word, cannot_read, help, usage};
 pub use room::answers_fit;
+pub use sending::{Sending, send_report};
 pub use serving::{ServeEnd, serve_report};
 pub use tabling::table_report;

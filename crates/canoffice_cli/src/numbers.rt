@@ -3,8 +3,9 @@ ghost use Rattle.std.specs.Prelude.{◌≡◌, ◌≤◌, Some, None, IfOk, IfEr
 ghost use Rattle.std.specs.Option.{option_map};
 ghost use Rattle.office_views.specs.Word.{length_of};
 ghost use Rattle.canoffice_cli.specs.Numbers.{count_given, number_given, port_given, port_number, release_number};
+ghost use Rattle.canoffice_cli.specs.Numbers.{tries_given};
 
-use crate::command_line::{chart_command, export_command, serve_command};
+use crate::command_line::{chart_command, export_command, send_command, serve_command};
 use clap::Command;
 use office_views::{length_of, whole_between};
 use std::alloc::{AllocError, Global};
@@ -18,6 +19,12 @@ const PORT_LIMIT: u32 = 65_535;
 /// The greatest count of connections, which is also the one where none is given.
 const COUNT_LIMIT: u32 = 1_000_000;
 
+/// How often a request is sent where no number is given.
+const TRIES: u32 = 3;
+
+/// The greatest number of tries.
+const TRIES_LIMIT: u32 = 1_000;
+
 /// The greatest number of a release.
 const RELEASE_LIMIT: u32 = 65_535;
 
@@ -28,10 +35,14 @@ pub(crate) enum Number {
     Length,
     /// The number of a release, or 0.
     Release,
-    /// The port.
+    /// The port on which a desk listens.
     Port,
+    /// The port to which requests are sent.
+    SendPort,
     /// The count of connections.
     Count,
+    /// How often a request is sent.
+    Tries,
 }
 
 impl Number {
@@ -40,8 +51,9 @@ impl Number {
         match self {
             Number::Length => "<LENGTH>",
             Number::Release => "<N>",
-            Number::Port => "--port <N>",
+            Number::Port | Number::SendPort => "--port <N>",
             Number::Count => "--count <N>",
+            Number::Tries => "--tries <N>",
         }
     }
 
@@ -50,6 +62,7 @@ impl Number {
         match self {
             Number::Length => chart_command(alloc)?.bin_name("canoffice chart"),
             Number::Release => export_command(alloc)?.bin_name("canoffice export"),
+            Number::SendPort | Number::Tries => send_command(alloc)?.bin_name("canoffice send"),
             Number::Port | Number::Count => serve_command(alloc)?.bin_name("canoffice serve"),
         }
     }
@@ -59,8 +72,9 @@ impl Number {
         match self {
             Number::Length => "0..=1785",
             Number::Release => "0..=65535",
-            Number::Port => "1..=65535",
+            Number::Port | Number::SendPort => "1..=65535",
             Number::Count => "1..=1000000",
+            Number::Tries => "1..=1000",
         }
     }
 
@@ -136,4 +150,15 @@ pub(crate) fn count_given<'a>(word: Option<&'a str>) -> Result<u32, &'a str>
         × (count_given (option_map (λ w. w.now) word.entry) ≡ None)) }
 {
     number_given(word, COUNT_LIMIT, COUNT_LIMIT)
+}
+
+/// How often a request is sent by the word: 1 to 1000, and 3 where there is no word. The error is a word that gives no
+/// such number.
+pub(crate) fn tries_given<'a>(word: Option<&'a str>) -> Result<u32, &'a str>
+    ensures given { IfOk result
+        (λ tries. tries_given (option_map (λ w. w.now) word.entry) ≡ Some tries) }
+    ensures wrong { IfErr result (λ wrong. (option_map (λ w. w.now) word.entry ≡ Some wrong.now)
+        × (tries_given (option_map (λ w. w.now) word.entry) ≡ None)) }
+{
+    number_given(word, TRIES, TRIES_LIMIT)
 }

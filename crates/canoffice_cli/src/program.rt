@@ -6,7 +6,6 @@ ghost use Rattle.canoffice_cli.specs.Performance.{IsAnswered, IsDone, IsFaultAns
 use crate::charting::chart_report;
 use crate::databases::Databases;
 use crate::delivery::deliver;
-use crate::desks::Desks;
 use crate::exporting::export_report;
 use crate::file_jobs::{FileJob, FileTask, file_report};
 use crate::files::{FileSource, StandardInput};
@@ -15,7 +14,9 @@ use crate::looking::{requests_report, show_report};
 use crate::migrating::migrate_report;
 use crate::progress::Progress;
 use crate::report::{Report, Status, help, usage};
+use crate::sending::send_report;
 use crate::serving::serve_report;
+use canoffice_desks::Desks;
 use std::alloc::{AllocError, Global};
 use std::io::Write;
 
@@ -123,6 +124,9 @@ pub fn report_of<F: FileSource + StandardInput, D: Databases, K: Desks, W: Write
         }
         Job::Migrate { database } => migrate_report(alloc, databases, database, progress),
         Job::Requests { place, team } => requests_report(alloc, databases, desks, *place, team),
+        Job::Send { sending, script } => {
+            send_report(alloc, script, files, desks, *sending, progress)
+        }
         Job::Serve {
             database,
             port,

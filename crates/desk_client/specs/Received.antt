@@ -27,6 +27,12 @@ seen is.TooLong = too_long
 abbrev pub status_of : ℕ → Status
 status_of n = if n == 200 then Success else (if n == 404 then NotFound else Other n)
 
+-- its number
+abbrev pub code_of : Status → ℕ
+code_of Success = 200
+code_of NotFound = 404
+code_of (Other n) = n
+
 -- ---- the length of the body
 
 -- one value, which is a whole number of 32 bits

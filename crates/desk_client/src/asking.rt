@@ -12,9 +12,12 @@ use crate::request::request_for;
 use desk_types::{DeskFault, Failed, Sink, Source, put_all};
 use std::alloc::Global;
 
-/// Writes a request to the sink, reads the source to its end, and says what came. `Write` if the sink failed: then
-/// nothing is read. `Read` if the source failed, and `Memory` if memory ran out for what came.
-fn exchange<W: Sink, R: Source>(
+/// Writes the bytes of a request to the sink, reads the source to its end, and says what came. Whatever the source has,
+/// no more is read of it than the greatest response and one byte.
+///
+/// `Write` if the sink failed: then nothing is read. `Read` if the source failed before its end: what came until then
+/// is lost. `Memory` if memory ran out for what came.
+pub fn exchange<W: Sink, R: Source>(
     alloc: Global,
     sink: &mut W,
     source: &mut R,

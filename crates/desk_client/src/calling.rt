@@ -1,8 +1,8 @@
-//! Asking a desk of this machine.
+//! Asking a desk of this machine, and sending it requests.
 ghost use Rattle.std.specs.Prelude.{IsTrue};
 ghost use Rattle.desk_client.specs.Request.{is_target};
 
-use crate::asking::asked;
+use crate::asking::{asked, exchange};
 use crate::fault::AskFault;
 use crate::received::Received;
 use crate::side::Side;
@@ -28,6 +28,20 @@ fn connection<R: Net<Stream = TcpStream>>(rt: &R, port: u16) -> io::Result<TcpSt
     Ok(stream)
 }
 
+/// Such a connection, with the time at which it began.
+fn begun<R: Net<Stream = TcpStream> + Clock>(
+    rt: &R,
+    port: u16,
+) -> Result<(TcpStream, Instant), AskFault> {
+    let Ok(stream) = connection(rt, port) else {
+        return Err(AskFault::Connect);
+    };
+    match Instant::now(rt) {
+        Ok(began) => Ok((stream, began)),
+        Err(_) => Err(AskFault::Connect),
+    }
+}
+
 /// Asks the desk at the port of 127.0.0.1 for a target, and says what came back, whatever it is. A connection is waited
 /// for 10 seconds, each read and write 90 seconds, and none begins later than 120 seconds after the connection.
 ///
@@ -42,15 +56,27 @@ pub fn ask<R: Net<Stream = TcpStream> + Clock>(
 ) -> Result<Received, AskFault>
     requires { IsTrue (is_target target.now) }
 {
-    let Ok(stream) = connection(rt, port) else {
-        return Err(AskFault::Connect);
-    };
-    let Ok(began) = Instant::now(rt) else {
-        return Err(AskFault::Connect);
-    };
+    let (stream, began) = begun(rt, port)?;
     let mut sink = Side::new(&stream, rt, began);
     let mut source = Side::new(&stream, rt, began);
     match asked(alloc, &mut sink, &mut source, target) {
+        Ok(received) => Ok(received),
+        Err(fault) => Err(AskFault::Connection(fault)),
+    }
+}
+
+/// Sends the bytes of a request to the desk at the port of 127.0.0.1, and says what came back, with the times and the
+/// faults of [`ask`]. Where there is a fault, the desk may have carried the request out or not.
+pub fn send<R: Net<Stream = TcpStream> + Clock>(
+    alloc: Global,
+    rt: &R,
+    port: u16,
+    request: &[u8],
+) -> Result<Received, AskFault> {
+    let (stream, began) = begun(rt, port)?;
+    let mut sink = Side::new(&stream, rt, began);
+    let mut source = Side::new(&stream, rt, began);
+    match exchange(alloc, &mut sink, &mut source, request) {
         Ok(received) => Ok(received),
         Err(fault) => Err(AskFault::Connection(fault)),
     }

@@ -1,7 +1,8 @@
-//! The client of a desk: one GET to a running desk of this machine, and what it gets.
+//! The client of a desk: one request to a running desk of this machine, and what it gets.
 //!
-//! [`ask`] connects to a port of 127.0.0.1, asks for one target and gives what came back, within time limits. [`asked`]
-//! is the same over any sink and source. [`target_of`] gives the target of a look. What comes back is one of four
+//! [`ask`] connects to a port of 127.0.0.1, asks for one target by a GET and gives what came back, within time limits.
+//! [`send`] does so with the bytes of any request. [`asked`] and [`exchange`] are the same over any sink and source.
+//! [`target_of`] gives the target of a look. What comes back is one of four
 //! ([`Received`]): a whole [`Response`] with its [`Status`] and body, one that is cut off, no response of HTTP, or more
 //! bytes than are read. [`response_in`] says which of them bytes are; its contract holds for all bytes. [`request_for`]
 //! makes the bytes of the request, for a target that passes [`is_target`].
@@ -25,8 +26,8 @@ mod request;
 mod side;
 mod target;
 
-pub use asking::asked;
-pub use calling::ask;
+pub use asking::{asked, exchange};
+pub use calling::{ask, send};
 pub use fault::AskFault;
 pub use laws::replies_come_back;
 pub use limits::{RESPONSE_LIMIT, TARGET_LIMIT};

@@ -3,7 +3,7 @@ ghost use Rattle.std.specs.Prelude.{◌≡◌, ◌+◌, ◌≤◌, ℕ, All, Lis
 ghost use Rattle.httparse.specs.Grammar.{ResponseHead};
 ghost use Rattle.httparse.specs.Spans.{IsHeaderWithin, header_bytes};
 ghost use Rattle.desk_client.specs.Limits.{response_limit};
-ghost use Rattle.desk_client.specs.Received.{HasResponse, IsReceived, body_length, received_by};
+ghost use Rattle.desk_client.specs.Received.{HasResponse, IsReceived, body_length, code_of, received_by};
 ghost use Rattle.desk_client.specs.Received.{received_of, seen, status_of};
 
 use crate::limits::RESPONSE_LIMIT;
@@ -20,6 +20,19 @@ pub enum Status {
     NotFound,
     /// Any other one, as 503 of an office that couldn't answer.
     Other(u16),
+}
+
+impl Status {
+    /// Its number.
+    pub fn code(self) -> u16
+        ensures { result ≡ code_of self }
+    {
+        match self {
+            Status::Success => 200,
+            Status::NotFound => 404,
+            Status::Other(code) => code,
+        }
+    }
 }
 
 /// A response that came whole.

@@ -1,8 +1,8 @@
 //! The responses of the desk.
-ghost use Rattle.std.specs.Prelude.{◌≡◌, IfOk, false};
+ghost use Rattle.std.specs.Prelude.{◌≡◌, IfOk, false, string_bytes};
 ghost use Rattle.serde_json.specs.View.{view};
-ghost use Rattle.serde_json.specs.Written.{has_float};
-ghost use Rattle.desk_reply.specs.Reply.{answer_status, refusal_status, reply_status};
+ghost use Rattle.serde_json.specs.Written.{compact_text, has_float};
+ghost use Rattle.desk_reply.specs.Reply.{answer_data, answer_status, refusal_status, reply_status};
 ghost use Rattle.desk_reply.specs.Response.{answer_response, json_response, problem_response, text_response};
 ghost use Rattle.desk_types.specs.Problem.{problem_status};
 
@@ -83,6 +83,14 @@ pub fn answer_response(alloc: Global, answer: &Answer) -> Result<Vec<u8>, AllocE
 {
     let value = answer_value(alloc, answer)?;
     json_response(alloc, status_of_answer(answer), &value)
+}
+
+/// The body of that response: the answer as JSON.
+#[tactic(auto, using(crate::proofs::Floats::answer_float))]
+pub fn answer_text(alloc: Global, answer: &Answer) -> Result<String, AllocError>
+    ensures { IfOk result (λ text. string_bytes text ≡ compact_text (answer_data answer.now)) }
+{
+    answer_value(alloc, answer)?.to_string(alloc)
 }
 
 /// The response that shows a text: 200.

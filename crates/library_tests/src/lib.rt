@@ -31,3 +31,5 @@ mod masks;
 mod numbers;
 #[cfg(test)]
 mod read_faults;
+#[cfg(test)]
+mod sending;

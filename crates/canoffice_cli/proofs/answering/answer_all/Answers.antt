@@ -2,7 +2,7 @@ use Rattle.std.proofs.Common.{◌≡◌, ◌+◌, ◌<◌, ◌++◌, ◌∷◌, 
 use Rattle.std.proofs.lemmas.List.{take_more}
 use Rattle.std.specs.List.{list_any}
 use Rattle.office_echo.specs.Lines.{is_refused}
-use Rattle.canoffice_cli.proofs.Stopping.{far_at_end, far_at_loss, far_at_refusal, ends_here, still_none}
+use Rattle.canoffice_cli.proofs.Stopping.{still_none}
 use Rattle.sqlite.specs.Held.{state}
 use Rattle.sqlite.specs.State.{HasCleanDisk}
 use Rattle.store.specs.Holding.{Holding}

@@ -17,7 +17,9 @@ returns-clause-app c =
     c.in_ok-migrate_command.ensures.app in
     let with_requests = one_more _ _ _ _ _ c.in_ok-with_requests.ensures c.in_ok-requests_command.ensures.local
     with_migrate c.in_ok-requests_command.ensures.app in
-    let with_serve = one_more _ _ _ _ _ c.in_ok-with_serve.ensures c.in_ok-serve_command.ensures.local with_requests
+    let with_send = one_more _ _ _ _ _ c.in_ok-with_send.ensures c.in_ok-send_command.ensures.local with_requests
+    c.in_ok-send_command.ensures.app in
+    let with_serve = one_more _ _ _ _ _ c.in_ok-with_serve.ensures c.in_ok-serve_command.ensures.local with_send
     c.in_ok-serve_command.ensures.app in
     let with_show = one_more _ _ _ _ _ c.in_ok-with_show.ensures c.in_ok-show_command.ensures.local with_serve
     c.in_ok-show_command.ensures.app in
@@ -38,7 +40,8 @@ returns-clause-local c =
     c.in_ok-migrate_command.ensures.local in
     let with_requests = one_more_local _ _ _ c.in_ok-with_requests.ensures with_migrate
     c.in_ok-requests_command.ensures.local in
-    let with_serve = one_more_local _ _ _ c.in_ok-with_serve.ensures with_requests
-    c.in_ok-serve_command.ensures.local in
+    let with_send = one_more_local _ _ _ c.in_ok-with_send.ensures with_requests
+    c.in_ok-send_command.ensures.local in
+    let with_serve = one_more_local _ _ _ c.in_ok-with_serve.ensures with_send c.in_ok-serve_command.ensures.local in
     let with_show = one_more_local _ _ _ c.in_ok-with_show.ensures with_serve c.in_ok-show_command.ensures.local in
     one_more_local _ _ _ c.in_ok-with_table.ensures with_show c.in_ok-table_command.ensures.local

@@ -53,12 +53,17 @@ requests_job-requires c =
     (entered_by_name c.args.matches.now c.in-Some.name.now (rows_of (found_of c.in-Some.found.now)) (codes "requests")
     c.in-Some.ensures.name c.in-Some.ensures.rows (sym c.eq-7.ensures ∙ c.if-eq-7.true) c.requires).1.1.0 refl
 
+pub send_job-requires : goal.send_job-requires
+send_job-requires c =
+    (entered_by_name c.args.matches.now c.in-Some.name.now (rows_of (found_of c.in-Some.found.now)) (codes "send")
+    c.in-Some.ensures.name c.in-Some.ensures.rows (sym c.eq-8.ensures ∙ c.if-eq-8.true) c.requires).1.1.1.1.0 refl
+
 pub serve_job-requires : goal.serve_job-requires
 serve_job-requires c = (entered_by_name c.args.matches.now c.in-Some.name.now (rows_of (found_of c.in-Some.found.now))
-    (codes "serve") c.in-Some.ensures.name c.in-Some.ensures.rows (sym c.eq-8.ensures ∙ c.if-eq-8.true) c.requires).0
+    (codes "serve") c.in-Some.ensures.name c.in-Some.ensures.rows (sym c.eq-9.ensures ∙ c.if-eq-9.true) c.requires).0
     refl
 
 pub table_job-requires : goal.table_job-requires
 table_job-requires c = (entered_by_name c.args.matches.now c.in-Some.name.now (rows_of (found_of c.in-Some.found.now))
-    (codes "table") c.in-Some.ensures.name c.in-Some.ensures.rows (sym c.eq-10.ensures ∙ c.if-eq-10.true) c.requires).0
+    (codes "table") c.in-Some.ensures.name c.in-Some.ensures.rows (sym c.eq-11.ensures ∙ c.if-eq-11.true) c.requires).0
     refl

@@ -3,7 +3,7 @@ ghost use Rattle.std.specs.Prelude.{IsTrue};
 ghost use Rattle.std.specs.Result.{result_map_both};
 ghost use Rattle.desk_client.specs.Received.{seen};
 ghost use Rattle.desk_client.specs.Request.{is_target};
-ghost use Rattle.canoffice_cli.specs.Desks.{Desks as Known};
+ghost use Rattle.canoffice_desks.specs.Desks.{AreStill, Desks as Known};
 
 use desk_client::{AskFault, Received};
 use std::alloc::Global;
@@ -16,8 +16,19 @@ pub trait Desks {
     /// Asks the desk on the port for a target, and says what came back. The error is why nothing is known of that.
     fn ask(&mut self, alloc: Global, port: u16, target: &[u8]) -> Result<Received, AskFault>
         requires { IsTrue (is_target target.now) }
-        ensures { (known self.old) port target.now
+        ensures { (known self.old).asked port target.now
             (result_map_both seen (λ fault. fault) result) };
+
+    /// Sends the bytes of a request to the desk on the port, and says what came back. The error is why nothing is known
+    /// of that: the desk may have carried the request out or not.
+    fn send(&mut self, alloc: Global, port: u16, request: &[u8]) -> Result<Received, AskFault>
+        ensures came { (known self.old).sent port request.now
+            (result_map_both seen (λ fault. fault) result) }
+        ensures still { AreStill (known self.old) (known self.new) };
+
+    /// Waits for a moment, in which a desk that is being started can begin to listen.
+    fn pause(&mut self)
+        ensures { AreStill (known self.old) (known self.new) };
 }
 
 /// No desk at any port.
@@ -25,11 +36,17 @@ pub trait Desks {
 pub struct NoDesk;
 
 impl Desks for NoDesk {
-    ghost use Rattle.canoffice_cli.specs.Desks.{no_desk};
+    ghost use Rattle.canoffice_desks.specs.Desks.{no_desk};
 
     ghost known = { λ _. no_desk };
 
     fn ask(&mut self, _alloc: Global, _port: u16, _target: &[u8]) -> Result<Received, AskFault> {
         Err(AskFault::Connect)
     }
+
+    fn send(&mut self, _alloc: Global, _port: u16, _request: &[u8]) -> Result<Received, AskFault> {
+        Err(AskFault::Connect)
+    }
+
+    fn pause(&mut self) {}
 }

@@ -1,0 +1,22 @@
+use Rattle.std.proofs.Common.{◌≡◌, ◌≤◌, length}
+use Rattle.std.specs.Prelude.{IsTrue}
+use Rattle.std.specs.Vec.{vec_capacity, vec_len}
+use Rattle.canoffice_desks.specs.Desks.{AreStill}
+use Rattle.canoffice_cli.specs.Answered.{NoneRefused}
+use Rattle.canoffice_cli.specs.Sent.{comes_of}
+use Rattle.canoffice_cli.proofs.Sent.{Answered}
+use Rattle.canoffice_cli.proofs.sending.send_all.Given as goal
+
+-- the requests so far have answers
+abbrev pub invariant-loop-request : goal.invariant-loop-request
+invariant-loop-request g l =
+    let first = g.K.Desks.known l.fn.desks in
+    record {
+      within : l.request-index ≤ length l.requests;
+      len : vec_len l.answers ≡ l.request-index;
+      room : length l.requests ≤ vec_capacity l.answers;
+      each : length l.answers.items ≡ l.request-index;
+      none : IsTrue l.sending.manner.strict → NoneRefused l.answers.items;
+      still : AreStill first (g.K.Desks.known l.desks);
+      came : Answered (comes_of first l.sending) l.requests l.request-index l.answers.items;
+    }

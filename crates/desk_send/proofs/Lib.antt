@@ -1,0 +1,15 @@
+pub mod ActionsBack
+pub mod Added
+pub mod AnswersBack
+pub mod BodiesBack
+pub mod DecimalsBack
+pub mod Entries
+pub mod Flat
+pub mod JsonTexts
+pub mod Lists
+pub mod ObjectTexts
+pub mod RequestsBack
+pub mod Rows
+pub mod TargetsBack
+pub mod TextsThere
+pub mod ValuesBack

@@ -1,0 +1,13 @@
+use Rattle.std.proofs.Common.{◌≡◌, ◌++◌, length, map}
+use Rattle.std.specs.Option.{option_map}
+use Rattle.serde_json.specs.View.{view}
+use Rattle.desk_send.specs.Json.{data_list, part_data}
+use Rattle.desk_send.proofs.objects.part_list.Given as goal
+
+-- the values so far, and those of what is left
+abbrev pub invariant-loop-left : goal.invariant-loop-left
+invariant-loop-left l =
+    data_list part_data l.parts ≡ option_map (λ more. map view l.values.items ++ more) (data_list part_data l.left)
+
+abbrev pub decreases-loop-left : goal.decreases-loop-left
+decreases-loop-left l = length l.left

@@ -1,0 +1,11 @@
+use Rattle.std.proofs.Common.{◌≤◌, length, take}
+use Rattle.std.specs.List.{AllZip}
+use Rattle.desk_send.specs.Request.{IsSentAs}
+use Rattle.desk_send.proofs.request.post_requests.Given as goal
+
+-- the arrivals so far have their requests
+abbrev pub invariant-loop-arrival : goal.invariant-loop-arrival
+invariant-loop-arrival l = record {
+  within : l.arrival-index ≤ length l.arrivals;
+  sent : AllZip IsSentAs (take l.arrival-index l.arrivals) l.requests;
+}

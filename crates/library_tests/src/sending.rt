@@ -111,7 +111,10 @@ fn commands_are_sent(rt: HostRuntime) {
     );
     assert!(rt; sent == Some(true));
     let bits =
-        b"{\"factor\":\"0.125\",\"maximum\":\"8031\",\"message\":\"EngineSpeed\",\"minimum\":\"0\",\"mux\":\"m3\",\"net\":\"truck\",\"offset\":\"-40\",\"order\":\"intel\",\"receivers\":[\"Dash\"],\"signal\":\"Speed\",\"signed\":true,\"size\":16,\"start\":0,\"unit\":\"km/h\"}".as_slice();
+        b"{\"factor\":\"0.125\",\"maximum\":\"8031\",\"message\":\"EngineSpeed\",\"minimum\":\"0\",\"mux\":\"m3\",\
+\"net\":\"truck\",\"offset\":\"-40\",\"order\":\"intel\",\"receivers\":[\"Dash\"],\"signal\":\"Speed\",\"signed\":true,\"size\":16,\
+\"start\":0,\"unit\":\"km/h\"}"
+            .as_slice();
     let sent = is_sent(
         alloc,
         acts(speed(alloc, b"km/h")),
@@ -132,7 +135,9 @@ fn lists_are_sent(rt: HostRuntime) {
     let sent = is_sent(alloc, acts(gears(alloc)), b"/do/set_values", Some(values));
     assert!(rt; sent == Some(true));
     let parts =
-        b"{\"commands\":[{\"command\":\"take_ident\",\"form\":\"std\",\"length\":8,\"name\":\"EngineSpeed\"},{\"command\":\"add_node\",\"name\":\"Engine\"}]}".as_slice();
+        b"{\"commands\":[{\"command\":\"take_ident\",\"form\":\"std\",\"length\":8,\"name\":\"EngineSpeed\"},\
+{\"command\":\"add_node\",\"name\":\"Engine\"}]}"
+            .as_slice();
     assert!(rt; is_sent(alloc, bundle(alloc), b"/bundle/truck", Some(parts)) == Some(true));
 }
 

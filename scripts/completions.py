@@ -5,6 +5,8 @@ import re
 
 # Value names of which each is a path.
 PATHS = {"FILE", "SCRIPT"}
+# The value name of options that may have no value: one follows `=` alone.
+NAMES = "NAMES"
 
 
 def quoted(text):
@@ -12,15 +14,18 @@ def quoted(text):
 
 
 def argument_kinds(help):
-    """What each argument of a help is completed with: `dbc`, `path`, `net`, `release`, `words:..` or `none`."""
+    """What each argument of a help is completed with: `dbc`, `path`, `net`, `release`, `words:..` or `none`. What comes after
+    a `|` counts where the line names an office."""
     kinds = []
     for words, text in help.arguments():
         name = words.strip("<>[].")
         if name in PATHS:
             kinds.append("dbc" if "DBC" in text else "path")
+        elif "DBC file" in text and "of an office" in text:
+            kinds.append("dbc|release" if "release" in text else "dbc|net")
         elif name == "NET":
             kinds.append("net")
-        elif name == "N" and "net" in kinds:
+        elif name == "N" and any("net" in kind for kind in kinds):
             kinds.append("release")
         elif name == "WHAT":
             kinds.append("words:" + " ".join(re.findall(r"(\w+)(?: \([^)]*\))?(?:,|$)", text)))
@@ -58,6 +63,7 @@ _canoffice_read() {
                 ;;
         esac
         case $word in
+            =) at=$((at + 1)) ;;
             -?*) ;;
             *) arguments+=("$word") ;;
         esac
@@ -66,11 +72,12 @@ _canoffice_read() {
 
 _canoffice() {
     local current=${COMP_WORDS[COMP_CWORD]} previous=${COMP_WORDS[COMP_CWORD - 1]} options= valued= paths= words= kind=
+    local named= after=
     local -a kinds=() office=() arguments=()
     if [ "$previous" = = ]; then
-        previous=${COMP_WORDS[COMP_CWORD - 2]}
+        previous=${COMP_WORDS[COMP_CWORD - 2]} after=yes
     elif [ "$current" = = ]; then
-        current=
+        current= after=yes
     fi
     if [ "$COMP_CWORD" -eq 1 ]; then
         options=@COMMANDS@
@@ -84,6 +91,7 @@ BASH_END = r"""            help)
         esac
     fi
     COMPREPLY=()
+    case "$after $named " in yes*" $previous "*) return ;; esac
     case " $valued " in
         *" $previous "*)
             case " $paths " in *" $previous "*) kind=path ;; *) return ;; esac
@@ -91,6 +99,9 @@ BASH_END = r"""            help)
         *)
             _canoffice_read
             [[ $current == -* ]] || kind=${kinds[${#arguments[@]}]}
+            case $kind in
+                *"|"*) if [ "${#office[@]}" -eq 2 ]; then kind=${kind#*|}; else kind=${kind%|*}; fi ;;
+            esac
             ;;
     esac
     case $kind in
@@ -117,13 +128,16 @@ complete -F _canoffice canoffice
 
 def bash_arm(name, help):
     options = " ".join(word for option in help.options() for word in option.names())
-    values = [option for option in help.options() if option.value]
+    values = [option for option in help.options() if option.value and option.value != NAMES]
+    named = [option.names()[-1] for option in help.options() if option.value == NAMES]
     paths = [option.names()[-1] for option in values if option.value in PATHS]
     arms = [f"            {name})", f"                options={quoted(options)}"]
     if values:
         arms.append(f"                valued={quoted(' '.join(option.names()[-1] for option in values))}")
     if paths:
         arms.append(f"                paths={quoted(' '.join(paths))}")
+    if named:
+        arms.append(f"                named={quoted(' '.join(named))}")
     kinds = argument_kinds(help)
     if any(kind != "none" for kind in kinds):
         arms.append(f"                kinds=({' '.join(map(quoted, kinds))})")
@@ -166,6 +180,18 @@ _canoffice_releases() {
     compadd -a releases
 }
 
+_canoffice_has_office() {
+    [[ -n ${opt_args[--db]} || -n ${opt_args[--port]} ]]
+}
+
+_canoffice_dbc_or_nets() {
+    if _canoffice_has_office; then _canoffice_nets; else _files -g "*.dbc"; fi
+}
+
+_canoffice_dbc_or_releases() {
+    if _canoffice_has_office; then _canoffice_releases; else _files -g "*.dbc"; fi
+}
+
 _canoffice() {
     local context state state_descr line
     typeset -A opt_args
@@ -178,13 +204,15 @@ def zsh_text(text):
 
 
 def zsh_option(option):
+    if option.value == NAMES:
+        return [quoted(f"{option.long}=-[{zsh_text(option.text)}]::{option.value}: ")]
     value = f":{option.value}:{'_files' if option.value in PATHS else ' '}" if option.value else ""
     return [quoted(f"{name}[{zsh_text(option.text)}]{value}") for name in option.names()]
 
 
 ZSH_ACTIONS = {
     "dbc": '_files -g "*.dbc"', "path": "_files", "net": "_canoffice_nets", "release": "_canoffice_releases",
-    "none": " "}
+    "dbc|net": "_canoffice_dbc_or_nets", "dbc|release": "_canoffice_dbc_or_releases", "none": " "}
 
 
 def zsh_argument(words, text, kind):
@@ -242,6 +270,10 @@ function __canoffice_arguments
     end
 end
 
+function __canoffice_has_office
+    string match -q -r -- ' --(db|port)[= ]' "$(commandline -opc)"
+end
+
 function __canoffice_at
     test (count (__canoffice_arguments)) -eq $argv[1]
 end
@@ -252,13 +284,17 @@ complete -c canoffice -f
 
 def fish_option(option, condition):
     names = [f"-s {option.short[1:]}" if option.short else "", f"-l {option.long[2:]}" if option.long else ""]
-    value = "" if not option.value else " -r -F" if option.value in PATHS else " -x"
+    value = "" if option.value in ("", NAMES) else " -r -F" if option.value in PATHS else " -x"
     words = " ".join(filter(None, names)) + value
     return f"complete -c canoffice -n {quoted(condition)} {words} -d {quoted(option.text)}"
 
 
 def fish_argument(at, kind, condition):
     """The line of an argument, or none where nothing is offered."""
+    if "|" in kind:
+        of_files, of_office = kind.split("|")
+        forms = ((of_files, f"{condition}; and not __canoffice_has_office"), (of_office, f"{condition}; and __canoffice_has_office"))
+        return "\n".join(fish_argument(at, *form) for form in forms)
     head = f"complete -c canoffice -n {quoted(f'{condition}; and __canoffice_at {at}')}"
     if kind == "dbc":
         return f"{head} -k -a '(__fish_complete_suffix .dbc | string match -r \".*(?:\\.dbc|/)(?:\\t.*)?\\$\")'"

@@ -347,8 +347,17 @@ WHOLE = {"net.dbc": content_of("tests/whole_file/net.dbc")}
 CUT = {"net.dbc": content_of("tests/cut_file/net.dbc")}
 CLASH = {"clash.dbc": b'BU_:\nBO_ 257 Clash: 2 Vector__XXX\n SG_ Big : 7|16@0+ (1,0) [0|0] "" Vector__XXX\n'
          b' SG_ Little : 0|16@1+ (1,0) [0|0] "" Vector__XXX\n'}
+LINT = {"lint.dbc": b'BU_: A\nBO_ 256 M: 8 A\n SG_ S : 0|8@1+ (0,0) [0|0] "" A\n'}
 CLASHES = b"clash.dbc:4:6: 23 Clash: signals Big and Little share bit 0 in message Clash (0x101)\n"
 WRONG = {"wrong.txt": b"- engine take_ident net=truck form=std name=EngineSpeed length=1786\n"}
+COMPARED = {
+    "three.dbc": content_of("tests/database_export/three.dbc"),
+    "four.dbc": content_of("tests/database_export/three.dbc").replace(b"B: 8", b"B: 4") + b"BO_ 259 D: 8 Vector__XXX\n"}
+DIFFERENCES = b"""! message        257 std 00000101      - B length 8 -> 4
+. message        259 std 00000103      - D added
+differences 2 breaking 1 added 1 removed 0 changed 1
+"""
+EQUAL = b"differences 0 breaking 0 added 0 removed 0 changed 0\n"
 SENT = {"sent.txt": b"a1 engine take_ident net=truck form=std name=EngineSpeed length=8\n"}
 TOO_LONG = b"wrong.txt:1:57: bad line: found 'length=1786', but length is a whole number from 0 to 1785\n"
 CHART = b"""   0 # # # # # # # #
@@ -367,6 +376,8 @@ COMMANDS = {
     "check_missing": Printing(["check", "none.dbc"], {}, Answer(b"", b"cannot read none.dbc\n", 3)),
     "check_explain": Printing(
         ["check", "--explain", "clash.dbc"], CLASH, Answer(b"unclear 23 Clash 257\n", CLASHES, 1)),
+    "check_lint": Printing(
+        ["check", "--lint", "lint.dbc"], LINT, Answer(b"ok 1 1\nremark 3:6 ZeroFactor M S\n", b"", 1)),
     "apply_wrong": Printing(["apply", "wrong.txt"], WRONG, Answer(b"", b"bad line 1\n", 2)),
     "apply_explain": Printing(["apply", "--explain", "wrong.txt"], WRONG, Answer(b"", b"bad line 1\n" + TOO_LONG, 2)),
     "chart": Printing(["chart", "2", "Big=7|16@0", "Little=0|16@1"], {}, Answer(CHART, b"", 1)),
@@ -384,6 +395,8 @@ COMMANDS = {
     "apply_db_repeats": Keeping(REPEATS),
     "apply_db_bundles": Keeping(EVERY_TABLE),
     "apply_db_bundles_begun": Keeping(EVERY_TABLE, had=5),
+    "compare": Printing(["compare", "three.dbc", "four.dbc"], COMPARED, Answer(DIFFERENCES, b"", 1)),
+    "compare_db": Looking(FREED_AND_HELD, ["compare", "--db", "office.db", "truck", "1", "1"], Answer(EQUAL)),
     "export_live": Looking(FREED_AND_HELD, ["export", "--db", "office.db", "truck", "0"], Answer(LIVE)),
     "export_release": Looking(FREED_AND_HELD, ["export", "--db", "office.db", "truck", "1"], Answer(RELEASED)),
     "export_new": InNewDatabase(["export", "--db", "office.db", "truck", "0"], {}, Answer(b"", b"not found\n", 1)),

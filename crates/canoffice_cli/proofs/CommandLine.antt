@@ -16,8 +16,9 @@ use Rattle.clap.specs.Words.{App, subcommand_name_of, subcommand_rows_of, IsAmon
 use Rattle.clap.specs.Words.{raw_values, first_value, fault_of, first_of, is_simple_and_free, rows_of}
 use Rattle.clap.specs.declared.error.kind.ErrorKind.{ErrorKind}
 use Rattle.clap.specs.declared.error.kind.ErrorKind.TheVariants.{OutOfMemory, ValueValidation}
-use Rattle.canoffice_cli.specs.CommandLine.{HasSome, HasWrongNumber, IsEntered, IsFaultOfKind, IsJobFault, IsWhole}
-use Rattle.canoffice_cli.specs.CommandLine.{LooksWrongly, canoffice_app, is_set, line_faults}
+use Rattle.canoffice_cli.specs.CommandLine.{HasSome, HasUnknownRemark, HasWrongNumber, IsEntered, IsFaultOfKind}
+use Rattle.canoffice_cli.specs.CommandLine.{IsJobFault, IsWhole}
+use Rattle.canoffice_cli.specs.CommandLine.{LooksWrongly, are_absent, are_files, canoffice_app, is_set, line_faults}
 use Rattle.canoffice_cli.specs.declared.job.JobFault.{JobFault}
 use Rattle.canoffice_cli.specs.declared.job.JobFault.TheVariants.{Help, Usage, Memory}
 use Rattle.clap.specs.declared.parser.matches.Found.{Found}
@@ -30,6 +31,16 @@ value_in_rows f id text e = sym (first_value-rows f id) ∙ e
 -- and of an argument that may be absent, there is one in the rows where the getter gives one
 pub optional_in_rows : (f : Found) (id : Text) (r : Option Text) → r ≡ first_value f id → first_of id (rows_of f) ≡ r
 optional_in_rows f id r e = sym (first_value-rows f id) ∙ sym e
+
+pub files_in_rows : (f : Found) (a b c : Option Text) → a ≡ first_value f (codes "db")
+    → b ≡ first_value f (codes "port") → c ≡ first_value f (codes "N") → are_absent a b c ≡ are_files (rows_of f)
+files_in_rows f a b c db port number =
+    rw (
+      optional_in_rows f (codes "db") a db,
+      optional_in_rows f (codes "port") b port,
+      optional_in_rows f (codes "N") c number,
+    )
+    refl
 
 -- a flag is set where the value that a getter gives is `true`
 abbrev means_set : Option Text → Bool
@@ -83,8 +94,16 @@ pub wrong_look_of : (words : List Text) (fault : JobFault) → LooksWrongly word
     → IsJobFault words fault
 wrong_look_of words (Help text) has (inl help) = cc
 wrong_look_of words (Help text) has (inr version) = cc
-wrong_look_of words (Usage text) has is = inr (inr has)
+wrong_look_of words (Usage text) has is = inr (inr (inl has))
 wrong_look_of words Memory has is = tt
+
+-- and so is the first name that no kind of remark has
+pub unknown_remark_of : (words : List Text) (word : Text) (fault : JobFault) → HasUnknownRemark words word
+    → IsFaultOfKind ValueValidation fault → IsJobFault words fault
+unknown_remark_of words word (Help text) has (inl help) = cc
+unknown_remark_of words word (Help text) has (inr version) = cc
+unknown_remark_of words word (Usage text) has is = inr (inr (inr (word, has)))
+unknown_remark_of words word Memory has is = tt
 
 is_simple_line : is_simple_and_free canoffice_app ≡ true
 is_simple_line = refl

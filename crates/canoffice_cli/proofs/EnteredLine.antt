@@ -9,8 +9,9 @@ use Rattle.clap.specs.declared.parser.matches.ArgMatches.{ArgMatches}
 use Rattle.clap.specs.Walk.{Text, answers_to, rows_after}
 use Rattle.clap.specs.Words.{Row}
 use Rattle.clap.specs.Simple.{App, HasMatchesOf, Shape, subcommand_rows_of, built, label_of, subcommand_of}
-use Rattle.canoffice_cli.specs.CommandLine.{HasSome, HasWrongNumber, IsEntered, IsJob, IsJobIn, IsWrongLook}
-use Rattle.canoffice_cli.specs.CommandLine.{IsWrongNumber, LooksWrongly, canoffice_app, line_faults}
+use Rattle.canoffice_cli.specs.CommandLine.{HasSome, HasUnknownRemark, HasWrongNumber, IsEntered, IsJob, IsJobIn}
+use Rattle.canoffice_cli.specs.CommandLine.{IsUnknownRemark, IsWrongLook, IsWrongNumber, LooksWrongly, canoffice_app}
+use Rattle.canoffice_cli.specs.CommandLine.{line_faults}
 use Rattle.canoffice_cli.specs.declared.job.Job.{Job}
 use Rattle.canoffice_cli.proofs.NoFault.{Among}
 use Rattle.canoffice_cli.proofs.FilledWalk.{IsNoHelp}
@@ -53,30 +54,43 @@ own_entered s called rest (inr (inl same)) answers no_help passes =
 own_entered s called rest (inr (inr (inl same))) answers no_help passes =
     let name : s.name ≡ codes "check" = ap (λ x. x.name) same in
     let file = needed s rest (codes "FILE") passes (ap (λ x. needs_value x.rules (codes "FILE")) same) in
-    subst (λ n. IsEntered (Some (n, rows_after s.rules [] rest))) (sym name)
-    ((λ never. absurd (true≢false (sym never))), ((λ _. file), tt))
+    subst (λ n. IsEntered (Some (n, rows_after s.rules [] rest))) (sym name) (
+      (λ never. absurd (true≢false (sym never))),
+      ((λ never. absurd (true≢false (sym never))), ((λ _. file), tt)),
+    )
 own_entered s called rest (inr (inr (inr (inl same)))) answers no_help passes =
+    let name : s.name ≡ codes "compare" = ap (λ x. x.name) same in
+    let first = needed s rest (codes "A") passes (ap (λ x. needs_value x.rules (codes "A")) same) in
+    let second = needed s rest (codes "B") passes (ap (λ x. needs_value x.rules (codes "B")) same) in
+    subst (λ n. IsEntered (Some (n, rows_after s.rules [] rest))) (sym name) (
+      (λ never. absurd (true≢false (sym never))),
+      (
+        (λ never. absurd (true≢false (sym never))),
+        ((λ _. first), ((λ _. second), ((λ never. absurd (true≢false (sym never))), tt))),
+      ),
+    )
+own_entered s called rest (inr (inr (inr (inr (inl same))))) answers no_help passes =
     let name : s.name ≡ codes "export" = ap (λ x. x.name) same in
     let database = needed s rest (codes "db") passes (ap (λ x. needs_value x.rules (codes "db")) same) in
     let net = needed s rest (codes "NET") passes (ap (λ x. needs_value x.rules (codes "NET")) same) in
     let number = needed s rest (codes "N") passes (ap (λ x. needs_value x.rules (codes "N")) same) in
     subst (λ n. IsEntered (Some (n, rows_after s.rules [] rest))) (sym name)
     ((λ _. database), ((λ _. net), ((λ _. number), tt)))
-own_entered s called rest (inr (inr (inr (inr (inl same))))) answers no_help passes =
+own_entered s called rest (inr (inr (inr (inr (inr (inl same)))))) answers no_help passes =
     let name : s.name ≡ codes "format" = ap (λ x. x.name) same in
     let file = needed s rest (codes "FILE") passes (ap (λ x. needs_value x.rules (codes "FILE")) same) in
     subst (λ n. IsEntered (Some (n, rows_after s.rules [] rest))) (sym name)
     ((λ never. absurd (true≢false (sym never))), ((λ _. file), tt))
-own_entered s called rest (inr (inr (inr (inr (inr (inl same)))))) answers no_help passes =
+own_entered s called rest (inr (inr (inr (inr (inr (inr (inl same))))))) answers no_help passes =
     let name : s.name ≡ codes "migrate" = ap (λ x. x.name) same in
     let database = needed s rest (codes "db") passes (ap (λ x. needs_value x.rules (codes "db")) same) in
     subst (λ n. IsEntered (Some (n, rows_after s.rules [] rest))) (sym name) ((λ _. database), tt)
-own_entered s called rest (inr (inr (inr (inr (inr (inr (inl same))))))) answers no_help passes =
+own_entered s called rest (inr (inr (inr (inr (inr (inr (inr (inl same)))))))) answers no_help passes =
     let name : s.name ≡ codes "requests" = ap (λ x. x.name) same in
     let team = needed s rest (codes "TEAM") passes (ap (λ x. needs_value x.rules (codes "TEAM")) same) in
     subst (λ n. IsEntered (Some (n, rows_after s.rules [] rest))) (sym name)
     ((λ never. absurd (true≢false (sym never))), ((λ never. absurd (true≢false (sym never))), ((λ _. team), tt)))
-own_entered s called rest (inr (inr (inr (inr (inr (inr (inr (inl same)))))))) answers no_help passes =
+own_entered s called rest (inr (inr (inr (inr (inr (inr (inr (inr (inl same))))))))) answers no_help passes =
     let name : s.name ≡ codes "send" = ap (λ x. x.name) same in
     let script = needed s rest (codes "SCRIPT") passes (ap (λ x. needs_value x.rules (codes "SCRIPT")) same) in
     subst (λ n. IsEntered (Some (n, rows_after s.rules [] rest))) (sym name) (
@@ -86,7 +100,7 @@ own_entered s called rest (inr (inr (inr (inr (inr (inr (inr (inl same)))))))) a
         ((λ never. absurd (true≢false (sym never))), ((λ never. absurd (true≢false (sym never))), ((λ _. script), tt))),
       ),
     )
-own_entered s called rest (inr (inr (inr (inr (inr (inr (inr (inr (inl same))))))))) answers no_help passes =
+own_entered s called rest (inr (inr (inr (inr (inr (inr (inr (inr (inr (inl same)))))))))) answers no_help passes =
     let name : s.name ≡ codes "serve" = ap (λ x. x.name) same in
     let database = needed s rest (codes "db") passes (ap (λ x. needs_value x.rules (codes "db")) same) in
     subst (λ n. IsEntered (Some (n, rows_after s.rules [] rest))) (sym name) (
@@ -96,7 +110,7 @@ own_entered s called rest (inr (inr (inr (inr (inr (inr (inr (inr (inl same)))))
         ((λ never. absurd (true≢false (sym never))), tt),
       ),
     )
-own_entered s called rest (inr (inr (inr (inr (inr (inr (inr (inr (inr (inl same)))))))))) answers no_help passes =
+own_entered s called rest (inr (inr (inr (inr (inr (inr (inr (inr (inr (inr (inl same))))))))))) answers no_help passes =
     let name : s.name ≡ codes "show" = ap (λ x. x.name) same in
     subst (λ n. IsEntered (Some (n, rows_after s.rules [] rest))) (sym name) (
       (λ never. absurd (true≢false (sym never))),
@@ -111,18 +125,18 @@ own_entered s called rest (inr (inr (inr (inr (inr (inr (inr (inr (inr (inl same
         ),
       ),
     )
-own_entered s called rest (inr (inr (inr (inr (inr (inr (inr (inr (inr (inr (inl same))))))))))) answers no_help passes =
+own_entered s called rest (inr (inr (inr (inr (inr (inr (inr (inr (inr (inr (inr (inl same)))))))))))) answers no_help passes =
     let name : s.name ≡ codes "table" = ap (λ x. x.name) same in
     let file = needed s rest (codes "FILE") passes (ap (λ x. needs_value x.rules (codes "FILE")) same) in
     subst (λ n. IsEntered (Some (n, rows_after s.rules [] rest))) (sym name) ((λ _. file), tt)
-own_entered s called rest (inr (inr (inr (inr (inr (inr (inr (inr (inr (inr (inr (inl same)))))))))))) answers no_help passes =
+own_entered s called rest (inr (inr (inr (inr (inr (inr (inr (inr (inr (inr (inr (inr (inl same))))))))))))) answers no_help passes =
     let called_help = help_called called (subst (λ (x : Shape). answers_to called (label_of x) ≡ true) same answers) in
     absurd (true≢false (sym called_help ∙ and_true _ no_help))
   where
     and_true : (b : Bool) → (b && true) ≡ false → b ≡ false
     and_true true e = e
     and_true false e = refl
-own_entered s called rest (inr (inr (inr (inr (inr (inr (inr (inr (inr (inr (inr (inr none)))))))))))) answers no_help passes =
+own_entered s called rest (inr (inr (inr (inr (inr (inr (inr (inr (inr (inr (inr (inr (inr none))))))))))))) answers no_help passes =
     absurd none
 
 pub line_is_entered : (words : List Text) → line_faults words ≡ [] → IsEntered (subcommand_of canoffice_app words)
@@ -157,6 +171,12 @@ pub wrong_number_read : (words : List Text) (m : ArgMatches) (word : Text) → I
     → ((name : Text) × (rows : List Row) × (subcommand_rows_of m ≡ Some (name, rows)) × IsWrongNumber name rows word)
     → HasWrongNumber words word
 wrong_number_read words m word read w = (read.faultless, w.0, w.1, sym read.same ∙ w.2, w.3)
+
+-- and so is the first name that no kind of remark has
+pub unknown_remark_read : (words : List Text) (m : ArgMatches) (word : Text) → IsLineRead words m
+    → ((name : Text) × (rows : List Row) × (subcommand_rows_of m ≡ Some (name, rows)) × IsUnknownRemark name rows word)
+    → HasUnknownRemark words word
+unknown_remark_read words m word read w = (read.faultless, w.0, w.1, sym read.same ∙ w.2, w.3)
 
 -- and so is what looks wrongly in such matches
 pub wrong_look_read : (words : List Text) (m : ArgMatches) → IsLineRead words m

@@ -7,7 +7,7 @@ use Rattle.clap.specs.declared.error.kind.ErrorKind.TheVariants.{DisplayVersion,
 use Rattle.clap.specs.declared.error.kind.ErrorKind.TheVariants.{MissingRequiredArgument, TooManyValues}
 use Rattle.clap.specs.declared.error.kind.ErrorKind.TheVariants.{UnknownArgument}
 use Rattle.clap.proofs.OnLiterals.{clap_on_literals}
-use Rattle.canoffice_cli.specs.CommandLine.{canoffice_app, is_set, line_faults, manner_in}
+use Rattle.canoffice_cli.specs.CommandLine.{are_files, canoffice_app, entered, is_set, line_faults, manner_in}
 use Rattle.canoffice_cli.specs.declared.manner.Manner.{Manner}
 
 no_word : line_faults (codes "canoffice" ∷ []) ≡ DisplayHelpOnMissingArgumentOrSubcommand ∷ []
@@ -154,6 +154,45 @@ too_many_words : line_faults (codes "canoffice" ∷ codes "show" ∷ codes "--db
 unfolding clap_on_literals
 too_many_words = refl
 
+-- ---- `compare`
+
+abbrev two_files : List Text
+two_files = codes "canoffice" ∷ codes "compare" ∷ codes "a.dbc" ∷ codes "b.dbc" ∷ []
+
+one_comparison : line_faults two_files ≡ []
+unfolding clap_on_literals
+one_comparison = refl
+
+abbrev compared_words : Option (Text × List Row) → Option (List (Option Text))
+compared_words = option_map (λ found. first_of (codes "db") found.1 ∷ first_of (codes "port") found.1
+    ∷ first_of (codes "A") found.1 ∷ first_of (codes "B") found.1 ∷ first_of (codes "N") found.1 ∷ [])
+
+its_files : compared_words (subcommand_of canoffice_app two_files)
+    ≡ Some (None ∷ None ∷ Some (codes "a.dbc") ∷ Some (codes "b.dbc") ∷ None ∷ [])
+unfolding clap_on_literals
+its_files = refl
+
+they_are_files : option_map (λ found. are_files found.1) (subcommand_of canoffice_app two_files) ≡ Some true
+unfolding clap_on_literals
+they_are_files = refl
+
+abbrev two_releases : List Text
+two_releases = codes "canoffice" ∷ codes "compare" ∷ codes "--port" ∷ codes "8089" ∷ codes "truck" ∷ codes "2"
+    ∷ codes "0" ∷ []
+
+its_releases : compared_words (subcommand_of canoffice_app two_releases)
+    ≡ Some (None ∷ Some (codes "8089") ∷ Some (codes "truck") ∷ Some (codes "2") ∷ Some (codes "0") ∷ [])
+unfolding clap_on_literals
+its_releases = refl
+
+they_are_no_files : option_map (λ found. are_files found.1) (subcommand_of canoffice_app two_releases) ≡ Some false
+unfolding clap_on_literals
+they_are_no_files = refl
+
+one_file : line_faults (codes "canoffice" ∷ codes "compare" ∷ codes "a.dbc" ∷ []) ≡ MissingRequiredArgument ∷ []
+unfolding clap_on_literals
+one_file = refl
+
 no_length : line_faults (codes "canoffice" ∷ codes "chart" ∷ []) ≡ MissingRequiredArgument ∷ []
 unfolding clap_on_literals
 no_length = refl
@@ -222,6 +261,54 @@ is_explained = refl
 its_file : file_in (subcommand_of canoffice_app an_explained_check) ≡ Some (Some (codes "a.dbc"))
 unfolding clap_on_literals
 its_file = refl
+
+-- `--lint` alone is `--lint=`, up to `--`
+abbrev a_lint : List Text
+a_lint = codes "canoffice" ∷ codes "check" ∷ codes "--lint" ∷ codes "a.dbc" ∷ []
+
+abbrev an_empty_lint : List Text
+an_empty_lint = codes "canoffice" ∷ codes "check" ∷ codes "--lint=" ∷ codes "a.dbc" ∷ []
+
+lint_is_entered : entered a_lint ≡ an_empty_lint
+lint_is_entered = refl
+
+lint_of_check_alone : entered (codes "canoffice" ∷ codes "format" ∷ codes "--lint" ∷ []) ≡
+    codes "canoffice" ∷ codes "format" ∷ codes "--lint" ∷ []
+lint_of_check_alone = refl
+
+file_called_so : entered (codes "canoffice" ∷ codes "check" ∷ codes "--" ∷ codes "--lint" ∷ []) ≡
+    codes "canoffice" ∷ codes "check" ∷ codes "--" ∷ codes "--lint" ∷ []
+file_called_so = refl
+
+lint_without_names : line_faults an_empty_lint ≡ []
+unfolding clap_on_literals
+lint_without_names = refl
+
+abbrev lint_in : Option (Text × List Row) → Option (Option Text)
+lint_in = option_map (λ found. first_of (codes "lint") found.1)
+
+no_names : lint_in (subcommand_of canoffice_app an_empty_lint) ≡ Some (Some [])
+unfolding clap_on_literals
+no_names = refl
+
+linted_file : file_in (subcommand_of canoffice_app an_empty_lint) ≡ Some (Some (codes "a.dbc"))
+unfolding clap_on_literals
+linted_file = refl
+
+no_lint : lint_in (subcommand_of canoffice_app an_explained_check) ≡ Some None
+unfolding clap_on_literals
+no_lint = refl
+
+two_names : lint_in (subcommand_of canoffice_app
+    (codes "canoffice" ∷ codes "check" ∷ codes "--lint=IdleNode,LongName" ∷ codes "a.dbc" ∷ []))
+    ≡ Some (Some (codes "IdleNode,LongName"))
+unfolding clap_on_literals
+two_names = refl
+
+two_lints : line_faults
+    (codes "canoffice" ∷ codes "check" ∷ codes "--lint=" ∷ codes "--lint=" ∷ codes "a.dbc" ∷ []) ≡ ArgumentConflict ∷ []
+unfolding clap_on_literals
+two_lints = refl
 
 -- the flag may come after the file
 flag_at_the_end : explain_in

@@ -1,8 +1,9 @@
 -- Arrivals with their answers, and the histories that go on with them.
-use Rattle.std.proofs.Common.{◌≡◌, ◌+◌, ◌≤◌, ◌<◌, ℕ, zero, suc, inl, inr, List, [], ◌∷◌, ◌++◌, length, take, refl, sym}
-use Rattle.std.proofs.Common.{ap, subst, ◌∙◌, arith, append_assoc, append-nil}
+use Rattle.std.proofs.Common.{◌≡◌, ◌⊎◌, ◌+◌, ◌≤◌, ◌<◌, ℕ, zero, suc, inl, inr, List, [], ◌∷◌, ◌++◌, length, take, refl}
+use Rattle.std.proofs.Common.{sym, ap, subst, ◌∙◌, arith, append_assoc, append-nil}
 use Rattle.std.specs.Prelude.{IsTrue}
 use Rattle.sqlite.specs.State.{State}
+use Rattle.store_tables.specs.Statements.{statistics_of}
 use Rattle.office_history.specs.Answering.{reported}
 use Rattle.office_history.specs.declared.arrival.Answer.{Answer}
 use Rattle.office_history.specs.declared.arrival.Arrival.{Arrival}
@@ -10,7 +11,7 @@ use Rattle.office_history.specs.History.{Answered, IsLegalHistory}
 use Rattle.office_history.specs.Laws.{HistoriesGrow}
 use Rattle.store.specs.Holding.{Holding, Keeps}
 use Rattle.store.specs.Opening.{HasNone, HasOffice, HoldingInSomeForm, KeepsInSomeForm}
-use Rattle.store.proofs.TablesInForm.{has_office, office_in_form}
+use Rattle.store.proofs.TablesInForm.{has_office, in_form, office_in_form}
 use Rattle.canoffice_cli.specs.Answered.{answered_with}
 use Rattle.canoffice_cli.specs.Databases.{Begins}
 
@@ -67,6 +68,21 @@ pub begins_held : (old new : State) → (HasNone old → Holding [] new)
     → ((h : List Answered) → Holding h old → Holding h new) → (h : List Answered) → Begins h old → Holding h new
 begins_held old new made held h (inl holding) = held h holding
 begins_held old new made held h (inr none) = subst (λ k. Holding k new) (sym none.0) (made none.1)
+
+-- an office that was opened shows the statistics that there were
+pub begins_in_form : (h : List Answered) (s : State) → Begins h s → HoldingInSomeForm h s ⊎ HasNone s
+begins_in_form h s (inl holding) = inl (in_form h s holding)
+begins_in_form h s (inr none) = inr none.1
+
+pub still_rows : (old new : State) → (IsTrue old.is_open → old.now ≡ old.committed)
+    → (IsTrue new.is_open → new.now ≡ new.committed)
+    → (HasOffice old ⊎ HasNone old → IsTrue new.is_open → new.committed ≡ old.committed) → IsTrue new.is_open
+    → (h : List Answered) → HoldingInSomeForm h old ⊎ HasNone old → statistics_of new.now ≡ statistics_of old.now
+still_rows old new settled_old settled_new back opened h (inl holding) =
+    ap statistics_of (settled_new opened ∙ back (inl (office_in_form h old holding)) opened
+    ∙ sym (settled_old holding.is_open))
+still_rows old new settled_old settled_new back opened h (inr none) =
+    ap statistics_of (settled_new opened ∙ back (inr none) opened ∙ sym (settled_old none.is_open))
 
 -- where opening is lost, what was last committed is shown still
 pub still_held : (old new : State) → (IsTrue old.is_open → old.now ≡ old.committed)

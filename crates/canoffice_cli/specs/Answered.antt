@@ -9,7 +9,7 @@ use Rattle.office_history.specs.History.{Answered, IsLegalHistory}
 use Rattle.store.specs.declared.lost.Lost.{Lost}
 use Rattle.store.specs.Lost.{lost_text}
 use Rattle.store.specs.Running.{answered_of}
-use Rattle.canoffice_cli.specs.Databases.{Databases}
+use Rattle.canoffice_cli.specs.Databases.{Databases, HasBegun, StatisticsStay}
 use Rattle.canoffice_cli.specs.Outcome.{Outcome, failure}
 use Rattle.canoffice_cli.specs.declared.manner.Manner.{Manner}
 use Rattle.canoffice_cli.specs.declared.report.Status.{Status}
@@ -77,8 +77,9 @@ abbrev pub InMemory : List Answered → Option Lost → Type 0
 InMemory reported lost = IsLegalHistory reported
 
 -- In the database of the path: the tables hold the history that they held, followed by what was answered. New tables
--- hold what was answered, or nothing was.
+-- hold what was answered, or nothing was. The statistics stay.
 pub record InDatabase (before after : Databases) (path : List ℕ) (reported : List Answered) (lost : Option Lost) : Type
     0 where
   pub held : (h : List Answered) → before.holds path h → after.is_sound → after.holds path (h ++ reported)
   pub made : before.is_new path → after.is_sound → after.holds path reported ⊎ (IsSome lost × (reported ≡ []))
+  pub statistics : HasBegun before path → StatisticsStay before after path

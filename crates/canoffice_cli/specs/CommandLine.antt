@@ -1,6 +1,6 @@
 -- The command line of the program, which job its words request, and which fault they have.
 use Rattle.std.specs.Prelude.{◌≡◌, ◌≢◌, ◌⊎◌, ℕ, Bool, List, [], ◌∷◌, find, map, codes, Option, Some, None, option_map}
-use Rattle.std.specs.Prelude.{true, false, Result, Ok, Err}
+use Rattle.std.specs.Prelude.{true, false, not, is_none, ◌&&◌, if◌then◌else◌, Result, Ok, Err}
 use Rattle.std.specs.Option.{option_and_then, option_map_or}
 use Rattle.std.specs.Str.{bytes_eq}
 use Rattle.clap.specs.Lexer.{usize_max}
@@ -12,8 +12,8 @@ use Rattle.clap.specs.declared.error.kind.ErrorKind.{ErrorKind}
 use Rattle.clap.specs.declared.error.kind.ErrorKind.TheVariants.{DisplayHelp, DisplayVersion, OutOfMemory}
 use Rattle.office_views.specs.Word.{length_of}
 use Rattle.canoffice_cli.specs.declared.job.Job.{Job}
-use Rattle.canoffice_cli.specs.declared.job.Job.TheVariants.{Apply, Chart, Check, Export, Format, Migrate, Requests}
-use Rattle.canoffice_cli.specs.declared.job.Job.TheVariants.{Send, Serve, Show, Table}
+use Rattle.canoffice_cli.specs.declared.job.Job.TheVariants.{Apply, Chart, Check, Compare, CompareReleases, Export}
+use Rattle.canoffice_cli.specs.declared.job.Job.TheVariants.{Format, Migrate, Requests, Send, Serve, Show, Table}
 use Rattle.canoffice_cli.specs.declared.job.JobFault.{JobFault}
 use Rattle.canoffice_cli.specs.declared.job.JobFault.TheVariants.{Help, Usage, Memory}
 use Rattle.canoffice_cli.specs.declared.job.ValueFault.{ValueFault}
@@ -23,6 +23,7 @@ use Rattle.canoffice_cli.specs.declared.place.Place.{Place}
 use Rattle.canoffice_cli.specs.Numbers.{count_given, port_given, release_number, tries_given}
 use Rattle.canoffice_cli.specs.Place.{IsNoPlace, IsPlace}
 use Rattle.canoffice_looks.specs.What.{shown_by}
+use Rattle.dbc_lint.specs.Kind.{first_unknown}
 
 -- ---- the description for clap
 
@@ -59,6 +60,10 @@ explain_flag = flag (codes "explain")
 abbrev pub with_manner : App → App
 with_manner app = with_rule (with_rule app (flag (codes "strict"))) (flag (codes "echo"))
 
+-- --db FILE and --port N
+abbrev pub with_place : App → App
+with_place app = with_rule (with_rule app (option_word (codes "db"))) (option_word (codes "port"))
+
 -- apply [--db FILE] [--explain] [--strict] [--echo] SCRIPT
 abbrev pub apply_app : App
 apply_app = with_rule
@@ -70,9 +75,19 @@ abbrev pub chart_app : App
 chart_app = with_rule (with_rule (new_app (codes "chart")) (required_word (codes "LENGTH")))
     (required_words (codes "SIGNAL"))
 
--- check [--explain] FILE
+-- check [--explain] [--lint[=NAME,..]] FILE
 abbrev pub check_app : App
-check_app = with_rule (with_rule (new_app (codes "check")) explain_flag) (required_word (codes "FILE"))
+check_app = with_rule (with_rule (with_rule (new_app (codes "check")) explain_flag) (option_word (codes "lint")))
+    (required_word (codes "FILE"))
+
+-- A B [N]
+abbrev pub with_compared : App → App
+with_compared app = with_rule (with_rule (with_rule app (required_word (codes "A"))) (required_word (codes "B")))
+    (optional_word (codes "N"))
+
+-- compare A B, or compare (--db FILE | --port N) NET M N
+abbrev pub compare_app : App
+compare_app = with_compared (with_place (new_app (codes "compare")))
 
 -- export --db FILE NET N
 abbrev pub export_app : App
@@ -86,10 +101,6 @@ format_app = with_rule (with_rule (new_app (codes "format")) explain_flag) (requ
 -- migrate --db FILE
 abbrev pub migrate_app : App
 migrate_app = with_rule (new_app (codes "migrate")) (required_option (codes "db"))
-
--- --db FILE and --port N
-abbrev pub with_place : App → App
-with_place app = with_rule (with_rule app (option_word (codes "db"))) (option_word (codes "port"))
 
 -- requests (--db FILE | --port N) TEAM
 abbrev pub requests_app : App
@@ -126,14 +137,15 @@ with_version = on_top (λ s. record s { has_version = true })
 abbrev pub wants_subcommand : App → App
 wants_subcommand = on_top (λ s. record s { subcommand_required = true; arg_required_else_help = true })
 
--- canoffice apply .., chart .., check .., export .., format .., migrate .., requests .., send .., serve .., show ..,
--- table ..
+-- canoffice apply .., chart .., check .., compare .., export .., format .., migrate .., requests .., send .., serve ..,
+-- show .., table ..
 abbrev pub canoffice_app : App
 canoffice_app =
     let to_apply = with_subcommand (wants_subcommand (with_version (new_app (codes "canoffice")))) apply_app.top in
     let to_chart = with_subcommand to_apply chart_app.top in
     let to_check = with_subcommand to_chart check_app.top in
-    let to_export = with_subcommand to_check export_app.top in
+    let to_compare = with_subcommand to_check compare_app.top in
+    let to_export = with_subcommand to_compare export_app.top in
     let to_format = with_subcommand to_export format_app.top in
     let to_migrate = with_subcommand to_format migrate_app.top in
     let to_requests = with_subcommand to_migrate requests_app.top in
@@ -141,6 +153,29 @@ canoffice_app =
     let to_serve = with_subcommand to_send serve_app.top in
     let to_show = with_subcommand to_serve show_app.top in
     with_subcommand to_show table_app.top
+
+-- ---- the words that clap is given
+
+abbrev pub is_check : List Text → Bool
+is_check (program ∷ name ∷ words) = bytes_eq name (codes "check")
+is_check words = false
+
+-- whether options may follow: after `--` there are none
+abbrev pub has_options : Bool → Text → Bool
+has_options before word = before && not (bytes_eq word (codes "--"))
+
+-- `--lint` alone is `--lint=`, by which no kind of remark is named. It is given to clap so, since its contracts don't
+-- describe an option whose value may be left out.
+abbrev pub lint_word : Bool → Text → Text
+lint_word options word = if options && bytes_eq word (codes "--lint") then codes "--lint=" else word
+
+abbrev pub lint_entered : Bool → List Text → List Text
+lint_entered options [] = []
+lint_entered options (word ∷ words) =
+    lint_word (has_options options word) word ∷ lint_entered (has_options options word) words
+
+abbrev pub entered : List Text → List Text
+entered words = if is_check words then lint_entered true words else words
 
 -- the kinds of fault that clap finds in the words
 abbrev pub line_faults : List Text → Kinds
@@ -168,6 +203,13 @@ manner_in rows = record { strict = is_set rows (codes "strict"); echo = is_set r
 abbrev pub IsPlaceIn : Place → List Row → Type 0
 IsPlaceIn place rows = IsPlace place (first_of (codes "db") rows) (first_of (codes "port") rows)
 
+-- two files are compared: neither a place is given nor the number of a second release
+abbrev pub are_absent : Option Text → Option Text → Option Text → Bool
+are_absent database port number = is_none database && (is_none port && is_none number)
+
+abbrev pub are_files : List Row → Bool
+are_files rows = are_absent (first_of (codes "db") rows) (first_of (codes "port") rows) (first_of (codes "N") rows)
+
 -- the job is the subcommand, with the values of its arguments, and the numbers that they give
 abbrev pub IsJobOf : Job → Text → List Row → Type 0
 IsJobOf (Apply database script explain manner) name rows =
@@ -178,8 +220,17 @@ IsJobOf (Apply database script explain manner) name rows =
 IsJobOf (Chart length signals) name rows =
     (name ≡ codes "chart") × (option_and_then length_of (first_of (codes "LENGTH") rows) ≡ Some length)
     × HasValues rows (codes "SIGNAL") (map (λ s. s.now) signals.items)
-IsJobOf (Check file explain) name rows = (name ≡ codes "check") × HasValue rows (codes "FILE") file.now
+IsJobOf (Check file explain lint) name rows = (name ≡ codes "check") × HasValue rows (codes "FILE") file.now
     × (explain ≡ is_set rows (codes "explain"))
+    × (first_of (codes "lint") rows ≡ option_map (λ names. names.now) lint)
+    × (option_and_then first_unknown (first_of (codes "lint") rows) ≡ None)
+IsJobOf (Compare old new) name rows =
+    (name ≡ codes "compare") × (are_files rows ≡ true) × HasValue rows (codes "A") old.now
+    × HasValue rows (codes "B") new.now
+IsJobOf (CompareReleases place net old new) name rows =
+    (name ≡ codes "compare") × IsPlaceIn place rows × HasValue rows (codes "A") net.now
+    × (option_and_then release_number (first_of (codes "B") rows) ≡ Some old)
+    × (option_and_then release_number (first_of (codes "N") rows) ≡ Some new)
 IsJobOf (Export database net number) name rows =
     (name ≡ codes "export") × HasValue rows (codes "db") database.now × HasValue rows (codes "NET") net.now
     × (option_and_then release_number (first_of (codes "N") rows) ≡ Some number)
@@ -241,11 +292,15 @@ IsFaultOfKind kind (Help text) = (kind ≡ DisplayHelp) ⊎ (kind ≡ DisplayVer
 IsFaultOfKind kind (Usage text) = (kind ≢ DisplayHelp) × (kind ≢ DisplayVersion) × (kind ≢ OutOfMemory)
 IsFaultOfKind kind Memory = Unit {0}
 
--- of the subcommand with these arguments, the word for a number gives none in its range; the port is looked at before
--- the count, and before the tries
+-- of the subcommand with these arguments, the word for a number gives none in its range; the older release is looked at
+-- before the newer one, and the port before the count and before the tries
 abbrev pub IsWrongNumber : Text → List Row → Text → Type 0
 IsWrongNumber name rows word =
     ((name ≡ codes "chart") × HasValue rows (codes "LENGTH") word × (length_of word ≡ None))
+    ⊎ ((name ≡ codes "compare") × (are_files rows ≡ false) × HasValue rows (codes "B") word
+    × (release_number word ≡ None))
+    ⊎ ((name ≡ codes "compare") × HasValue rows (codes "N") word × (release_number word ≡ None)
+    × (old : ℕ) × (option_and_then release_number (first_of (codes "B") rows) ≡ Some old))
     ⊎ ((name ≡ codes "export") × HasValue rows (codes "N") word × (release_number word ≡ None))
     ⊎ ((name ≡ codes "send") × HasValue rows (codes "port") word × (port_given (Some word) ≡ None))
     ⊎ ((name ≡ codes "send") × HasValue rows (codes "tries") word × (tries_given (Some word) ≡ None)
@@ -254,20 +309,28 @@ IsWrongNumber name rows word =
     ⊎ ((name ≡ codes "serve") × HasValue rows (codes "count") word × (count_given (Some word) ≡ None)
     × (port : ℕ) × (port_given (first_of (codes "port") rows) ≡ Some port))
 
--- the subcommand with these arguments looks at an office, but the values of `--db` and `--port` name no place, or
--- nothing is shown by the words
+-- the subcommand with these arguments looks at an office, but the values of `--db` and `--port` name no place, or there
+-- is no second release to compare, or nothing is shown by the words
 abbrev pub IsWrongLook : Text → List Row → Type 0
 IsWrongLook name rows =
     (((name ≡ codes "requests") ⊎ (name ≡ codes "show"))
     × IsNoPlace (first_of (codes "db") rows) (first_of (codes "port") rows))
+    ⊎ ((name ≡ codes "compare") × (are_files rows ≡ false)
+    × (IsNoPlace (first_of (codes "db") rows) (first_of (codes "port") rows) ⊎ (first_of (codes "N") rows ≡ None)))
     ⊎ ((name ≡ codes "show") × (shown_by (first_of (codes "WHAT") rows) (first_of (codes "NAME") rows) ≡ None))
 
--- the subcommand with these arguments makes no job: a word is a wrong number, or it looks wrongly, or there was no
--- memory for a chart's signals
+-- the subcommand with these arguments is to print remarks, but this is the first of their names that no kind has
+abbrev pub IsUnknownRemark : Text → List Row → Text → Type 0
+IsUnknownRemark name rows word =
+    (name ≡ codes "check") × (option_and_then first_unknown (first_of (codes "lint") rows) ≡ Some word)
+
+-- the subcommand with these arguments makes no job: a word is a wrong number, or it looks wrongly, or it names no kind
+-- of remark, or there was no memory for a chart's signals
 abbrev pub IsValueFault : Text → List Row → ValueFault → Type 0
 IsValueFault name rows (value.WrongNumber number word) = IsWrongNumber name rows word.now
 IsValueFault name rows (value.WrongPlace command fault) = IsWrongLook name rows
 IsValueFault name rows (value.WrongWhat fault) = IsWrongLook name rows
+IsValueFault name rows (value.UnknownRemark word) = IsUnknownRemark name rows word.now
 IsValueFault name rows value.Memory = name ≡ codes "chart"
 
 abbrev pub IsValueFaultIn : Option (Text × List Row) → ValueFault → Type 0
@@ -286,13 +349,20 @@ LooksWrongly words =
     (line_faults words ≡ []) × (name : Text) × (rows : List Row)
     × (subcommand_of canoffice_app words ≡ Some (name, rows)) × IsWrongLook name rows
 
--- the words request help, or the version; or they have a fault of another kind, or a wrong number, or look wrongly; or
--- memory ran out
+-- clap finds no fault in the words, but this is the first of the names of remarks that no kind has
+abbrev pub HasUnknownRemark : List Text → Text → Type 0
+HasUnknownRemark words word =
+    (line_faults words ≡ []) × (name : Text) × (rows : List Row)
+    × (subcommand_of canoffice_app words ≡ Some (name, rows)) × IsUnknownRemark name rows word
+
+-- the words request help, or the version; or they have a fault of another kind, or a wrong number, or look wrongly, or
+-- name no kind of remark; or memory ran out
 abbrev pub IsJobFault : List Text → JobFault → Type 0
 IsJobFault words (Help text) = IsAmong DisplayHelp (line_faults words) ⊎ IsAmong DisplayVersion (line_faults words)
 IsJobFault words (Usage text) =
     ((kind : ErrorKind) × (kind ≢ DisplayHelp) × (kind ≢ DisplayVersion) × IsAmong kind (line_faults words))
     ⊎ ((word : Text) × HasWrongNumber words word) ⊎ LooksWrongly words
+    ⊎ ((word : Text) × HasUnknownRemark words word)
 IsJobFault words Memory = Unit {0}
 
 -- the words request a job, or have a fault

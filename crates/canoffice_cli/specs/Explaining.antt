@@ -35,7 +35,7 @@ dash_of (Some path) = Wrong
 abbrev pub IsStated : Files → FileTask → List ℕ → List ℕ → List ℕ → Type 0
 IsStated files (task.Apply database manner) name bytes stated =
     IsStatedOf files name (dash_of database) 1 (lines_of bytes) stated
-IsStated files task.Check name bytes stated = IsExplained name bytes stated
+IsStated files (task.Check lint) name bytes stated = IsExplained name bytes stated
 IsStated files task.Format name bytes stated = IsStatedOfFormat name bytes stated
 IsStated files task.Table name bytes stated = stated ≡ []
 

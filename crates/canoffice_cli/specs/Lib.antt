@@ -16,7 +16,9 @@ pub mod Served
 pub mod Charted
 pub mod WordFault
 pub mod Checked
+pub mod Linted
 pub mod Formatted
+pub mod Compared
 pub mod Tabled
 pub mod Explaining
 pub mod Delivery

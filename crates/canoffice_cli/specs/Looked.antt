@@ -10,7 +10,7 @@ use Rattle.store.specs.declared.lost.Lost.{Lost}
 use Rattle.office_types.specs.declared.look.Look.{Look}
 use Rattle.store.specs.Looking.{IsShown}
 use Rattle.canoffice_cli.specs.Answered.{lost_outcome}
-use Rattle.canoffice_cli.specs.Databases.{AreKept, Databases}
+use Rattle.canoffice_cli.specs.Databases.{AreKept, Databases, HasBegun, StatisticsStay}
 use Rattle.canoffice_cli.specs.Desks.{asked_outcome}
 use Rattle.canoffice_cli.specs.Outcome.{Outcome, not_found, success}
 use Rattle.canoffice_cli.specs.declared.place.Place.{Place}
@@ -23,12 +23,14 @@ shown_outcome (Ok None) = not_found
 shown_outcome (Err lost) = lost_outcome lost
 
 -- The office in the database of the path looked the look up, and this is what it showed, unless that was lost. The
--- tables hold what they held. Where the file has no tables, nothing is shown, and nothing is made.
+-- tables hold what they held, and the statistics stay. Where the file has no tables, nothing is shown, and nothing is
+-- made.
 pub record IsLookedUp (before after : Databases) (path : List ℕ) (look : Look)
     (shown : Result (Option (List ℕ)) Lost) : Type 0 where
   pub of_held : (h : List Answered) (office : Office) → before.holds path h → IsLegal h office → after.is_sound
       → IfOk shown (IsShown h office look)
   pub held : (h : List Answered) → before.holds path h → after.is_sound → after.holds path h
+  pub statistics : HasBegun before path → StatisticsStay before after path
   pub of_none : before.is_new path → (shown ≡ Ok None) × AreKept before after
 
 -- the desk on the port was asked for the target of the look, and what came of it is printed

@@ -1,5 +1,5 @@
 -- The outcome of a run of the program: the bytes on its two streams, and its exit status.
-use Rattle.std.specs.Prelude.{◌++◌, ℕ, List, [], codes, decimal, Result, Ok, Err}
+use Rattle.std.specs.Prelude.{◌++◌, ◌==◌, ℕ, List, [], codes, decimal, length, if◌then◌else◌, Result, Ok, Err}
 use Rattle.std.specs.declared.alloc.AllocError.{AllocError}
 use Rattle.dbc_advice.specs.ShownPath.{shown_path}
 use Rattle.canoffice_cli.specs.declared.report.Report.{Report}
@@ -25,6 +25,14 @@ code_of Failed = 3
 -- the same, with this text after its own on standard error
 abbrev pub and_errors : Outcome → List ℕ → Outcome
 and_errors o more = record o { errors = o.errors ++ more }
+
+-- the status after these lines of remarks
+abbrev pub remarked : Status → List ℕ → Status
+remarked status lines = if length lines == 0 then status else FaultFound
+
+-- the same, with these lines of remarks after its own on standard output
+abbrev pub and_remarks : Outcome → List ℕ → Outcome
+and_remarks o lines = record o { output = o.output ++ lines; status = remarked o.status lines }
 
 -- this text on standard output, and nothing on standard error
 abbrev pub success : List ℕ → Outcome

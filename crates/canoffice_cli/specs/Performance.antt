@@ -3,16 +3,17 @@ use Rattle.std.specs.Prelude.{◌≡◌, ◌⊎◌, ⊤, ℕ, false, List, map, 
 use Rattle.canoffice_desks.specs.Desks.{Desks}
 use Rattle.dbc_advice.specs.ShownPath.{shown_path}
 use Rattle.office_script.specs.Files.{Files, Holding, unknown, absent, holding}
-use Rattle.canoffice_cli.specs.CommandLine.{IsLine}
+use Rattle.canoffice_cli.specs.CommandLine.{IsLine, entered}
 use Rattle.canoffice_cli.specs.Explaining.{IsStated, MayExplain}
 use Rattle.canoffice_cli.specs.Holding.{source_at}
 use Rattle.canoffice_cli.specs.Outcome.{Outcome, memory_lost, success, wrong_input, unreadable}
 use Rattle.canoffice_cli.specs.Databases.{AreKept, Databases}
 use Rattle.canoffice_cli.specs.Applied.{IsApplyOutcome}
 use Rattle.canoffice_cli.specs.Charted.{IsChartOutcome}
-use Rattle.canoffice_cli.specs.Checked.{IsCheckOutcome}
+use Rattle.canoffice_cli.specs.Compared.{IsCompareOutcome, IsReleasesOutcome}
 use Rattle.canoffice_cli.specs.Exported.{IsExportOutcome}
 use Rattle.canoffice_cli.specs.Formatted.{IsFormatOutcome}
+use Rattle.canoffice_cli.specs.Linted.{IsCheckedOutcome}
 use Rattle.canoffice_cli.specs.Looked.{IsRequestsOutcome, IsShowOutcome}
 use Rattle.canoffice_cli.specs.Migrated.{IsMigrateOutcome}
 use Rattle.canoffice_cli.specs.Sent.{IsSendOutcome}
@@ -24,8 +25,8 @@ use Rattle.canoffice_cli.specs.declared.file_jobs.FileJob.{FileJob}
 use Rattle.canoffice_cli.specs.declared.file_jobs.FileTask.{FileTask}
 use Rattle.canoffice_cli.specs.declared.file_jobs.FileTask.TheVariants as task
 use Rattle.canoffice_cli.specs.declared.job.Job.{Job}
-use Rattle.canoffice_cli.specs.declared.job.Job.TheVariants.{Apply, Chart, Check, Export, Format, Migrate, Requests}
-use Rattle.canoffice_cli.specs.declared.job.Job.TheVariants.{Send, Serve, Show, Table}
+use Rattle.canoffice_cli.specs.declared.job.Job.TheVariants.{Apply, Chart, Check, Compare, CompareReleases, Export}
+use Rattle.canoffice_cli.specs.declared.job.Job.TheVariants.{Format, Migrate, Requests, Send, Serve, Show, Table}
 use Rattle.canoffice_cli.specs.declared.job.JobFault.{JobFault}
 use Rattle.canoffice_cli.specs.declared.job.JobFault.TheVariants.{Help, Usage, Memory}
 
@@ -35,11 +36,18 @@ IsOfFile NothingDone IsOf path unknown o = ((o ≡ unreadable path) × NothingDo
 IsOfFile NothingDone IsOf path absent o = (o ≡ unreadable path) × NothingDone
 IsOfFile NothingDone IsOf path (holding bytes) o = IsOf bytes o
 
+-- the same of two files, in order
+abbrev pub IsOfTwoFiles : (List ℕ → List ℕ → Outcome → Type 0) → Files → Holding → List ℕ → List ℕ → Outcome → Type 0
+IsOfTwoFiles IsOf files input path other o =
+    IsOfFile ⊤ (λ bytes. IsOfFile ⊤ (IsOf bytes) other (source_at files input other)) path
+    (source_at files input path) o
+
 -- the outcome of the bytes of a file, by what is done with them; a script may name further files
 abbrev pub IsTaskOutcome : Files → Databases → Databases → FileTask → List ℕ → Outcome → Type 0
 IsTaskOutcome files before after (task.Apply database manner) bytes o =
     IsApplyOutcome files (option_map (λ path. path.now) database) manner before after bytes o
-IsTaskOutcome files before after task.Check bytes o = IsCheckOutcome bytes o × AreKept before after
+IsTaskOutcome files before after (task.Check lint) bytes o =
+    IsCheckedOutcome (option_map (λ names. names.now) lint) bytes o × AreKept before after
 IsTaskOutcome files before after task.Format bytes o = IsFormatOutcome bytes o × AreKept before after
 IsTaskOutcome files before after task.Table bytes o = IsTableOutcome bytes o × AreKept before after
 
@@ -61,8 +69,12 @@ IsDone files input desks before after (Apply database script explain manner) o =
     (record { task = task.Apply database manner; path = script; explain = explain }) o
 IsDone files input desks before after (Chart length signals) o =
     IsChartOutcome length (map (λ s. s.now) signals.items) o × AreKept before after
-IsDone files input desks before after (Check file explain) o =
-    IsFileOutcome files input before after (record { task = task.Check; path = file; explain = explain }) o
+IsDone files input desks before after (Check file explain lint) o =
+    IsFileOutcome files input before after (record { task = task.Check lint; path = file; explain = explain }) o
+IsDone files input desks before after (Compare old new) o =
+    IsOfTwoFiles (IsCompareOutcome old.now new.now) files input old.now new.now o × AreKept before after
+IsDone files input desks before after (CompareReleases place net old new) o =
+    IsReleasesOutcome desks before after place net.now old new o
 IsDone files input desks before after (Export database net number) o =
     IsExportOutcome before after database.now net.now number o
 IsDone files input desks before after (Format file explain) o =
@@ -91,10 +103,14 @@ abbrev pub IsAnswer : Files → Holding → Desks → Databases → Databases �
 IsAnswer files input desks before after (Ok job) o = IsDone files input desks before after job o
 IsAnswer files input desks before after (Err fault) o = IsFaultAnswer fault o × AreKept before after
 
+-- the outcome of the words that clap is given
+abbrev pub IsEnteredAnswer : List (List ℕ) → Files → Holding → Desks → Databases → Databases → Outcome → Type 0
+IsEnteredAnswer words files input desks before after o = (line : Result Job JobFault) × IsLine words line
+    × IsAnswer files input desks before after line o
+
 -- the outcome of the program's words, unless memory runs out before there is one
 abbrev pub IsAnswered : List (List ℕ) → Files → Holding → Desks → Databases → Databases → Outcome → Type 0
-IsAnswered words files input desks before after o = (line : Result Job JobFault) × IsLine words line
-    × IsAnswer files input desks before after line o
+IsAnswered words files input desks before after o = IsEnteredAnswer (entered words) files input desks before after o
 
 -- a run of the program: the outcome of its words is delivered, or that memory ran out
 abbrev pub IsPerformed : List (List ℕ) → Files → Holding → Desks → Databases → Databases → Writing → Writing → Status

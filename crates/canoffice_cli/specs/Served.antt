@@ -2,7 +2,7 @@
 use Rattle.std.specs.Prelude.{◌≡◌, ◌⊎◌, ◌≤◌, ◌++◌, ℕ, List, [], codes, length, Result, Ok, Err, ⊤}
 use Rattle.office_history.specs.History.{Answered}
 use Rattle.canoffice_cli.specs.Answered.{lost_outcome}
-use Rattle.canoffice_cli.specs.Databases.{Databases}
+use Rattle.canoffice_cli.specs.Databases.{Databases, HasBegun, StatisticsStay}
 use Rattle.canoffice_cli.specs.Outcome.{Outcome, failure, success}
 use Rattle.canoffice_cli.specs.declared.serving.ServeEnd.{ServeEnd}
 use Rattle.canoffice_cli.specs.declared.serving.ServeEnd.TheVariants.{CannotAccept, CannotListen, IsLost}
@@ -15,12 +15,13 @@ end_outcome (Err CannotAccept) = failure (codes "cannot accept\n")
 end_outcome (Err (IsLost lost)) = lost_outcome lost
 
 -- Each connection adds at most one answer to the history that the database of the path holds; new tables hold those
--- answers alone, unless none were made. Where nothing can be listened on, nothing is added.
+-- answers alone, unless none were made. Where nothing can be listened on, nothing is added. The statistics stay.
 pub record IsServed (before after : Databases) (path : List ℕ) (count : ℕ) (end : Result ⊤ ServeEnd) : Type 0 where
   pub goes_on : (h : List Answered) → before.holds path h → after.is_sound → (more : List Answered)
       × (length more ≤ count) × after.holds path (h ++ more)
   pub made : before.is_new path → after.is_sound
       → ((more : List Answered) × (length more ≤ count) × after.holds path more) ⊎ after.is_new path
+  pub statistics : HasBegun before path → StatisticsStay before after path
   pub unheard : end ≡ Err CannotListen → (h : List Answered) → before.holds path h → after.is_sound → after.holds path h
 
 -- the office is served so, and how that ended is printed

@@ -11,7 +11,7 @@ ghost use Rattle.store.specs.Holding.{Holding};
 ghost use Rattle.store.specs.OpensAs.{conn_of};
 ghost use Rattle.canoffice_cli.specs.Answered.{InMemory, IsFarEnough, answered_with, answers_outcome};
 ghost use Rattle.canoffice_cli.specs.Answered.{lost_outcome, printed, status_of};
-ghost use Rattle.canoffice_cli.specs.Databases.{OnBeginning};
+ghost use Rattle.canoffice_cli.specs.Databases.{OnBeginning, ShowsStatisticsIfOpen};
 ghost use Rattle.canoffice_cli.specs.Outcome.{outcome_of};
 
 use crate::lines::{PrintedLine, add_lines};
@@ -56,6 +56,8 @@ pub(crate) fn office_on<S: Alter>(
     ensures begun { OnBeginning S.Store conn (conn_of result) (λ h.
         IfOk result (λ office. Holding h (state S.Store office.conn))) }
     ensures held { HoldsOnErr S.Store conn (conn_of result) result }
+    ensures statistics { OnBeginning S.Store conn (conn_of result) (λ h.
+        ShowsStatisticsIfOpen S.Store conn (conn_of result)) }
 {
     let _settled_before = conn.is_autocommit();
     match StoredOffice::open(conn) {
@@ -95,6 +97,8 @@ fn answer_all<S: Alter, W: Write>(
     ensures legal { OnHistory S.Store office.old.conn office.new.conn (λ h.
         IfOk result (λ reported. IsLegalHistory
         (h ++ answered_with arrivals.now reported.answers.items))) }
+    ensures statistics { OnHistory S.Store office.old.conn office.new.conn (λ h.
+        ShowsStatisticsIfOpen S.Store office.old.conn office.new.conn) }
     ensures err { OnErr result (office.new ≡ office.old) }
 {
     let mut answers = Vec::with_capacity(alloc, arrivals.len())?;
@@ -153,6 +157,8 @@ pub fn answer_on<S: Alter + Drop, W: Write>(
     ensures legal { OnBeginning S.Store conn result.1 (λ h.
         IfOk result.0 (λ reported. IsLegalHistory
         (h ++ answered_with arrivals.now reported.answers.items))) }
+    ensures statistics { OnBeginning S.Store conn result.1 (λ h.
+        ShowsStatisticsIfOpen S.Store conn result.1) }
 {
     histories_grow();
     match office_on(conn) {

@@ -57,7 +57,7 @@ pub(crate) fn fault_line(alloc: Global, fault: ReadFault) -> Result<Vec<u8>, All
 }
 
 /// The verdict on the sheet: what was skipped, and whether the sheet is clear.
-fn verdict(alloc: Global, reading: &Reading) -> Result<Report, AllocError>
+pub(crate) fn verdict(alloc: Global, reading: &Reading) -> Result<Report, AllocError>
     ensures { IfOk result (λ report. IsVerdict reading.now.sheet
         (map start_and_keyword reading.now.passed)
         (outcome_of report)) }

@@ -2,11 +2,12 @@
 ghost use Rattle.std.specs.Prelude.{◌≡◌, IfOk, codes, false};
 ghost use Rattle.clap.specs.Words.{app_of, new_app, rule_of};
 ghost use Rattle.clap.specs.declared.builder.command.Command.TheViews.{out-Command as fields_of};
-ghost use Rattle.canoffice_cli.specs.CommandLine.{apply_app, canoffice_app, chart_app, check_app, explain_flag, flag};
+ghost use Rattle.canoffice_cli.specs.CommandLine.{apply_app, canoffice_app, chart_app, check_app, compare_app};
+ghost use Rattle.canoffice_cli.specs.CommandLine.{explain_flag, flag};
 ghost use Rattle.canoffice_cli.specs.CommandLine.{export_app, format_app, migrate_app, option_word, optional_word};
 ghost use Rattle.canoffice_cli.specs.CommandLine.{requests_app, required_option, required_word, required_words};
-ghost use Rattle.canoffice_cli.specs.CommandLine.{send_app, serve_app, show_app, table_app, with_manner, with_place};
-ghost use Rattle.canoffice_cli.specs.CommandLine.{wants_subcommand, with_sought, with_version};
+ghost use Rattle.canoffice_cli.specs.CommandLine.{send_app, serve_app, show_app, table_app, with_compared, with_manner};
+ghost use Rattle.canoffice_cli.specs.CommandLine.{wants_subcommand, with_place, with_sought, with_version};
 
 use clap::{Arg, ArgAction, Command};
 use std::alloc::{AllocError, Global};
@@ -19,6 +20,10 @@ const DBC_FILE: &str = "The DBC file, or - for standard input";
 
 /// What the help says of the argument of `apply` and `send`.
 const SCRIPT: &str = "The script's file, or - for standard input";
+
+/// The two forms of `compare`.
+const COMPARE_USAGE: &str =
+    "canoffice compare <A> <B>\n       canoffice compare <--db <FILE>|--port <N>> <NET> <M> <N>";
 
 /// A positional argument that may be left out.
 fn optional_argument<'a>(alloc: Global, id: &'a str, help: &'a str) -> Arg<'a>
@@ -122,8 +127,8 @@ pub(crate) fn chart_command<'a>(alloc: Global) -> Result<Command<'a>, AllocError
     Ok(chart)
 }
 
-/// `check [--explain] FILE`
-fn check_command<'a>(alloc: Global) -> Result<Command<'a>, AllocError>
+/// `check [--explain] [--lint[=NAME,..]] FILE`
+pub(crate) fn check_command<'a>(alloc: Global) -> Result<Command<'a>, AllocError>
     ensures app { IfOk result (λ c. app_of c ≡ check_app) }
     ensures local { IfOk result (λ c. (fields_of c).has_globals ≡ false) }
 {
@@ -132,8 +137,39 @@ fn check_command<'a>(alloc: Global) -> Result<Command<'a>, AllocError>
     );
     let more = "Says also where each fault and each clash is, and what to do";
     let with_explain = named.arg(explain(alloc, more))?;
-    let check = with_explain.arg(required_argument(alloc, "FILE", DBC_FILE))?;
+    let remarks =
+        "Prints remarks too, with status 1: --lint all, --lint=NAME,.. those of these kinds";
+    let with_lint = with_explain.arg(option(alloc, "lint", "NAMES", remarks))?;
+    let check = with_lint.arg(required_argument(alloc, "FILE", DBC_FILE))?;
     Ok(check)
+}
+
+/// The command with what is compared, `A B [N]`.
+fn with_compared<'a>(alloc: Global, command: Command<'a>) -> Result<Command<'a>, AllocError>
+    requires { (fields_of command).has_globals ≡ false }
+    ensures app { IfOk result (λ c. app_of c ≡ with_compared (app_of command.entry)) }
+    ensures local { IfOk result (λ c. (fields_of c).has_globals ≡ false) }
+{
+    let older = "The older DBC file, or - for standard input; of an office, the network's name";
+    let newer =
+        "The newer DBC file, or - for standard input; of an office, the number of the older release";
+    let number = "Of an office, the number of the newer release; 0 stands for the live sheet";
+    let with_older = command.arg(required_argument(alloc, "A", older))?;
+    let with_newer = with_older.arg(required_argument(alloc, "B", newer))?;
+    with_newer.arg(optional_argument(alloc, "N", number))
+}
+
+/// `compare A B`, or `compare (--db FILE | --port N) NET M N`
+pub(crate) fn compare_command<'a>(alloc: Global) -> Result<Command<'a>, AllocError>
+    ensures app { IfOk result (λ c. app_of c ≡ compare_app) }
+    ensures local { IfOk result (λ c. (fields_of c).has_globals ≡ false) }
+{
+    let named = Command::new(alloc, "compare")
+        .about("Prints what changed from one DBC file or release to another")
+        .override_usage(COMPARE_USAGE);
+    let placed = with_place(alloc, named)?;
+    let compare = with_compared(alloc, placed)?;
+    Ok(compare)
 }
 
 /// `export --db FILE NET N`
@@ -290,7 +326,8 @@ pub fn canoffice_command<'a>(alloc: Global) -> Result<Command<'a>, AllocError>
     let with_apply = bare.subcommand(apply_command(alloc)?)?;
     let with_chart = with_apply.subcommand(chart_command(alloc)?)?;
     let with_check = with_chart.subcommand(check_command(alloc)?)?;
-    let with_export = with_check.subcommand(export_command(alloc)?)?;
+    let with_compare = with_check.subcommand(compare_command(alloc)?)?;
+    let with_export = with_compare.subcommand(export_command(alloc)?)?;
     let with_format = with_export.subcommand(format_command(alloc)?)?;
     let with_migrate = with_format.subcommand(migrate_command(alloc)?)?;
     let with_requests = with_migrate.subcommand(requests_command(alloc)?)?;

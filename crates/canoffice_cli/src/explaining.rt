@@ -45,7 +45,7 @@ pub(crate) fn stated<F: FileSource>(
         source.entry.text.now stated.items) }
 {
     match task {
-        FileTask::Check => explained(alloc, source),
+        FileTask::Check(_) => explained(alloc, source),
         FileTask::Format => stated_of_format(alloc, source),
         FileTask::Apply(database, _) => {
             let dash = dash_of(database);

@@ -5,11 +5,11 @@ ghost use Rattle.canoffice_cli.specs.Outcome.{outcome_of, unreadable};
 ghost use Rattle.canoffice_cli.specs.Performance.{IsTaskOutcome, IsFileOutcome, IsOfBytes};
 
 use crate::apply::apply_script;
-use crate::checking::check_report;
 use crate::databases::Databases;
 use crate::explaining::stated;
 use crate::files::{FileSource, PathFault, StandardInput, bytes_at};
 use crate::formatting::format_report;
+use crate::linting::checked;
 use crate::manner::Manner;
 use crate::progress::Progress;
 use crate::report::{Report, cannot_read};
@@ -23,8 +23,8 @@ use std::io::Write;
 pub(crate) enum FileTask<'a> {
     /// They are a script, which is applied so to the office in the database of this path, or to one in memory.
     Apply(Option<&'a str>, Manner),
-    /// They are DBC text, which is checked.
-    Check,
+    /// They are DBC text, which is checked; where there are names, with the remarks whose kinds they choose.
+    Check(Option<&'a str>),
     /// They are DBC text, which is printed in its canonical form.
     Format,
     /// They are DBC text, the table of whose messages is printed.
@@ -131,7 +131,7 @@ fn task_report<F: FileSource, D: Databases, W: Write>(
         FileTask::Apply(database, manner) => {
             apply_script(alloc, bytes, files, database, manner, databases, progress)
         }
-        FileTask::Check => check_report(alloc, bytes),
+        FileTask::Check(lint) => checked(alloc, bytes, lint),
         FileTask::Format => format_report(alloc, bytes),
         FileTask::Table => table_report(alloc, bytes),
     }

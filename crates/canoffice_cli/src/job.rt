@@ -1,10 +1,14 @@
 //! The job that the words of the command line request.
-ghost use Rattle.std.specs.Prelude.{◌≡◌, IfOk, IfErr, map, codes};
+ghost use Rattle.std.specs.Prelude.{◌≡◌, IfOk, IfErr, None, Some, map, option_and_then, codes};
+ghost use Rattle.std.specs.Option.{option_map};
 ghost use Rattle.clap.specs.Words.{found_of, kind_of, rows_of, subcommand_rows_of};
 ghost use Rattle.canoffice_cli.specs.CommandLine.{HasSome, IsEntered, IsJob, IsJobIn, IsJobOf, IsFaultOfKind};
-ghost use Rattle.canoffice_cli.specs.CommandLine.{IsJobFault, IsValueFault, IsValueFaultIn, is_set, manner_in};
+ghost use Rattle.canoffice_cli.specs.CommandLine.{IsJobFault, IsValueFault, IsValueFaultIn, are_absent, are_files, is_set};
+ghost use Rattle.canoffice_cli.specs.CommandLine.{manner_in};
+ghost use Rattle.dbc_lint.specs.Kind.{first_unknown};
 
-use crate::command_line::canoffice_command;
+use crate::command_line::{canoffice_command, check_command};
+use crate::linting::remark_refusal;
 use crate::manner::Manner;
 use crate::numbers::{Number, count_given, length_given, port_given, release_number, tries_given};
 use crate::place::{LookCommand, Place, PlaceFault, place_given};
@@ -12,6 +16,7 @@ use crate::sending::Sending;
 use canoffice_looks::{What, WhatFault, shown_by};
 use clap::error::ErrorKind;
 use clap::{ArgMatches, Command, Error};
+use dbc_lint::first_unknown;
 use std::alloc::{AllocError, Global};
 
 /// What the program is to do: a subcommand with the values of its arguments.
@@ -41,6 +46,27 @@ pub enum Job<'a> {
         file: &'a str,
         /// Whether faults and clashes are explained.
         explain: bool,
+        /// The names of the kinds of remarks that are printed, with commas between them, or `""` for all of them;
+        /// `None` where no remark is printed.
+        lint: Option<&'a str>,
+    },
+    /// Print what changed from the one DBC text to the other.
+    Compare {
+        /// The path of the older file, or `-`.
+        old: &'a str,
+        /// The path of the newer file, or `-`.
+        new: &'a str,
+    },
+    /// Print what changed from one release of a network to another.
+    CompareReleases {
+        /// Where the office is looked at.
+        place: Place<'a>,
+        /// The word that names the network.
+        net: &'a str,
+        /// The number of the older release, 1 to 65535, or 0 for the live sheet.
+        old: u32,
+        /// The same of the newer one.
+        new: u32,
     },
     /// Print a release of a network, or its live sheet.
     Export {
@@ -124,16 +150,18 @@ enum ValueFault<'a> {
     WrongPlace(LookCommand, PlaceFault<'a>),
     /// Nothing is shown by the words of `show`.
     WrongWhat(WhatFault<'a>),
+    /// No kind of remark has this name.
+    UnknownRemark(&'a str),
     /// Memory ran out.
     Memory,
 }
 
 /// The job that the program's words request, each number in its range. The first word is the program's own name.
 ///
-/// The result is a job exactly if clap finds no fault in the words, each word for a number gives one in its range, and
-/// the words of a subcommand that looks name a place and something that is shown, unless memory runs out: it is `Help`
-/// only if they request help or the version, and `Usage` only if they have another fault. The text is clap's, and no
-/// clause describes it.
+/// The result is a job exactly if clap finds no fault in the words, each word for a number gives one in its range, the
+/// words of a subcommand that looks name a place and something that is shown, and the names of remarks are those of
+/// kinds, unless memory runs out: it is `Help` only if they request help or the version, and `Usage` only if they have
+/// another fault. The text is clap's, and no clause describes it.
 pub fn job_of<'a>(alloc: Global, words: &'a [&'a str]) -> Result<Job<'a>, JobFault>
     ensures job { IfOk result (IsJob (map (λ s. s.now) words.entry.now)) }
     ensures fault { IfErr result (IsJobFault (map (λ s. s.now) words.entry.now)) }
@@ -147,6 +175,7 @@ pub fn job_of<'a>(alloc: Global, words: &'a [&'a str]) -> Result<Job<'a>, JobFau
             Err(ValueFault::WrongNumber(number, word)) => Err(wrong_number(alloc, number, word)),
             Err(ValueFault::WrongPlace(command, fault)) => Err(wrong_place(alloc, command, fault)),
             Err(ValueFault::WrongWhat(fault)) => Err(wrong_what(alloc, fault)),
+            Err(ValueFault::UnknownRemark(word)) => Err(unknown_remark(alloc, word)),
             Err(ValueFault::Memory) => Err(JobFault::Memory),
         },
         Err(error) => Err(line_fault(alloc, &error)),
@@ -205,6 +234,22 @@ fn wrong_what(alloc: Global, fault: WhatFault<'_>) -> JobFault
     }
 }
 
+/// The fault that no kind of remark has the name: `Usage`, unless memory runs out.
+fn unknown_remark(alloc: Global, word: &str) -> JobFault
+    ensures { IsFaultOfKind ErrorKind.ValueValidation result }
+{
+    let Ok(message) = remark_refusal(alloc, word) else {
+        return JobFault::Memory;
+    };
+    match check_command(alloc) {
+        Ok(command) => match command.bin_name("canoffice check") {
+            Ok(named) => validation_fault(alloc, named, &message),
+            Err(AllocError) => JobFault::Memory,
+        },
+        Err(AllocError) => JobFault::Memory,
+    }
+}
+
 /// The fault that a word isn't as it must be, with the text that clap makes of the message and the command's usage.
 fn validation_fault(alloc: Global, command: Command<'_>, message: &str) -> JobFault
     ensures { IsFaultOfKind ErrorKind.ValueValidation result }
@@ -231,8 +276,8 @@ fn line_fault(alloc: Global, error: &Error) -> JobFault
 }
 
 /// The job of the subcommand that was entered, which is one of the program's, with all its required arguments. The
-/// error is the first word that gives no number in its range, or why the words of a subcommand that looks name nothing.
-/// Only the list of a chart's signals takes memory, so no other subcommand can end as out of memory here.
+/// error is the first word that gives no number in its range, or why the words of a subcommand that looks name nothing,
+/// or the first name that no kind of remark has. Only the list of a chart's signals takes memory, so no other subcommand can end as out of memory here.
 #[tactic(auto, using(crate::proofs::CommandLine::found_pair))]
 fn job_in<'a>(alloc: Global, matches: &ArgMatches<'a>) -> Result<Job<'a>, ValueFault<'a>>
     requires { IsEntered (subcommand_rows_of matches.now) }
@@ -249,7 +294,10 @@ fn job_in<'a>(alloc: Global, matches: &ArgMatches<'a>) -> Result<Job<'a>, ValueF
         return chart_job(alloc, found);
     }
     if name == "check" {
-        return Ok(check_job(found));
+        return check_job(found);
+    }
+    if name == "compare" {
+        return compare_job(found);
     }
     if name == "export" {
         return export_job(found);
@@ -335,15 +383,103 @@ fn chart_job<'a>(alloc: Global, found: &ArgMatches<'a>) -> Result<Job<'a>, Value
     }
 }
 
-/// `check [--explain] FILE`
-#[tactic(auto, using(crate::proofs::CommandLine::value_in_rows, crate::proofs::CommandLine::text_is_given))]
-fn check_job<'a>(found: &ArgMatches<'a>) -> Job<'a>
+/// The names of the kinds of remarks, each of which a kind has; `None` where no remark is printed. The error is the
+/// first of the names that no kind has.
+fn lint_given(names: Option<&str>) -> Result<Option<&str>, &str>
+    ensures given { IfOk result (λ lint. (lint ≡ names.entry)
+        × (option_and_then first_unknown (option_map (λ n. n.now) names.entry) ≡ None)) }
+    ensures unknown { IfErr result (λ word. option_and_then first_unknown
+        (option_map (λ n. n.now) names.entry) ≡ Some word.now) }
+{
+    let Some(text) = names else {
+        return Ok(None);
+    };
+    match first_unknown(text) {
+        Some(word) => Err(word),
+        None => Ok(names),
+    }
+}
+
+/// `check [--explain] [--lint[=NAME,..]] FILE`
+#[tactic(auto, using(crate::proofs::CommandLine::value_in_rows, crate::proofs::CommandLine::optional_in_rows, crate::proofs::CommandLine::text_is_given))]
+fn check_job<'a>(found: &ArgMatches<'a>) -> Result<Job<'a>, ValueFault<'a>>
     requires { HasSome (rows_of (found_of found.now)) (codes "FILE") }
-    ensures { IsJobOf result (codes "check") (rows_of (found_of found.now)) }
+    ensures job { IfOk result (λ job. IsJobOf job (codes "check") (rows_of (found_of found.now))) }
+    ensures fault { IfErr result (IsValueFault (codes "check") (rows_of (found_of found.now))) }
 {
     let file = found.get_str("FILE").unwrap();
     let explain = is_set(found, "explain");
-    Job::Check { file, explain }
+    match lint_given(found.get_str("lint")) {
+        Ok(lint) => Ok(Job::Check {
+            file,
+            explain,
+            lint,
+        }),
+        Err(word) => Err(ValueFault::UnknownRemark(word)),
+    }
+}
+
+/// Whether none of the three is given.
+fn are_absent(database: Option<&str>, port: Option<&str>, number: Option<&str>) -> bool
+    ensures { result ≡ are_absent (option_map (λ w. w.now) database.entry)
+        (option_map (λ w. w.now) port.entry)
+        (option_map (λ w. w.now) number.entry) }
+{
+    match database {
+        Some(_) => false,
+        None => match port {
+            Some(_) => false,
+            None => number.is_none(),
+        },
+    }
+}
+
+/// Whether two files are compared: neither a place is given nor the number of a second release.
+fn are_files(found: &ArgMatches) -> bool
+    ensures { result ≡ are_files (rows_of (found_of found.now)) }
+{
+    are_absent(
+        found.get_str("db"),
+        found.get_str("port"),
+        found.get_str("N"),
+    )
+}
+
+/// `compare A B`, or `compare (--db FILE | --port N) NET M N`
+#[tactic(auto, using(crate::proofs::CommandLine::value_in_rows, crate::proofs::CommandLine::optional_in_rows, crate::proofs::CommandLine::text_is_given))]
+fn compare_job<'a>(found: &ArgMatches<'a>) -> Result<Job<'a>, ValueFault<'a>>
+    requires first { HasSome (rows_of (found_of found.now)) (codes "A") }
+    requires second { HasSome (rows_of (found_of found.now)) (codes "B") }
+    ensures job { IfOk result (λ job. IsJobOf job (codes "compare") (rows_of (found_of found.now))) }
+    ensures fault { IfErr result (IsValueFault (codes "compare") (rows_of (found_of found.now))) }
+{
+    let first = found.get_str("A").unwrap();
+    let second = found.get_str("B").unwrap();
+    if are_files(found) {
+        return Ok(Job::Compare {
+            old: first,
+            new: second,
+        });
+    }
+    let place = match place_given(found.get_str("db"), found.get_str("port")) {
+        Ok(place) => place,
+        Err(fault) => return Err(ValueFault::WrongPlace(LookCommand::Compare, fault)),
+    };
+    let Some(third) = found.get_str("N") else {
+        return Err(ValueFault::WrongPlace(LookCommand::Compare, PlaceFault::NoRelease));
+    };
+    let Some(old) = release_number(second) else {
+        return Err(ValueFault::WrongNumber(Number::OlderRelease, second));
+    };
+    match release_number(third) {
+        Some(new) => Ok(Job::CompareReleases {
+            place,
+            net: first,
+            old,
+            new,
+        }),
+        None => Err(ValueFault::WrongNumber(Number::NewerRelease, third)),
+    }
 }
 
 /// `export --db FILE NET N`

@@ -5,8 +5,9 @@
 //! - `files` reads files and standard input: those of the machine, or those of a list in memory. `databases` has the
 //!   offices in databases, of which one in memory is here, and the crate `canoffice_desks` those that desks serve; those
 //!   of the machine are in the program itself. `place` says which of the two the words name.
-//! - `apply`, `sending`, `looking`, `exporting`, `migrating`, `serving`, `charting`, `checking`, `formatting` and
-//!   `tabling` do the jobs. What the words of `show` and `requests` look up is in the crate `canoffice_looks`.
+//! - `apply`, `sending`, `looking`, `exporting`, `migrating`, `serving`, `charting`, `checking`, `linting`, `comparing`,
+//!   `formatting` and `tabling` do the jobs. What the words of `show` and `requests` look up is in the crate
+//!   `canoffice_looks`.
 //!   `answering` answers the arrivals of a script, by an office in memory or on a connection to a database, `progress`
 //!   shows how far it is, and `room` is taken before for what is printed after. `manner` is how a script is applied.
 //! - `file_jobs` does the jobs that read a file, and `explaining` says what `--explain` adds to them.
@@ -23,6 +24,7 @@ mod apply;
 mod charting;
 mod checking;
 mod command_line;
+mod comparing;
 mod databases;
 mod delivery;
 mod explaining;
@@ -32,6 +34,7 @@ mod files;
 mod formatting;
 mod job;
 mod lines;
+mod linting;
 mod looking;
 mod manner;
 mod migrating;
@@ -50,6 +53,7 @@ pub use apply::apply_script;
 pub use canoffice_desks::{Desks, NoDesk};
 pub use charting::chart_report;
 pub use checking::check_report;
+pub use comparing::{compare_releases_report, compare_report, texts_tell_apart};
 pub use databases::{Databases, MemoryDatabase};
 pub use delivery::deliver;
 pub use exporting::export_report;
@@ -58,6 +62,7 @@ pub use files::{
 };
 pub use formatting::format_report;
 pub use job::{Job, JobFault, job_of, not_utf8_fault};
+pub use linting::lint_report;
 pub use looking::{look_on, requests_report, show_report};
 pub use manner::Manner;
 pub use migrating::{migrate_on, migrate_report};

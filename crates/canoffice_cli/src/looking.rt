@@ -9,7 +9,7 @@ ghost use Rattle.office_history.specs.History.{IsLegal};
 ghost use Rattle.store.specs.Calls.{HoldsOnOk, IsSettled, KeepsDoubt, OnHistory};
 ghost use Rattle.store.specs.Looking.{IsShown, bytes_of};
 ghost use Rattle.store.specs.Opening.{HasNone};
-ghost use Rattle.canoffice_cli.specs.Databases.{HoldsIfOpen};
+ghost use Rattle.canoffice_cli.specs.Databases.{HoldsIfOpen, OnBeginning, ShowsStatisticsIfOpen};
 ghost use Rattle.canoffice_cli.specs.Desks.{asked_outcome, no_answer, response_outcome};
 ghost use Rattle.canoffice_cli.specs.Looked.{IsLookOutcome, IsLookedAt, IsRequestsOutcome, IsShowOutcome};
 ghost use Rattle.canoffice_cli.specs.Looked.{shown_outcome};
@@ -66,6 +66,8 @@ pub fn look_on<S: Alter + Drop>(
         → IfOk result.0 (λ text. IsShown h office look.now (bytes_of text))) }
     ensures held { HoldsIfOpen S.Store conn result.1 }
     ensures kept { HoldsOnOk S.Store conn result.1 result.0 }
+    ensures statistics { OnBeginning S.Store conn result.1 (λ h.
+        ShowsStatisticsIfOpen S.Store conn result.1) }
     ensures none { HasNone (state S.Store conn) → (result.0 ≡ Ok None) × (result.1 ≡ conn) }
 {
     knows_schema(&conn);
@@ -151,7 +153,7 @@ fn report_at<D: Databases, K: Desks>(
 }
 
 /// The same, or that it isn't there where there is nothing to look up. The error is out of memory.
-fn look_report<D: Databases, K: Desks>(
+pub(crate) fn look_report<D: Databases, K: Desks>(
     alloc: Global,
     databases: &mut D,
     desks: &mut K,

@@ -5,7 +5,7 @@ ghost use Rattle.store.specs.Calls.{IsSettled, KeepsDoubt};
 ghost use Rattle.store.specs.Holding.{Holding};
 ghost use Rattle.store.specs.Opening.{HoldingInSomeForm};
 ghost use Rattle.store.specs.OpensAs.{OnNone, OnSomeForm};
-ghost use Rattle.canoffice_cli.specs.Databases.{HoldsIfOpen};
+ghost use Rattle.canoffice_cli.specs.Databases.{HoldsIfOpen, ShowsStatisticsIfOpen};
 ghost use Rattle.canoffice_cli.specs.Migrated.{IsMigrateOutcome, migrated_outcome};
 ghost use Rattle.canoffice_cli.specs.Outcome.{outcome_of};
 
@@ -20,7 +20,7 @@ use store::{Lost, StoredOffice};
 
 /// Makes the tables on the connection, which is given back, those of this version: they hold the history that they
 /// held. New ones are made where it has no tables. It is shown which message is carried over. Where it is lost, they
-/// are as before.
+/// are as before. The statistics stay.
 pub fn migrate_on<S: Alter + Drop, W: Write>(
     alloc: Global,
     conn: Connection<S>,
@@ -35,6 +35,10 @@ pub fn migrate_on<S: Alter + Drop, W: Write>(
     ensures held { HoldsIfOpen S.Store conn result.1 }
     ensures made { OnNone S.Store conn result.1
         (OnOk result.0 (Holding [] (state S.Store result.1))) }
+    ensures statistics { OnSomeForm S.Store conn result.1 (λ h.
+        ShowsStatisticsIfOpen S.Store conn result.1) }
+    ensures statistics_new { OnNone S.Store conn result.1
+        (ShowsStatisticsIfOpen S.Store conn result.1) }
 {
     let _settled_before = conn.is_autocommit();
     match StoredOffice::migrate(alloc, conn, progress) {

@@ -5,7 +5,9 @@ ghost use Rattle.office_views.specs.Word.{length_of};
 ghost use Rattle.canoffice_cli.specs.Numbers.{count_given, number_given, port_given, port_number, release_number};
 ghost use Rattle.canoffice_cli.specs.Numbers.{tries_given};
 
-use crate::command_line::{chart_command, export_command, send_command, serve_command};
+use crate::command_line::{
+    chart_command, compare_command, export_command, send_command, serve_command,
+};
 use clap::Command;
 use office_views::{length_of, whole_between};
 use std::alloc::{AllocError, Global};
@@ -35,6 +37,10 @@ pub(crate) enum Number {
     Length,
     /// The number of a release, or 0.
     Release,
+    /// The number of the older of two releases, or 0.
+    OlderRelease,
+    /// The number of the newer of two releases, or 0.
+    NewerRelease,
     /// The port on which a desk listens.
     Port,
     /// The port to which requests are sent.
@@ -50,7 +56,8 @@ impl Number {
     fn argument(self) -> &'static str {
         match self {
             Number::Length => "<LENGTH>",
-            Number::Release => "<N>",
+            Number::Release | Number::NewerRelease => "<N>",
+            Number::OlderRelease => "<M>",
             Number::Port | Number::SendPort => "--port <N>",
             Number::Count => "--count <N>",
             Number::Tries => "--tries <N>",
@@ -62,6 +69,9 @@ impl Number {
         match self {
             Number::Length => chart_command(alloc)?.bin_name("canoffice chart"),
             Number::Release => export_command(alloc)?.bin_name("canoffice export"),
+            Number::OlderRelease | Number::NewerRelease => {
+                compare_command(alloc)?.bin_name("canoffice compare")
+            }
             Number::SendPort | Number::Tries => send_command(alloc)?.bin_name("canoffice send"),
             Number::Port | Number::Count => serve_command(alloc)?.bin_name("canoffice serve"),
         }
@@ -71,7 +81,7 @@ impl Number {
     fn range(self) -> &'static str {
         match self {
             Number::Length => "0..=1785",
-            Number::Release => "0..=65535",
+            Number::Release | Number::OlderRelease | Number::NewerRelease => "0..=65535",
             Number::Port | Number::SendPort => "1..=65535",
             Number::Count => "1..=1000000",
             Number::Tries => "1..=1000",

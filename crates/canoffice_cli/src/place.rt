@@ -3,7 +3,7 @@ ghost use Rattle.std.specs.Prelude.{IfErr, IfOk};
 ghost use Rattle.std.specs.Option.{option_map};
 ghost use Rattle.canoffice_cli.specs.Place.{IsNoPlace, IsPlace};
 
-use crate::command_line::{requests_command, show_command};
+use crate::command_line::{compare_command, requests_command, show_command};
 use crate::numbers::{Number, port_number};
 use clap::Command;
 use std::alloc::{AllocError, Global};
@@ -20,6 +20,8 @@ pub enum Place<'a> {
 /// A subcommand that looks at an office.
 #[derive(Clone, Copy, Debug)]
 pub(crate) enum LookCommand {
+    /// `compare`, of releases.
+    Compare,
     /// `show`.
     Show,
     /// `requests`.
@@ -30,13 +32,14 @@ impl LookCommand {
     /// The subcommand, which usage calls so. The error is out of memory.
     pub(crate) fn command<'a>(self, alloc: Global) -> Result<Command<'a>, AllocError> {
         match self {
+            LookCommand::Compare => compare_command(alloc)?.bin_name("canoffice compare"),
             LookCommand::Show => show_command(alloc)?.bin_name("canoffice show"),
             LookCommand::Requests => requests_command(alloc)?.bin_name("canoffice requests"),
         }
     }
 }
 
-/// Why the values of `--db` and `--port` name no place.
+/// Why the values of `--db` and `--port` name no place, or not all is named that is looked at there.
 #[derive(Clone, Copy, Debug)]
 pub(crate) enum PlaceFault<'a> {
     /// Neither is given.
@@ -45,6 +48,8 @@ pub(crate) enum PlaceFault<'a> {
     Both,
     /// This word gives no port.
     WrongPort(&'a str),
+    /// No second release is given to compare with.
+    NoRelease,
 }
 
 impl PlaceFault<'_> {
@@ -58,6 +63,9 @@ impl PlaceFault<'_> {
                 "the argument '--db <FILE>' cannot be used with '--port <N>'"
             ),
             PlaceFault::WrongPort(word) => Number::Port.refusal(alloc, word),
+            PlaceFault::NoRelease => format!(in alloc;
+                "the following required arguments were not provided:\n  <N>"
+            ),
         }
     }
 }

@@ -1,15 +1,17 @@
 //! A run of the program, from its words to its exit status.
 ghost use Rattle.std.specs.Prelude.{IfOk, map};
 ghost use Rattle.canoffice_cli.specs.Outcome.{outcome_of};
-ghost use Rattle.canoffice_cli.specs.Performance.{IsAnswered, IsDone, IsFaultAnswer, IsPerformed};
+ghost use Rattle.canoffice_cli.specs.Performance.{IsAnswered, IsDone, IsEnteredAnswer, IsFaultAnswer, IsPerformed};
 
 use crate::charting::chart_report;
+use crate::comparing::{compare_releases_report, compare_report};
 use crate::databases::Databases;
 use crate::delivery::deliver;
 use crate::exporting::export_report;
 use crate::file_jobs::{FileJob, FileTask, file_report};
 use crate::files::{FileSource, StandardInput};
 use crate::job::{Job, JobFault, job_of};
+use crate::linting::{is_check, lint_entered};
 use crate::looking::{requests_report, show_report};
 use crate::migrating::migrate_report;
 use crate::progress::Progress;
@@ -52,7 +54,7 @@ pub fn perform<
     deliver(report, out, errors)
 }
 
-/// The report on the words: that of their job, or of their fault.
+/// The report on the words: that of their job, or of their fault. `--lint` alone is entered as `--lint=`.
 fn answer<'a, F: FileSource + StandardInput, D: Databases, K: Desks, W: Write>(
     alloc: Global,
     words: &'a [&'a str],
@@ -62,6 +64,27 @@ fn answer<'a, F: FileSource + StandardInput, D: Databases, K: Desks, W: Write>(
     progress: &mut Progress<W>,
 ) -> Result<Report, AllocError>
     ensures { IfOk result (λ report. IsAnswered (map (λ s. s.now) words.entry.now)
+        (F.held files.now)
+        (F.given files.now) (K.known desks.old) (D.known databases.old) (D.known databases.new)
+        (outcome_of report)) }
+{
+    if is_check(words) {
+        let entered = lint_entered(alloc, words)?;
+        return answer_entered(alloc, &entered, files, databases, desks, progress);
+    }
+    answer_entered(alloc, words, files, databases, desks, progress)
+}
+
+/// The report on the words that were entered.
+fn answer_entered<'a, F: FileSource + StandardInput, D: Databases, K: Desks, W: Write>(
+    alloc: Global,
+    words: &'a [&'a str],
+    files: &F,
+    databases: &mut D,
+    desks: &mut K,
+    progress: &mut Progress<W>,
+) -> Result<Report, AllocError>
+    ensures { IfOk result (λ report. IsEnteredAnswer (map (λ s. s.now) words.entry.now)
         (F.held files.now)
         (F.given files.now) (K.known desks.old) (D.known databases.old) (D.known databases.new)
         (outcome_of report)) }
@@ -109,10 +132,21 @@ pub fn report_of<F: FileSource + StandardInput, D: Databases, K: Desks, W: Write
             file_report(alloc, job, files, databases, progress)
         }
         Job::Chart { length, signals } => chart_report(alloc, *length, signals),
-        Job::Check { file, explain } => {
-            let job = FileJob::new(FileTask::Check, file, *explain);
+        Job::Check {
+            file,
+            explain,
+            lint,
+        } => {
+            let job = FileJob::new(FileTask::Check(*lint), file, *explain);
             file_report(alloc, job, files, databases, progress)
         }
+        Job::Compare { old, new } => compare_report(alloc, files, old, new),
+        Job::CompareReleases {
+            place,
+            net,
+            old,
+            new,
+        } => compare_releases_report(alloc, databases, desks, *place, net, *old, *new),
         Job::Export {
             database,
             net,

@@ -1,7 +1,7 @@
 //! The result of a run: bytes for the program's two streams, and its exit status.
 ghost use Rattle.std.specs.Prelude.{◌≡◌, [], IfOk, string_bytes};
-ghost use Rattle.canoffice_cli.specs.Outcome.{and_errors, code_of, outcome_of, success, wrong_input, unreadable};
-ghost use Rattle.canoffice_cli.specs.Outcome.{wrong_line, wrong_word};
+ghost use Rattle.canoffice_cli.specs.Outcome.{and_errors, and_remarks, code_of, outcome_of, remarked, success};
+ghost use Rattle.canoffice_cli.specs.Outcome.{unreadable, wrong_input, wrong_line, wrong_word};
 
 use dbc_advice::shown_path;
 use std::alloc::{AllocError, Global};
@@ -11,8 +11,8 @@ use std::alloc::{AllocError, Global};
 pub enum Status {
     /// All went well: 0.
     Success,
-    /// A fault was found in what was checked, formatted or charted, what was looked up isn't there, or a script stopped
-    /// at a refusal: 1.
+    /// A fault was found in what was checked, formatted or charted, or there is a remark on it, what was looked up isn't
+    /// there, or a script stopped at a refusal: 1.
     FaultFound,
     /// The command line or a script is wrong: 2.
     WrongInput,
@@ -78,6 +78,29 @@ impl Report {
         let mut report = self;
         report.errors.extend_from_slice(more)?;
         Ok(report)
+    }
+
+    /// The report with the lines of remarks after its own for standard output. Where there is one its status is
+    /// `FaultFound`. The error is out of memory.
+    pub(crate) fn and_remarks(self, lines: &[u8]) -> Result<Report, AllocError>
+        ensures { IfOk result (λ report. outcome_of report ≡ and_remarks (outcome_of self)
+            lines.now) }
+    {
+        let mut remarked_on = self;
+        remarked_on.status = remarked(remarked_on.status, lines);
+        remarked_on.output.extend_from_slice(lines)?;
+        Ok(remarked_on)
+    }
+}
+
+/// The status after these lines of remarks.
+fn remarked(status: Status, lines: &[u8]) -> Status
+    ensures { result ≡ remarked status lines.now }
+{
+    if lines.is_empty() {
+        status
+    } else {
+        Status::FaultFound
     }
 }
 

@@ -1,5 +1,4 @@
-//! The desks of this machine, by their ports: what is asked of them, and requests that are sent until there is an
-//! answer.
+//! The desks of this machine, by their ports: what they are sent, and requests that are sent until there is an answer.
 //!
 //! [`Desks`] asks a desk for a target, and sends it the bytes of a request. Those of the machine are in the program
 //! itself; [`NoDesk`] has none. [`reply_to`] sends a request as often as it takes until the office's answer comes back,

@@ -17,7 +17,7 @@ use Rattle.dbc_advice.specs.declared.reasons.Reason.{Reason}
 use Rattle.dbc_advice.proofs.ReportedLines.{is_more, lines_append, lines_map, no_more}
 
 -- no more reasons than are reported are all
-all_reasons : (bytes : ℕ) (places : List Place) (reasons : List Reason) → AreReasons bytes places reasons
+pub all_reasons : (bytes : ℕ) (places : List Place) (reasons : List Reason) → AreReasons bytes places reasons
     → length reasons ≤ reasons_reported → reasons ≡ reasons_from bytes places 0
 all_reasons bytes places reasons are few = elim are.enough [
   | inl le ↦
@@ -29,7 +29,7 @@ all_reasons bytes places reasons are few = elim are.enough [
 ]
 
 -- of the messages up to one more
-clashes_more : (ms : List Message) (i : ℕ) (m : Message) → i < length ms → m ≡ get_or ms i m
+pub clashes_more : (ms : List Message) (i : ℕ) (m : Message) → i < length ms → m ≡ get_or ms i m
     → clashes_of (take (i + 1) ms) ≡ clashes_of (take i ms) ++ message_clashes m
 clashes_more ms i m lt item =
     ap clashes_of (take_more ms i m lt ∙ ap (λ (x : Message). take i ms ++ x ∷ []) (sym item))
@@ -37,7 +37,7 @@ clashes_more ms i m lt item =
     ∙ ap (λ cs. clashes_of (take i ms) ++ cs) (append-nil (message_clashes m))
 
 -- of all messages: those before, that one, and those after it
-clashes_split : (ms : List Message) (i : ℕ) (m : Message) → i < length ms → m ≡ get_or ms i m
+pub clashes_split : (ms : List Message) (i : ℕ) (m : Message) → i < length ms → m ≡ get_or ms i m
     → clashes_of ms ≡ clashes_of (take i ms) ++ (message_clashes m ++ clashes_of (drop (i + 1) ms))
 clashes_split ms i m lt item =
     ap clashes_of (sym (take-append-drop i ms)) ∙ flat_map-append message_clashes (take i ms) (drop i ms)

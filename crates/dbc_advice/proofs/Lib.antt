@@ -2,6 +2,7 @@ pub mod ReportedMore
 pub mod ReportedLines
 pub mod ClashLines
 pub mod ClearReasons
+pub mod FirstClash
 pub mod NamesFound
 pub mod PartedMore
 pub mod PassedKinds

@@ -18,4 +18,5 @@ pub mod Names
 pub mod Citation
 pub mod LeftOut
 pub mod ShownPath
+pub mod First
 pub mod Explained

@@ -2,10 +2,12 @@
 ghost use Rattle.std.specs.Prelude.{◌≡◌, ◌≤◌, IfOk, length};
 ghost use Rattle.bitlayout.specs.Clash.{faulty_index};
 ghost use Rattle.dbc_sheet.specs.Signals.{places_of};
-ghost use Rattle.dbc_advice.specs.Clashes.{AreClashLines, AreCutLines, IsClashLine, clash_label};
+ghost use Rattle.dbc_advice.specs.Clashes.{AreClashLines, AreCutLines, IsClashLine, clash_label, clashes_of};
+ghost use Rattle.dbc_advice.specs.First.{IsFirstClash, IsStatedClash};
 ghost use Rattle.dbc_advice.specs.Reasons.{AreReasons};
 ghost use Rattle.dbc_advice.specs.ReportedLine.{AreLinesOf};
 
+use crate::first::Stated;
 use crate::notes::Source;
 use crate::offsets::{Heading, headings, message_offset, signal_offset};
 use crate::position::position_of;
@@ -119,6 +121,43 @@ fn cut_lines(
     let more = more_line(alloc, source.name, CLASHES_REPORTED, "clashes")?;
     lines.extend_from_slice(&more)?;
     Ok(lines)
+}
+
+/// What is stated of the reason why the message isn't clear.
+fn stated_reason(
+    alloc: Global,
+    text: &[u8],
+    message: &Message,
+    reason: Reason,
+) -> Result<Stated, AllocError>
+    ensures { IfOk result (IsStatedClash text.now (message.now, reason)) }
+{
+    let headings = headings(alloc, text)?;
+    let label = clash_label(alloc, reason.clash)?;
+    let sentence = reason_text(alloc, message, reason)?;
+    let at = reason_offset(text, &headings, message, reason);
+    Ok(Stated {
+        position: position_of(text, at),
+        label,
+        sentence,
+    })
+}
+
+/// Why the first message of the sheet that isn't clear isn't; `None` where all are clear. The error is out of memory.
+pub(crate) fn first_unclear(
+    alloc: Global,
+    text: &[u8],
+    sheet: &Sheet,
+) -> Result<Option<Stated>, AllocError>
+    ensures { IfOk result (IsFirstClash text.now (clashes_of sheet.now.messages)) }
+{
+    for message in sheet.messages() {
+        let reasons = message_reasons(alloc, message)?;
+        if let Some(reason) = reasons.first() {
+            return Ok(Some(stated_reason(alloc, text, message, *reason)?));
+        }
+    }
+    Ok(None)
 }
 
 /// Why messages of the sheet aren't clear: a line for each of the first [`CLASHES_REPORTED`] reasons, and a last one if

@@ -58,7 +58,7 @@ pub(crate) struct Findings {
 
 /// What a text gives next: a fault, or an end.
 #[derive(Drop)]
-enum Next {
+pub(crate) enum Next {
     /// It reads as a sheet.
     Reads(Reading),
     /// It has a fault.
@@ -148,7 +148,7 @@ fn reported_of(alloc: Global, text: &[u8], fault: ReadFault) -> Result<Reported,
 }
 
 /// What the text reads as, or its fault with what people need to know of it.
-fn reported_next(alloc: Global, text: &[u8]) -> Result<Next, AllocError>
+pub(crate) fn reported_next(alloc: Global, text: &[u8]) -> Result<Next, AllocError>
     ensures { IfOk result (IsNext text.now) }
 {
     match read(alloc, text) {

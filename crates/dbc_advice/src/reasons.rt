@@ -23,14 +23,14 @@ pub(crate) struct Reason {
 const POSITIONS_END: u32 = 65_664;
 
 /// The least position in a payload of `bytes` bytes that both signals have.
-fn first_shared(a: Layout, b: Layout, bytes: u16) -> Option<u32>
+pub fn first_shared(a: Layout, b: Layout, bytes: u16) -> Option<u32>
     ensures { result ≡ first_shared bytes a b }
 {
     (0..8 * u32::from(bytes)).find(|q| has_bit(a, *q) && has_bit(b, *q))
 }
 
 /// The least position past a payload of `bytes` bytes that the signal has.
-fn first_outside(layout: Layout, bytes: u16) -> Option<u32>
+pub fn first_outside(layout: Layout, bytes: u16) -> Option<u32>
     requires { bytes ≤ length_limit }
     ensures { result ≡ first_outside bytes layout }
 {

@@ -2,7 +2,7 @@
 ghost use Rattle.std.specs.Prelude.{◌≡◌, IfOk, IsTrue, OnErr};
 ghost use Rattle.sqlite.specs.Held.{state};
 ghost use Rattle.desk_call.specs.Call.{arrives, arrival_seen, seen, shows};
-ghost use Rattle.store.specs.Calls.{KeepsDoubt, OnHistory};
+ghost use Rattle.store.specs.Calls.{KeepsDoubt, KeepsStatistics, LeavesStatistics, OnHistory};
 ghost use Rattle.desk.specs.Responding.{MayHaveTaken, Responds, StaysOpen, body_kind_of, failed_response};
 
 use desk_call::Call;
@@ -35,6 +35,8 @@ fn show<S: Alter>(
     ensures failed { IsTrue office.old.failed
         → IfOk result (λ text. text.items ≡ failed_response (shows look)) }
     ensures open { StaysOpen S.Store office.old office.new }
+    ensures statistics { KeepsStatistics S.Store office.old.conn office.new.conn }
+    ensures statistics_left { LeavesStatistics S.Store office.old.conn office.new.conn }
     ensures ok { OnHistory S.Store office.old.conn office.new.conn
         (λ h. IfOk result (λ text. Responds h (shows look) text.items
         (state S.Store office.new.conn))) }
@@ -60,6 +62,8 @@ fn answer_arrival<S: Alter>(
     ensures failed { IsTrue office.old.failed → IfOk result
         (λ text. text.items ≡ failed_response (arrives (arrival_seen arrival.now))) }
     ensures open { StaysOpen S.Store office.old office.new }
+    ensures statistics { KeepsStatistics S.Store office.old.conn office.new.conn }
+    ensures statistics_left { LeavesStatistics S.Store office.old.conn office.new.conn }
     ensures ok { OnHistory S.Store office.old.conn office.new.conn
         (λ h. IfOk result (λ text. Responds h (arrives (arrival_seen arrival.now)) text.items
         (state S.Store office.new.conn))) }
@@ -85,6 +89,8 @@ pub(crate) fn response_to<S: Alter>(
     ensures failed { IsTrue office.old.failed
         → IfOk result (λ text. text.items ≡ failed_response (seen call)) }
     ensures open { StaysOpen S.Store office.old office.new }
+    ensures statistics { KeepsStatistics S.Store office.old.conn office.new.conn }
+    ensures statistics_left { LeavesStatistics S.Store office.old.conn office.new.conn }
     ensures ok { OnHistory S.Store office.old.conn office.new.conn
         (λ h. IfOk result (λ text. Responds h (seen call) text.items
         (state S.Store office.new.conn))) }

@@ -1,7 +1,7 @@
 //! One request and one response.
 ghost use Rattle.std.specs.Prelude.{◌≡◌, ◌⊎◌, ◌-◌, ◌<◌, ◌^◌, IsErrOf, IsTrue};
 ghost use Rattle.sqlite.specs.Held.{state};
-ghost use Rattle.store.specs.Calls.{KeepsDoubt, OnHistory};
+ghost use Rattle.store.specs.Calls.{KeepsDoubt, KeepsStatistics, LeavesStatistics, OnHistory};
 ghost use Rattle.desk.specs.Devices.{UsesDevices};
 ghost use Rattle.desk.specs.Responding.{Refuses, Serves, StaysOpen};
 
@@ -35,6 +35,8 @@ pub fn serve_one<S: Alter, R: Source, W: Sink>(
     ensures devices { UsesDevices R.Source W.Sink result source.old source.new sink.old sink.new }
     ensures clean { KeepsDoubt S.Store office.old.conn office.new.conn }
     ensures open { StaysOpen S.Store office.old office.new }
+    ensures statistics { KeepsStatistics S.Store office.old.conn office.new.conn }
+    ensures statistics_left { LeavesStatistics S.Store office.old.conn office.new.conn }
     ensures kept { IsTrue office.old.failed ⊎ IsErrOf result DeskFault.Read
         → office.new ≡ office.old }
     ensures refused { IsTrue office.old.failed

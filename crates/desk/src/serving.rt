@@ -1,7 +1,8 @@
 //! Serving connections in turn.
 ghost use Rattle.std.specs.Prelude.{◌≡◌, ◌<◌, List, [], ◌∷◌, length, IfOk, IsTrue, MatchResult, OnErr};
 ghost use Rattle.sqlite.specs.Held.{state};
-ghost use Rattle.store.specs.Calls.{KeepsDoubt, OnHistory};
+ghost use Rattle.store.specs.Calls.{KeepsDoubt, KeepsStatistics, LeavesStatistics, OnHistory};
+ghost use Rattle.store.specs.Calls.{StatisticsStayAfter};
 ghost use Rattle.desk.specs.Responding.{StaysOpen};
 ghost use Rattle.desk.specs.Serving.{GoesOn, HasServedAll, NoneWaits, SaysFailure, Visit, fault_of};
 ghost use Rattle.desk.specs.Visits.{HasNoVisit, HasVisits};
@@ -29,6 +30,8 @@ fn serve_next<S: Alter, L: Listener>(
 ) -> Result<Result<(), DeskFault>, Failed>
     ensures clean { KeepsDoubt S.Store office.old.conn office.new.conn }
     ensures open { StaysOpen S.Store office.old office.new }
+    ensures statistics { KeepsStatistics S.Store office.old.conn office.new.conn }
+    ensures statistics_left { LeavesStatistics S.Store office.old.conn office.new.conn }
     ensures refused { IsTrue office.old.failed → office.new ≡ office.old }
     ensures served { IfOk result (λ ended. (v : Visit) × (v.fault ≡ fault_of ended)
         × HasVisits L.Listener listener.old listener.new office.old.failed office.new.failed
@@ -79,6 +82,7 @@ pub fn serve<S: Alter, L: Listener, E: Write>(
         × NoneWaits (L.coming listener.new))
         × OnHistory S.Store office.old.conn office.new.conn
         (λ h. HasServedAll h visits office.new.failed (state S.Store office.new.conn)) }
+    ensures statistics { StatisticsStayAfter S.Store office.old.conn office.new.conn }
 {
     office.leaves_now();
     for _served in 0..count {

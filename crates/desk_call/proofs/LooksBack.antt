@@ -13,9 +13,9 @@ use Rattle.office_types.specs.declared.look.NetLook.TheVariants as of_net
 use Rattle.office_rules.specs.Reviewing.{release_limit}
 use Rattle.desk_head.specs.Asked.{IsLook, IsNetLook, net_showing, net_target, part_of, showing_of, target_of, word_of}
 use Rattle.desk_head.specs.Demand.{demand_of}
-use Rattle.desk_head.specs.Target.{second_parameter}
+use Rattle.desk_head.specs.Target.{second_parameter, third_parameter}
 use Rattle.desk_head.proofs.Leading.{targets_lead_there}
-use Rattle.desk_head.proofs.Parameters.{first_alone, first_before, second_alone, second_before}
+use Rattle.desk_head.proofs.Parameters.{first_alone, first_before, second_alone, second_before, third_alone}
 use Rattle.desk_head.proofs.TargetParts.{IsPart, decimal_part, is_part_byte, name_part, plain_part, word_part}
 use Rattle.desk_call.specs.Asked.{CanBeAsked, CanBeAskedOfNet, LooksComeBack}
 use Rattle.desk_call.specs.Call.{call_of, look_of, net_in, release_number, shows}
@@ -48,6 +48,12 @@ between_words : (net word part rest : List ℕ) → IsPlainName net → IsPart w
 between_words net word part rest is word_is part_is =
     second_before (codes "nets") net word part rest nets (plain_part net is) word_is part_is
 
+-- the third parameter, after a word and the second one
+after_both : (net word part last : List ℕ) → IsPlainName net → IsPart word → IsPart part → IsPart last
+    → third_parameter (net_target net (47 ∷ (word ++ (47 ∷ (part ++ (47 ∷ last)))))) ≡ last
+after_both net word part last is word_is part_is last_is =
+    third_alone (codes "nets") net word part last nets (plain_part net is) word_is part_is last_is
+
 teams : IsPart (codes "teams")
 teams = a_word (codes "teams") (omega arith) (omega arith) refl
 
@@ -62,6 +68,9 @@ who = a_word (codes "who") (omega arith) (omega arith) refl
 
 releases : IsPart (codes "releases")
 releases = a_word (codes "releases") (omega arith) (omega arith) refl
+
+compare : IsPart (codes "compare")
+compare = a_word (codes "compare") (omega arith) (omega arith) refl
 
 requests : IsPart (codes "requests")
 requests = a_word (codes "requests") (omega arith) (omega arith) refl
@@ -115,6 +124,16 @@ net_back net is (of_net.Who wanted) h can =
       after_word net (codes "who") (word_of wanted) is who (word_part wanted h),
       word_back wanted h can,
       net_before net (codes "who/" ++ word_of wanted) is,
+    )
+    refl
+net_back net is (of_net.Compare old new) h can =
+    rw (
+      between_words net (codes "compare") (decimal old) (decimal new) is compare (decimal_part old h.0),
+      whole_decimal old h.0,
+      after_both net (codes "compare") (decimal old) (decimal new) is compare (decimal_part old h.0)
+          (decimal_part new h.1),
+      whole_decimal new h.1,
+      net_before net (codes "compare/" ++ (decimal old ++ (codes "/" ++ decimal new))) is,
     )
     refl
 

@@ -83,6 +83,13 @@ of_a_team : look_of showing.Requests (codes "/requests/engine")
     ∷ Some (look.Net (codes "truck") (of_net.Messages (Some (codes "engine")))) ∷ []
 of_a_team = refl
 
+compared : map (look_of showing.Compare) (codes "/nets/truck/compare/1/2" ∷ codes "/nets/truck/compare/0/65536"
+    ∷ codes "/nets/truck/compare/01/2" ∷ codes "/nets/truck/compare/1/+2" ∷ codes "/nets/truck/compare/live/2"
+    ∷ codes "/nets/truck/compare/1/4294967296" ∷ codes "/nets/Truck/compare/1/2" ∷ [])
+    ≡ Some (look.Net (codes "truck") (of_net.Compare 1 2)) ∷ Some (look.Net (codes "truck") (of_net.Compare 0 65536))
+    ∷ Some (look.Net (codes "truck") (of_net.Compare 1 2)) ∷ None ∷ None ∷ None ∷ None ∷ []
+compared = refl
+
 releases : map (look_of showing.Release) (codes "/nets/truck/releases/1" ∷ codes "/nets/truck/releases/0065535"
     ∷ codes "/nets/truck/releases/65536" ∷ codes "/nets/truck/releases/0" ∷ codes "/nets/truck/releases/+1"
     ∷ codes "/nets/truck/releases/1.0" ∷ [])

@@ -15,7 +15,7 @@ use Rattle.desk_types.specs.declared.problem.Problem.{Problem}
 use Rattle.desk_types.specs.declared.problem.Problem.TheVariants.{BadRequest, NotFound}
 use Rattle.desk_head.specs.Demand.{demand_of}
 use Rattle.desk_head.specs.Fields.{Headers, named}
-use Rattle.desk_head.specs.Target.{first_parameter, second_parameter}
+use Rattle.desk_head.specs.Target.{first_parameter, second_parameter, third_parameter}
 use Rattle.desk_head.specs.declared.demand.Demand.{Demand}
 use Rattle.desk_head.specs.declared.demand.Demand.TheVariants as demand
 use Rattle.desk_head.specs.declared.endpoint.Posting.{Posting}
@@ -85,6 +85,11 @@ node_in target = name_of (second_parameter target) >>= λ node. net_look_in targ
 abbrev pub who_in : List ℕ → Option Look
 who_in target = sought_of (second_parameter target) >>= λ sought. net_look_in target (of_net.Who sought)
 
+-- two releases by their numbers, or 0 for the live sheet
+abbrev pub compare_in : List ℕ → Option Look
+compare_in target = whole_of (second_parameter target) >>= λ old. whole_of (third_parameter target)
+    >>= λ new. net_look_in target (of_net.Compare old new)
+
 abbrev pub team_blocks_in : List ℕ → Option Look
 team_blocks_in target = team_in target >>= λ team. net_look_in target (of_net.Blocks (Some team))
 
@@ -111,6 +116,7 @@ look_of showing.Spns target = net_look_in target of_net.Spns
 look_of showing.Message target = message_in target
 look_of showing.Node target = node_in target
 look_of showing.Who target = who_in target
+look_of showing.Compare target = compare_in target
 look_of showing.TeamBlocks target = team_blocks_in target
 look_of showing.TeamMessages target = team_messages_in target
 look_of showing.Requests target = requests_in target

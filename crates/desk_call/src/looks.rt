@@ -1,10 +1,10 @@
 //! What targets show.
 ghost use Rattle.office_fields.specs.Reading.{ReadsField};
-ghost use Rattle.desk_call.specs.Call.{chart_in, look_of, message_in, net_look_in, node_in, release_in};
+ghost use Rattle.desk_call.specs.Call.{chart_in, compare_in, look_of, message_in, net_look_in, node_in, release_in};
 ghost use Rattle.desk_call.specs.Call.{requests_in, team_blocks_in, team_in, team_messages_in, who_in};
 
-use crate::values::{name_of, net_in, release_number, sought_of};
-use desk_head::{Showing, first_parameter, second_parameter};
+use crate::values::{name_of, net_in, number_of, release_number, sought_of};
+use desk_head::{Showing, first_parameter, second_parameter, third_parameter};
 use office_fields::{Unread, team_of};
 use office_types::{Look, NetLook, Team};
 use std::alloc::Global;
@@ -60,6 +60,14 @@ fn who_in(alloc: Global, target: &[u8]) -> Result<Look, Unread>
     net_look(alloc, target, NetLook::Who(sought))
 }
 
+fn compare_in(alloc: Global, target: &[u8]) -> Result<Look, Unread>
+    ensures { ReadsField (compare_in target.now) result }
+{
+    let old = number_of(second_parameter(target))?;
+    let new = number_of(third_parameter(target))?;
+    net_look(alloc, target, NetLook::Compare(old, new))
+}
+
 fn team_blocks_in(alloc: Global, target: &[u8]) -> Result<Look, Unread>
     ensures { ReadsField (team_blocks_in target.now) result }
 {
@@ -100,6 +108,7 @@ pub(crate) fn look_of(alloc: Global, showing: Showing, target: &[u8]) -> Result<
         Showing::Message => message_in(alloc, target),
         Showing::Node => node_in(alloc, target),
         Showing::Who => who_in(alloc, target),
+        Showing::Compare => compare_in(alloc, target),
         Showing::TeamBlocks => team_blocks_in(alloc, target),
         Showing::TeamMessages => team_messages_in(alloc, target),
         Showing::Requests => requests_in(alloc, target),

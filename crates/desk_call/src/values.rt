@@ -1,4 +1,5 @@
 //! Names, keys and numbers in a head.
+ghost use Rattle.base.specs.WholeNumber.{whole_of};
 ghost use Rattle.office_fields.specs.Reading.{ReadsField};
 ghost use Rattle.office_fields.specs.Value.{name_of, plain_name_of};
 ghost use Rattle.office_types.specs.Sought.{sought_of};
@@ -44,6 +45,13 @@ pub(crate) fn key_of(alloc: Global, bytes: &[u8]) -> Result<Key, Unread>
     ensures { ReadsField (key_of bytes.now) result }
 {
     Key::of(alloc, bytes)?.ok_or(Unread::Wrong)
+}
+
+/// A whole number of 32 bits.
+pub(crate) fn number_of(bytes: &[u8]) -> Result<u32, Unread>
+    ensures { ReadsField (whole_of bytes.now) result }
+{
+    whole_number(bytes).ok_or(Unread::Wrong)
 }
 
 /// The number of a release.

@@ -1,10 +1,11 @@
 -- The target of a look can be asked for.
-use Rattle.std.proofs.Common.{◌≡◌, ◌≤◌, ◌+◌, ℕ, true, List, ◌∷◌, ◌++◌, length, None, Some, IsTrue, codes}
+use Rattle.std.proofs.Common.{◌≡◌, ◌≤◌, ◌<◌, ◌^◌, ◌+◌, ℕ, true, List, ◌∷◌, ◌++◌, length, None, Some, IsTrue, codes}
 use Rattle.std.proofs.Common.{refl, arith, length-append}
 use Rattle.std.specs.Char.{is_ascii_graphic}
 use Rattle.std.specs.Fmt.{decimal}
 use Rattle.std.specs.List.{list_all}
 use Rattle.std.proofs.lemmas.Bool.Decides.{nat_tests}
+use Rattle.std.proofs.lemmas.Fmt.{length-decimal-le}
 use Rattle.std.proofs.lemmas.List.Folds.{list_all-append}
 use Rattle.office_types.specs.PlainName.{IsPlainName}
 use Rattle.office_types.specs.declared.look.Look.{Look}
@@ -55,6 +56,13 @@ between word part rest word_fits is rest_fits =
     joined 200 20 148 word (part ++ rest) word_fits
     (joined 148 128 20 part rest (of_part part is) rest_fits (omega arith)) (omega arith)
 
+-- a number after a slash
+slash_number : (n : ℕ) → n < 2 ^ 32 → Fits 20 (codes "/" ++ decimal n)
+slash_number n h = record {
+  few = omega (arith, length-decimal-le 10 n (omega arith) (omega (arith, h)));
+  visible = (of_part (decimal n) (decimal_part n h)).visible;
+}
+
 teams : Fits 20 (codes "/teams/")
 teams = a_word (codes "/teams/") (omega arith) refl
 
@@ -82,6 +90,9 @@ part_fits (of_net.Node name) h =
 part_fits of_net.Spns h = alone (codes "/spns") (omega arith) refl
 part_fits (of_net.Who wanted) h =
     after (codes "/who/") (word_of wanted) (a_word (codes "/who/") (omega arith) refl) (word_part wanted h)
+part_fits (of_net.Compare old new) h =
+    between (codes "/compare/") (decimal old) (codes "/" ++ decimal new) (a_word (codes "/compare/") (omega arith) refl)
+    (decimal_part old h.0) (slash_number new h.1)
 
 -- ---- targets
 

@@ -65,6 +65,7 @@ fn part_of(alloc: Global, look: &NetLook) -> Result<Vec<u8>, AllocError>
         NetLook::Node(name) => joined(alloc, b"/nodes/", name.as_bytes()),
         NetLook::Spns => Vec::from_slice(alloc, b"/spns"),
         NetLook::Who(wanted) => joined(alloc, b"/who/", &word_of(alloc, wanted)?),
+        NetLook::Compare(old, new) => Ok(format!(in alloc; "/compare/{old}/{new}")?.into_bytes()),
     }
 }
 
@@ -133,6 +134,10 @@ fn is_net_look(look: &NetLook)
             name.as_bytes();
         }
         NetLook::Who(wanted) => is_sought(wanted),
+        NetLook::Compare(old, new) => {
+            is_small(*old);
+            is_small(*new);
+        }
         NetLook::State | NetLook::Held | NetLook::Releases | NetLook::Nodes | NetLook::Spns => {}
     }
 }

@@ -149,6 +149,23 @@ more_of_it s net word part more is part_is branch some h =
     (goes_on s after part more part_is branch some
     (at_bytes value_of (route.Shows s) (47 ∷ more) (after_slash after) h)))
 
+-- the rows after a word, a part and a slash
+abbrev after_part : List ℕ → Rows
+after_part word = steps (codes "/") (after_slash (after_word word))
+
+-- two parts with a slash between them
+two_things : (s : Showing) (net word part other : List ℕ) → IsPlainName net → IsPart part → IsPart other
+    → Branch (after_word (47 ∷ word)) → some_slash (step param_token (after_word (47 ∷ word))) ≡ true
+    → Branch (after_part (47 ∷ word)) → EndsAs s (step param_token (after_part (47 ∷ word)))
+    → endpoint_of (net_target net ((47 ∷ word) ++ (part ++ (codes "/" ++ other)))) ≡ Some (Shows s)
+two_things s net word part other is part_is other_is branch some later h =
+    let after = after_word (47 ∷ word) in
+    of_a_net s net (word ++ (part ++ (47 ∷ other))) is
+    (past_bytes value_of (route.Shows s) (47 ∷ word) (part ++ (47 ∷ other)) (after_slash nets)
+    (goes_on s after part other part_is branch some
+    (past_bytes value_of (route.Shows s) (codes "/") other (after_slash after)
+    (ends_there s (after_part (47 ∷ word)) other other_is later h))))
+
 releases_branch : Branch (after_word (codes "/releases/"))
 unfolding the_routes with_route matchit_on_literals
 releases_branch = record { begin = refl; ends = refl }
@@ -169,6 +186,14 @@ teams_branch : Branch (after_word (codes "/teams/"))
 unfolding the_routes with_route matchit_on_literals
 teams_branch = record { begin = refl; ends = refl }
 
+compare_branch : Branch (after_word (codes "/compare/"))
+unfolding the_routes with_route matchit_on_literals
+compare_branch = record { begin = refl; ends = refl }
+
+compare_later : Branch (after_part (codes "/compare/"))
+unfolding the_routes with_route matchit_on_literals
+compare_later = record { begin = refl; ends = refl }
+
 releases_end : EndsAs shown.Release (step param_token (after_word (codes "/releases/")))
 unfolding the_routes with_route matchit_on_literals
 releases_end = refl
@@ -185,6 +210,10 @@ who_end : EndsAs shown.Who (step param_token (after_word (codes "/who/")))
 unfolding the_routes with_route matchit_on_literals
 who_end = refl
 
+compare_end : EndsAs shown.Compare (step param_token (after_part (codes "/compare/")))
+unfolding the_routes with_route matchit_on_literals
+compare_end = refl
+
 messages_go_on : some_slash (step param_token (after_word (codes "/messages/"))) ≡ true
 unfolding the_routes with_route matchit_on_literals
 messages_go_on = refl
@@ -192,6 +221,10 @@ messages_go_on = refl
 teams_go_on : some_slash (step param_token (after_word (codes "/teams/"))) ≡ true
 unfolding the_routes with_route matchit_on_literals
 teams_go_on = refl
+
+compare_go_on : some_slash (step param_token (after_word (codes "/compare/"))) ≡ true
+unfolding the_routes with_route matchit_on_literals
+compare_go_on = refl
 
 signals_end : EndsAs shown.Message (steps (codes "/signals") (after_slash (after_word (codes "/messages/"))))
 unfolding the_routes with_route matchit_on_literals
@@ -263,6 +296,9 @@ in_a_net net is (of_net.Node name) h =
 in_a_net net is of_net.Spns h = ends_net shown.Spns net (codes "spns") is spns_ends
 in_a_net net is (of_net.Who wanted) h =
     a_thing shown.Who net (codes "who/") (word_of wanted) is (word_part wanted h) who_branch who_end
+in_a_net net is (of_net.Compare old new) h =
+    two_things shown.Compare net (codes "compare/") (decimal old) (decimal new) is (decimal_part old h.0)
+    (decimal_part new h.1) compare_branch compare_go_on compare_later compare_end
 
 pub targets_lead_there : TargetsLeadThere
 targets_lead_there look.Nets is =

@@ -6,7 +6,7 @@ use Rattle.std.proofs.Math.Seq.{drop-append-add, take-append_seam}
 use Rattle.std.proofs.lemmas.Bool.{and_parts}
 use Rattle.std.proofs.lemmas.Bool.Decides.{nat_tests}
 use Rattle.base.specs.Split.{split_once}
-use Rattle.desk_head.specs.Target.{first_parameter, front_part, later_parts, second_parameter}
+use Rattle.desk_head.specs.Target.{first_parameter, front_part, later_parts, second_parameter, third_parameter}
 use Rattle.desk_head.proofs.TargetParts.{IsPart, all_weaker, is_part_byte}
 
 -- no byte is the separator
@@ -98,3 +98,15 @@ second_alone word first other part word_is first_is other_is is =
       later_than other part other_is,
     )
     (front_alone part is)
+
+pub third_alone : (word first other part last : List ℕ) → IsPart word → IsPart first → IsPart other → IsPart part
+    → IsPart last
+    → third_parameter (47 ∷ (word ++ (47 ∷ (first ++ (47 ∷ (other ++ (47 ∷ (part ++ (47 ∷ last))))))))) ≡ last
+third_alone word first other part last word_is first_is other_is part_is is =
+    rw (
+      later_than word (first ++ (47 ∷ (other ++ (47 ∷ (part ++ (47 ∷ last)))))) word_is,
+      later_than first (other ++ (47 ∷ (part ++ (47 ∷ last)))) first_is,
+      later_than other (part ++ (47 ∷ last)) other_is,
+      later_than part last part_is,
+    )
+    (front_alone last is)

@@ -1,5 +1,5 @@
 -- Worked examples, computed from the definitions.
-use Rattle.std.proofs.Common.{◌≡◌, ℕ, List, [], ◌∷◌, ◌++◌, map, Some, None, Ok, Err, codes, refl}
+use Rattle.std.proofs.Common.{◌≡◌, ℕ, List, [], ◌∷◌, ◌++◌, map, Some, None, Ok, Err, codes, refl, arith}
 use Rattle.httparse.specs.Grammar.{RequestHead, Field, crlf, lf, print_request, trim_ows}
 use Rattle.std.specs.Fmt.{digits}
 use Rattle.matchit.proofs.OnLiterals.{matchit_on_literals}
@@ -12,7 +12,8 @@ use Rattle.desk_types.specs.declared.problem.Problem.TheVariants.{BadRequest, No
 use Rattle.desk_head.specs.Asked.{target_of}
 use Rattle.desk_head.specs.Demand.{demand_of}
 use Rattle.desk_head.specs.Fields.{Headers, body_length, named}
-use Rattle.desk_head.specs.Target.{endpoint_of, first_parameter, second_parameter, the_routes, with_route}
+use Rattle.desk_head.specs.Target.{endpoint_of, first_parameter, second_parameter, the_routes, third_parameter}
+use Rattle.desk_head.specs.Target.{with_route}
 use Rattle.desk_head.specs.declared.demand.Demand.TheVariants as demand
 use Rattle.desk_head.specs.declared.endpoint.Endpoint.TheVariants.{Shows, Does}
 use Rattle.desk_head.specs.declared.endpoint.Posting.TheVariants.{Act, Import}
@@ -91,14 +92,20 @@ messages_of_a_team : endpoint_of (codes "/nets/truck/teams/engine/messages") ≡
 messages_of_a_team =
     targets_lead_there (look.Net (codes "truck") (of_net.Messages (Some (codes "engine")))) (refl, refl)
 
+compared : endpoint_of (codes "/nets/truck/compare/1/0") ≡ Some (Shows showing.Compare)
+unfolding digits
+compared = targets_lead_there (look.Net (codes "truck") (of_net.Compare 1 0)) (refl, (omega arith, omega arith))
+
 -- no parameter has a slash
 longer : map endpoint_of (codes "/import/a/b" ∷ codes "/nets/a/b" ∷ []) ≡ None ∷ None ∷ []
 unfolding endpoint_of the_routes with_route matchit_on_literals
 longer = refl
 
 parameters : first_parameter (codes "/do/take_ident") ∷ first_parameter (codes "/nets/truck/releases/1")
-    ∷ second_parameter (codes "/nets/truck/releases/1") ∷ first_parameter (codes "/nets") ∷ []
-    ≡ codes "take_ident" ∷ codes "truck" ∷ codes "1" ∷ [] ∷ []
+    ∷ second_parameter (codes "/nets/truck/releases/1") ∷ first_parameter (codes "/nets")
+    ∷ second_parameter (codes "/nets/truck/compare/1/20") ∷ third_parameter (codes "/nets/truck/compare/1/20")
+    ∷ third_parameter (codes "/nets/truck/releases/1") ∷ []
+    ≡ codes "take_ident" ∷ codes "truck" ∷ codes "1" ∷ [] ∷ codes "1" ∷ codes "20" ∷ [] ∷ []
 parameters = refl
 
 -- ---- the targets of looks
@@ -107,10 +114,12 @@ targets : map target_of (look.Nets ∷ look.Release (codes "truck") 12 ∷ look.
     ∷ look.Net (codes "truck") (of_net.Blocks (Some (codes "engine")))
     ∷ look.Net (codes "truck") (of_net.Message (codes "E1"))
     ∷ look.Net (codes "truck") (of_net.Who (sought.Hexadecimal 419364864))
-    ∷ look.Net (codes "truck") (of_net.Who (sought.Group 65300)) ∷ look.Requests (codes "engine") ∷ [])
+    ∷ look.Net (codes "truck") (of_net.Who (sought.Group 65300))
+    ∷ look.Net (codes "truck") (of_net.Compare 12 0) ∷ look.Requests (codes "engine") ∷ [])
     ≡ codes "/nets" ∷ codes "/nets/truck/releases/12" ∷ codes "/nets/truck/state"
     ∷ codes "/nets/truck/teams/engine/blocks" ∷ codes "/nets/truck/messages/E1/signals"
-    ∷ codes "/nets/truck/who/0x18ff0000" ∷ codes "/nets/truck/who/pgn=65300" ∷ codes "/requests/engine" ∷ []
+    ∷ codes "/nets/truck/who/0x18ff0000" ∷ codes "/nets/truck/who/pgn=65300"
+    ∷ codes "/nets/truck/compare/12/0" ∷ codes "/requests/engine" ∷ []
 unfolding digits
 targets = refl
 

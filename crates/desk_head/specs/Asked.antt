@@ -41,6 +41,7 @@ part_of of_net.Nodes = codes "/nodes"
 part_of (of_net.Node name) = codes "/nodes/" ++ name
 part_of of_net.Spns = codes "/spns"
 part_of (of_net.Who wanted) = codes "/who/" ++ word_of wanted
+part_of (of_net.Compare old new) = codes "/compare/" ++ (decimal old ++ (codes "/" ++ decimal new))
 
 -- the target of a network, with what follows its name
 abbrev pub net_target : List ℕ → List ℕ → List ℕ
@@ -71,6 +72,7 @@ net_showing of_net.Nodes = shown.Nodes
 net_showing (of_net.Node name) = shown.Node
 net_showing of_net.Spns = shown.Spns
 net_showing (of_net.Who wanted) = shown.Who
+net_showing (of_net.Compare old new) = shown.Compare
 
 -- what a target shows that names this look
 abbrev pub showing_of : Look → Showing
@@ -102,6 +104,7 @@ IsNetLook of_net.Nodes = ⊤
 IsNetLook (of_net.Node name) = IsName name
 IsNetLook of_net.Spns = ⊤
 IsNetLook (of_net.Who wanted) = IsSought wanted
+IsNetLook (of_net.Compare old new) = (old < 2 ^ 32) × (new < 2 ^ 32)
 
 abbrev pub IsLook : Look → Type 0
 IsLook look.Nets = ⊤

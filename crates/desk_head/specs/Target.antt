@@ -35,12 +35,15 @@ front_part target = front_by (split_once 47 target) target
 abbrev pub later_parts : List ℕ → List ℕ
 later_parts target = rest_by (split_once 47 target)
 
--- the first parameter comes after two slashes, the second one after four
+-- the first parameter comes after two slashes, the second one after four, the third one after five
 abbrev pub first_parameter : List ℕ → List ℕ
 first_parameter target = front_part (later_parts (later_parts target))
 
 abbrev pub second_parameter : List ℕ → List ℕ
 second_parameter target = first_parameter (later_parts (later_parts target))
+
+abbrev pub third_parameter : List ℕ → List ℕ
+third_parameter target = second_parameter (later_parts target)
 
 -- ---- routes
 
@@ -72,14 +75,15 @@ with_parts rows =
     (with_route (codes "/nets/{net}/blocks") (route.Shows shown.Blocks)
     (with_route (codes "/nets/{net}/state") (route.Shows shown.State) rows))))))
 
--- one thing of a network, or those of a team
+-- one thing of a network, two of its sheets, or the things of a team
 abbrev pub with_things : RowsOf (RouteOf Route) → RowsOf (RouteOf Route)
 with_things rows =
     with_route (codes "/nets/{net}/teams/{team}/messages") (route.Shows shown.TeamMessages)
     (with_route (codes "/nets/{net}/teams/{team}/blocks") (route.Shows shown.TeamBlocks)
+    (with_route (codes "/nets/{net}/compare/{m}/{n}") (route.Shows shown.Compare)
     (with_route (codes "/nets/{net}/who/{word}") (route.Shows shown.Who)
     (with_route (codes "/nets/{net}/nodes/{node}") (route.Shows shown.Node)
-    (with_route (codes "/nets/{net}/messages/{message}/signals") (route.Shows shown.Message) rows))))
+    (with_route (codes "/nets/{net}/messages/{message}/signals") (route.Shows shown.Message) rows)))))
 
 -- all routes; a parameter is one or more bytes other than a slash
 unfoldable pub the_routes : RowsOf (RouteOf Route)

@@ -38,6 +38,8 @@ pub enum Showing {
     TeamBlocks,
     /// `/nets/{net}/teams/{team}/messages`: the live messages of a team.
     TeamMessages,
+    /// `/nets/{net}/compare/{m}/{n}`: what changed from one release to another, or to the live sheet.
+    Compare,
     /// `/requests/{team}`: the requests of a team.
     Requests,
 }

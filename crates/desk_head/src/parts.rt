@@ -1,6 +1,6 @@
 //! The parts of a target.
 ghost use Rattle.std.specs.Prelude.{◌≡◌};
-ghost use Rattle.desk_head.specs.Target.{first_parameter, front_part, later_parts, second_parameter};
+ghost use Rattle.desk_head.specs.Target.{first_parameter, front_part, later_parts, second_parameter, third_parameter};
 
 use base::split_once;
 
@@ -35,4 +35,11 @@ pub fn second_parameter(target: &[u8]) -> &[u8]
     ensures { result.now ≡ second_parameter target.now }
 {
     first_parameter(later_parts(later_parts(target)))
+}
+
+/// The third parameter of a target, which is after its fifth slash: `2` of `/nets/truck/compare/1/2`.
+pub fn third_parameter(target: &[u8]) -> &[u8]
+    ensures { result.now ≡ third_parameter target.now }
+{
+    second_parameter(later_parts(target))
 }

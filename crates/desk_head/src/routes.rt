@@ -71,7 +71,7 @@ fn add_parts(router: &mut Router<Route>) -> Result<(), InsertError>
     Ok(())
 }
 
-/// Adds the routes of one thing of a network, or of a team's.
+/// Adds the routes of one thing of a network, of two of its sheets, or of a team's.
 fn add_things(router: &mut Router<Route>) -> Result<(), InsertError>
     ensures { OnOk result (router.new ≡ with_things router.old) }
 {
@@ -82,6 +82,7 @@ fn add_things(router: &mut Router<Route>) -> Result<(), InsertError>
     )?;
     show(router, "/nets/{net}/nodes/{node}", Showing::Node)?;
     show(router, "/nets/{net}/who/{word}", Showing::Who)?;
+    show(router, "/nets/{net}/compare/{m}/{n}", Showing::Compare)?;
     show(
         router,
         "/nets/{net}/teams/{team}/blocks",

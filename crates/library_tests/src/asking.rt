@@ -213,6 +213,18 @@ fn words_have_targets(rt: HostRuntime) {
     }
 }
 
+/// The target of what changed from release 12 to the live sheet.
+fn target_of_comparison(alloc: Global) -> Option<Vec<u8>> {
+    let net = NetName::of(alloc, b"truck").ok()??;
+    target_of(alloc, &Look::Net(net, NetLook::Compare(12, 0))).ok()
+}
+
+#[test]
+fn comparisons_have_targets(rt: HostRuntime) {
+    let made = target_of_comparison(rt.alloc());
+    assert!(rt; made.is_some_and(|made| made.as_slice() == b"/nets/truck/compare/12/0".as_slice()));
+}
+
 /// The target of the blocks of a team.
 fn target_of_blocks(alloc: Global) -> Option<Vec<u8>> {
     let net = NetName::of(alloc, b"truck").ok()??;

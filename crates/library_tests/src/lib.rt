@@ -10,6 +10,8 @@ mod asking;
 #[cfg(test)]
 mod changes;
 #[cfg(test)]
+mod comparisons;
+#[cfg(test)]
 mod copies;
 #[cfg(test)]
 mod decimals;
@@ -31,5 +33,7 @@ mod masks;
 mod numbers;
 #[cfg(test)]
 mod read_faults;
+#[cfg(test)]
+mod remarks;
 #[cfg(test)]
 mod sending;

@@ -55,6 +55,13 @@ impl PlainOffice {
         self.nets.as_slice()
     }
 
+    /// The suspect parameter numbers of the whole office.
+    pub fn book(&self) -> &SpnBook
+        ensures { result.now ≡ self.now.book }
+    {
+        &self.book
+    }
+
     /// One step of the office: the team's command is carried out, or it is refused and nothing changes. If memory
     /// runs out, nothing changes.
     pub fn step(

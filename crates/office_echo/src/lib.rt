@@ -5,7 +5,7 @@
 //!   names (a team, a node, a message, a signal, and else the network) and the answer. A bundle that was carried out has
 //!   a line for each part.
 //! - [`add_longest_echoes`] appends lines that are at least as long, whatever is answered. Who takes room for them
-//!   before the first arrival loses no answer for want of memory after it.
+//!   before the first arrival loses no answer after it because memory runs out.
 //!
 //! `specs/Lines.antt` defines the lines.
 #![tactic(auto)]

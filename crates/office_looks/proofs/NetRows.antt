@@ -1,4 +1,4 @@
--- The state, the messages, the held identifiers and the releases of a small network.
+-- The state, the messages, the held identifiers and the releases of a small network, and what changed in it.
 use Rattle.std.proofs.Common.{◌≡◌, List, [], ◌∷◌, ◌++◌, None, Some, codes, refl}
 use Rattle.std.specs.Fmt.{digits}
 use Rattle.can_id.specs.declared.ident.Ident.TheVariants.{Std, Ext}
@@ -8,7 +8,9 @@ use Rattle.dbc_sheet.specs.declared.sheet.Sheet.{Sheet}
 use Rattle.office_types.specs.declared.block.BlockForm.TheVariants.{Pgn}
 use Rattle.office_types.specs.declared.command.NetKind.TheVariants.{J1939}
 use Rattle.office_types.specs.declared.state.Phase.TheVariants.{Review}
+use Rattle.dbc_compare.specs.Differences.{differences_about, field_changes, pair_differences, thing_differences}
 use Rattle.office_seen.specs.declared.view.View.{View}
+use Rattle.office_looks.specs.Compared.{compared_text}
 use Rattle.office_looks.specs.Held.{held_line, held_text}
 use Rattle.office_looks.specs.Messages.{messages_text}
 use Rattle.office_looks.specs.Releases.{releases_text}
@@ -140,3 +142,23 @@ releases = refl
 no_releases : releases_text new_truck ≡ codes "releases 0\n"
 unfolding digits
 no_releases = refl
+
+between_releases : compared_text 1 2 truck
+    ≡ Some (codes "! message 2633962507 ext 1cff140b  65300 BrakePads removed\n"
+    ++ codes "differences 1 breaking 1 added 0 removed 1 changed 0\n")
+unfolding digits differences_about field_changes pair_differences thing_differences
+between_releases = refl
+
+-- 0 is the live sheet
+since_a_release : compared_text 2 0 truck
+    ≡ Some (codes ". message 2566851584 ext 18ff0c00  65292 ECM_New1 added\n"
+    ++ codes "differences 1 breaking 0 added 1 removed 0 changed 0\n")
+unfolding digits differences_about field_changes pair_differences thing_differences
+since_a_release = refl
+
+nothing_changed : compared_text 0 0 truck ≡ Some (codes "differences 0 breaking 0 added 0 removed 0 changed 0\n")
+unfolding digits differences_about field_changes pair_differences thing_differences
+nothing_changed = refl
+
+no_such_release : compared_text 1 3 truck ≡ None
+no_such_release = refl

@@ -57,3 +57,4 @@ unread look.Nodes net book e = refl
 unread (look.Node name) net book e = refl
 unread look.Spns net book e = absurd (false≢true (sym e))
 unread (look.Who sought) net book e = absurd (false≢true (sym e))
+unread (look.Compare old new) net book e = absurd (false≢true (sym e))

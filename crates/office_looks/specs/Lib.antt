@@ -6,4 +6,5 @@ pub mod Releases
 pub mod Tally
 pub mod Nodes
 pub mod Who
+pub mod Compared
 pub mod Looks

@@ -8,6 +8,7 @@ use Rattle.office_seen.specs.View.{view_of}
 use Rattle.office_seen.specs.declared.view.View.{View}
 use Rattle.office_blocks.specs.Blocks.{blocks_text}
 use Rattle.office_spns.specs.Spns.{spns_text}
+use Rattle.office_looks.specs.Compared.{compared_text}
 use Rattle.office_looks.specs.Held.{held_text}
 use Rattle.office_looks.specs.Message.{message_text}
 use Rattle.office_looks.specs.Messages.{messages_text}
@@ -16,7 +17,7 @@ use Rattle.office_looks.specs.Releases.{releases_text}
 use Rattle.office_looks.specs.State.{state_text}
 use Rattle.office_looks.specs.Who.{who_text}
 
--- nothing exactly where there is no such message, node, or name or number
+-- nothing exactly where there is no such message, node, release, or name or number
 abbrev pub text_of : NetLook → View → Option (List ℕ)
 text_of look.State view = Some (state_text view)
 text_of (look.Blocks team) view = Some (blocks_text team view)
@@ -28,6 +29,7 @@ text_of look.Nodes view = Some (nodes_text view)
 text_of (look.Node name) view = node_text name view
 text_of look.Spns view = Some (spns_text view)
 text_of (look.Who sought) view = who_text sought view
+text_of (look.Compare old new) view = compared_text old new view
 
 -- of the network, where it is there
 abbrev pub net_text : Option Net → SpnBook → NetLook → Option (List ℕ)

@@ -1,16 +1,17 @@
 //! What people look up of a network, as lines: its state, blocks, messages, held identifiers, releases, nodes, suspect
-//! parameter numbers, and who has a name or a number.
+//! parameter numbers, who has a name or a number, and what changed from one release to another.
 //!
 //! [`text_of`] gives the text of a [`NetLook`](office_types::NetLook) of a [`View`](office_seen::View), `None` where
-//! the network has no such message or node, or nobody has the name or number; [`reads_releases`] says whether it
+//! the network has no such message, node or release, or nobody has the name or number; [`reads_releases`] says whether it
 //! depends on the releases. Each kind of look is a module, and a file of definitions in `specs/`, or a crate of its own
-//! (`office_blocks`, `office_spns`); `Looks.antt` joins them. All lines of a look have the same columns, with one space
+//! (`office_blocks`, `office_spns`, `dbc_compare`); `Looks.antt` joins them. All lines of a look have the same columns, with one space
 //! between; nothing is cut; and what people wrote is in words without spaces (`columns`), or last. A line of the
 //! messages is that of the table of a sheet with columns put in ([`messages_are_the_table`]).
 //!
 //! Nothing here decides anything: no crate that does uses it.
 #![tactic(auto)]
 
+mod compared;
 mod held;
 mod laws;
 mod looks;

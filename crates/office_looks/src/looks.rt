@@ -2,6 +2,7 @@
 ghost use Rattle.std.specs.Prelude.{◌≡◌, IfOk, option_map};
 ghost use Rattle.office_looks.specs.Looks.{reads_releases, text_of};
 
+use crate::compared::compared_text;
 use crate::held::held_text;
 use crate::message_whole::message_text;
 use crate::messages::messages_text;
@@ -25,8 +26,8 @@ pub fn reads_releases(look: &NetLook) -> bool
     }
 }
 
-/// The text of the look, as lines that end with LF; `None` exactly where there is no such message or node, or where
-/// nobody has the name or number. The error is out of memory.
+/// The text of the look, as lines that end with LF; `None` exactly where there is no such message, node or release, or
+/// where nobody has the name or number. The error is out of memory.
 pub fn text_of(alloc: Global, view: &View, look: &NetLook) -> Result<Option<Vec<u8>>, AllocError>
     ensures { IfOk result (λ text. option_map (λ t. t.items) text ≡ text_of look.now view.now) }
 {
@@ -41,5 +42,6 @@ pub fn text_of(alloc: Global, view: &View, look: &NetLook) -> Result<Option<Vec<
         NetLook::Node(name) => node_text(alloc, view, name),
         NetLook::Spns => Ok(Some(spns_text(alloc, view)?)),
         NetLook::Who(sought) => who_text(alloc, view, sought),
+        NetLook::Compare(old, new) => compared_text(alloc, view, *old, *new),
     }
 }

@@ -44,6 +44,8 @@ pub enum NetLook {
     Spns,
     /// Who has this name or number.
     Who(Sought),
+    /// What changed from one release to the other, by their numbers; 0 is the live sheet.
+    Compare(u32, u32),
 }
 
 impl Drop for Look {
@@ -73,6 +75,7 @@ impl Drop for NetLook {
             NetLook::Node(_name) => {}
             NetLook::Spns => {}
             NetLook::Who(_sought) => {}
+            NetLook::Compare(_old, _new) => {}
         }
     }
 }

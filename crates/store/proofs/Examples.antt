@@ -1,15 +1,16 @@
 -- Worked examples, computed from the definitions.
-use Rattle.std.proofs.Common.{◌≡◌, ℕ, true, false, [], ◌∷◌, Err, Ok, ap, arith, inl, inr, length, refl}
+use Rattle.std.proofs.Common.{◌≡◌, ◌∙◌, ℕ, true, false, [], ◌∷◌, Err, Ok, ap, arith, inl, inr, length, refl}
 use Rattle.std.proofs.lemmas.List.Sorted.{IsPermutation-refl}
 use Rattle.std.specs.Fmt.{digits}
 use Rattle.std.specs.List.Sorted.{IsStrictlySortedBy}
 use Rattle.std.specs.Prelude.{List, None, Result, Some, codes}
 use Rattle.std.proofs.lemmas.Bool.{false≢true}
+use Rattle.sqlite.specs.Effect.{Database}
 use Rattle.sqlite.specs.Schema.{Schema}
 use Rattle.sqlite_schema.specs.declared.schema.View.{View}
 use Rattle.sqlite.specs.declared.error.Error.TheVariants.{InvalidQuery, SqliteFailure}
 use Rattle.sqlite.specs.declared.error.ErrorCode.TheVariants.{DiskFull, OutOfMemory}
-use Rattle.store_tables.specs.Schema.{no_schema, office_schema, schema_13, schema_9}
+use Rattle.store_tables.specs.Schema.{analyzed_schema, no_schema, office_schema, schema_13, schema_9}
 use Rattle.office_rules.specs.Step.{opening}
 use Rattle.office_types.specs.declared.look.Look.TheVariants as look
 use Rattle.office_types.specs.declared.look.NetLook.{NetLook}
@@ -20,7 +21,7 @@ use Rattle.store.specs.declared.lost.Lost.{Lost}
 use Rattle.store.specs.declared.lost.Lost.TheVariants.{Memory, Store}
 use Rattle.store.specs.Looking.{IsShown}
 use Rattle.store.specs.Lost.{lost_by, lost_number}
-use Rattle.store.specs.Opening.{MayMigrateFrom, MayOpen}
+use Rattle.store.specs.Opening.{HasSameStatistics, MayMigrateFrom, MayOpen}
 use Rattle.office_history.specs.Answering.{reported}
 use Rattle.store.specs.Running.{FailsBy, answered_of, lost_of}
 
@@ -64,26 +65,45 @@ none_is_taken = (inl refl, inl refl)
 those_without_parts_are_opened : MayOpen schema_13
 those_without_parts_are_opened = inr (inl refl)
 
+-- so are all tables after somebody ran ANALYZE on them
+those_with_statistics_are_opened : MayOpen analyzed_schema
+those_with_statistics_are_opened = inr (inr (inr refl))
+
 -- those of the first offices are for `migrate` alone
 nine_are_migrated : MayMigrateFrom schema_9
 nine_are_migrated = inr (inl refl)
 
 nine_are_not_opened : MayOpen schema_9 → ⊥
-unfolding schema_9 schema_13 office_schema
+unfolding schema_9 schema_13 office_schema analyzed_schema
 nine_are_not_opened (inl same) =
     let counts : ◌≡◌ {A = ℕ} 9 0 = ap (λ (s : Schema). length s.tables) same in omega (arith, counts)
 nine_are_not_opened (inr (inl same)) =
     let counts : ◌≡◌ {A = ℕ} 9 13 = ap (λ (s : Schema). length s.tables) same in omega (arith, counts)
-nine_are_not_opened (inr (inr same)) =
+nine_are_not_opened (inr (inr (inl same))) =
     let counts : ◌≡◌ {A = ℕ} 9 14 = ap (λ (s : Schema). length s.tables) same in omega (arith, counts)
+nine_are_not_opened (inr (inr (inr same))) =
+    let counts : ◌≡◌ {A = ℕ} 9 15 = ap (λ (s : Schema). length s.tables) same in omega (arith, counts)
 
 -- the office's tables with a view beside them aren't taken
 one_view_more : (view : View) → MayMigrateFrom (record office_schema { views = view ∷ [] }) → ⊥
-unfolding schema_9 schema_13 office_schema
+unfolding schema_9 schema_13 office_schema analyzed_schema
 one_view_more view (inl same) = let views = ap (λ (s : Schema). s.views) same in cc
 one_view_more view (inr (inl same)) = let views = ap (λ (s : Schema). s.views) same in cc
 one_view_more view (inr (inr (inl same))) = let views = ap (λ (s : Schema). s.views) same in cc
-one_view_more view (inr (inr (inr same))) = let views = ap (λ (s : Schema). s.views) same in cc
+one_view_more view (inr (inr (inr (inl same)))) = let views = ap (λ (s : Schema). s.views) same in cc
+one_view_more view (inr (inr (inr (inr same)))) = let views = ap (λ (s : Schema). s.views) same in cc
+
+-- ---- statistics
+
+-- an office that had no statistics has none
+none_came : (before after : Database) → before.schema ≡ office_schema → HasSameStatistics before after
+    → after.schema ≡ office_schema
+none_came before after none same = same.same_schema ∙ none
+
+-- and those that there were are there
+none_went : (before after : Database) → before.schema ≡ analyzed_schema → HasSameStatistics before after
+    → after.schema ≡ analyzed_schema
+none_went before after some same = same.same_schema ∙ some
 
 -- ---- what is shown where nothing has come
 

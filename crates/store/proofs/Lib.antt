@@ -1,6 +1,7 @@
 pub mod OpenedTables
 pub mod TablesInForm
 pub mod Same
+pub mod Statistics
 pub mod OneArrival
 pub mod AfterCrash
 pub mod ListOfArrivals

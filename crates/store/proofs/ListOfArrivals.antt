@@ -8,7 +8,7 @@ use Rattle.std.proofs.lemmas.List.Elements.{All-contains, All-push, Contains-app
 use Rattle.std.proofs.lemmas.List.Folds.{find-append}
 use Rattle.sqlite.specs.Effect.{Database}
 use Rattle.sqlite.specs.Held.{state}
-use Rattle.sqlite.specs.State.{State}
+use Rattle.sqlite.specs.State.{HasCleanDisk, State}
 use Rattle.sqlite.specs.Tree.{Trees}
 use Rattle.sqlite_trees.specs.declared.store.Store.{Ghosts}
 use Rattle.office_history.specs.declared.arrival.Answer.{Answer}
@@ -18,11 +18,13 @@ use Rattle.office_history.specs.Laws.{IsInRange}
 use Rattle.office_law.proofs.Lists.{All-from_contains}
 use Rattle.store.specs.declared.lost.Lost.{Lost}
 use Rattle.store.specs.declared.lost.Lost.TheVariants.{Memory, NewerProfile, OlderProfile, Store}
+use Rattle.store.specs.Calls.{LeavesStatistics}
 use Rattle.store.specs.Lost.{IsOfCall}
 use Rattle.store_tables.specs.Tables.{AreOffice}
 use Rattle.store.specs.Holding.{Holding, Keeps, Leaves}
 use Rattle.store.specs.Office.{OfficeView}
-use Rattle.store.specs.Opening.{HasTables}
+use Rattle.store.specs.Opening.{HasSameStatistics, HasTables, StatisticsStay}
+use Rattle.store.proofs.Statistics.{same_after, same_if_now, stay_then}
 use Rattle.store.specs.Headline.{HasRunOnTables}
 use Rattle.office_history.specs.Answering.{reported}
 use Rattle.store.specs.Running.{FailsBy, IsNoProfile, KeepsWithOne, answered_of, is_failure, lost_of}
@@ -213,6 +215,35 @@ module _ {S : Type 0} (g : Ghosts S) (h : List Answered) (xs : List Arrival) (rs
         lost_next e (λ fine. is_open (by_memory new.failed e failed named fine))
         (λ now. lost (h ++ answered_of xs rs) held now) (left (h ++ answered_of xs rs) held)
   ]
+
+-- ---- statistics
+
+-- those of the first state are those of the last, in what it shows while it is open and in whatever more a crash
+-- leaves of it
+abbrev pub KeepThose : State → State → Type 0
+KeepThose first last = (IsTrue last.is_open → HasSameStatistics first.now last.now)
+    × Leaves (λ db. first.may_leave db ⊎ StatisticsStay first.now db) last
+
+pub keep_at_first : (s : State) → KeepThose s s
+keep_at_first s = ((λ is_open. same_if_now s.now s.now refl), (λ db may. inl may))
+
+pub keep_more : {S : Type 0} (g : Ghosts S) (first : State) (old new : OfficeView S) → (IsTrue old.failed → new ≡ old)
+    → (old.failed ≡ false → HasTables (state g old.conn)) → KeepThose first (state g old.conn)
+    → (HasTables (state g old.conn) → IsTrue (state g new.conn).is_open
+    → HasSameStatistics (state g old.conn).now (state g new.conn).now) → HasCleanDisk (state g new.conn)
+    → LeavesStatistics g old.conn new.conn → KeepThose first (state g new.conn)
+keep_more {S} g first old new refused has before shown clean leaves = elim (cases_Bool old.failed) [
+  | inl over ↦ subst (λ (o : OfficeView S). KeepThose first (state g o.conn)) (sym (refused over)) before
+  | inr working ↦
+      let tables = has working in
+      let same = before.0 tables.is_open in (
+        (λ now. same_after first.now (state g old.conn).now (state g new.conn).now same (shown tables now)),
+        (λ db left. elim (leaves.crash clean db left) [
+          | inl was ↦ before.1 db was
+          | inr stay ↦ inr (stay_then first.now (state g old.conn).now db same (stay tables))
+        ]),
+      )
+]
 
 -- ---- where nothing new was answered
 

@@ -1,9 +1,10 @@
 -- What an office that was opened, or migrated to, is besides what its contract states.
-use Rattle.std.proofs.Common.{inl}
+use Rattle.std.proofs.Common.{◌≡◌, ◌⊎◌, inl, inr}
 use Rattle.std.specs.Prelude.{List}
 use Rattle.sqlite.specs.Held.{Held, state}
 use Rattle.sqlite.specs.State.{HasCleanDisk}
 use Rattle.sqlite_trees.specs.declared.store.Store.{Ghosts}
+use Rattle.store_tables.specs.Statements.{statistics_of}
 use Rattle.store_tables.specs.Tables.{tables_of}
 use Rattle.office_history.specs.History.{Answered}
 use Rattle.store_migrate.specs.declared.forms.SchemaForm.TheVariants.{Bodies}
@@ -11,10 +12,11 @@ use Rattle.store_migrate.specs.declared.profile_rows.ProfileRows.TheVariants.{Ne
 use Rattle.store.specs.Holding.{Holding}
 use Rattle.store.specs.Making.{SaysMarks}
 use Rattle.store.specs.Office.{OfficeView}
-use Rattle.store.specs.Opening.{HasOffice, HoldingOlder}
+use Rattle.store.specs.Opening.{HasNone, HasOffice, HoldingInSomeForm, HoldingOlder}
 use Rattle.store.specs.OpensAs.{IsMigrated, IsOpened, OnTablesOf}
 use Rattle.store.proofs.TablesInForm.{in_form, known_or_newer, office_in_form, older_in_form, older_not_second}
 use Rattle.store.proofs.TablesInForm.{older_or_second}
+use Rattle.store.proofs.Statistics.{rows_new}
 
 module _ {S : Type 0} (g : Ghosts S) (old : Held S) (office : OfficeView S) (opened : IsOpened g old office) where
   -- a history that was held is held
@@ -28,7 +30,22 @@ module _ {S : Type 0} (g : Ghosts S) (old : Held S) (office : OfficeView S) (ope
       older_not_second holding.keeps.0 h (state g old).now.trees holding.keeps.1
       (opened.second clean (office_in_form h (state g old) (older_in_form h (state g old) holding)))
 
+  -- the statistics have the rows that they had, or there are none still
+  pub opened_statistics : HasCleanDisk (state g office.conn) → (h : List Answered)
+      → HoldingInSomeForm h (state g old) ⊎ HasNone (state g old)
+      → statistics_of (state g office.conn).now ≡ statistics_of (state g old).now
+  opened_statistics clean h (inl holding) = (opened.statistics clean h holding).1
+  opened_statistics clean h (inr none) =
+      rows_new (state g old).now (state g office.conn).now none.schema (opened.new clean none).0
+
 module _ {S : Type 0} (g : Ghosts S) (old : Held S) (office : OfficeView S) (migrated : IsMigrated g old office) where
+  pub migrated_statistics : HasCleanDisk (state g office.conn) → (h : List Answered)
+      → HoldingInSomeForm h (state g old) ⊎ HasNone (state g old)
+      → statistics_of (state g office.conn).now ≡ statistics_of (state g old).now
+  migrated_statistics clean h (inl holding) = (migrated.statistics clean h holding).1
+  migrated_statistics clean h (inr none) =
+      rows_new (state g old).now (state g office.conn).now none.schema (migrated.new clean none).0
+
   -- tables of a newer profile aren't migrated from
   pub migrated_not_newer : HasCleanDisk (state g office.conn) → HasOffice (state g old) → SaysMarks g old Newer → ⊥
   migrated_not_newer clean has newer =

@@ -6,7 +6,8 @@ use Rattle.std.proofs.lemmas.List.Sorted.{IsPermutation-refl}
 use Rattle.sqlite.specs.Effect.{Database}
 use Rattle.sqlite.specs.Schema.{Schema}
 use Rattle.sqlite.specs.State.{State}
-use Rattle.store_tables.specs.Schema.{IsOfficeSchema, no_schema, office_schema, schema_13, schema_9}
+use Rattle.store_tables.specs.Schema.{IsCurrentSchema, IsOfficeSchema, analyzed_schema, no_schema, office_schema}
+use Rattle.store_tables.specs.Schema.{schema_13, schema_9}
 use Rattle.office_rules.specs.Step.{opening}
 use Rattle.office_history.specs.Laws.{IsInRange}
 use Rattle.office_history.proofs.Histories.{histories_grow}
@@ -28,14 +29,22 @@ pub apart_13 : no_schema ≡ schema_13 → ⊥
 unfolding schema_13
 apart_13 same = let tables = ap (λ (s : Schema). s.tables) same in cc
 
-pub apart : no_schema ≡ office_schema → ⊥
+apart_14 : no_schema ≡ office_schema → ⊥
 unfolding office_schema
-apart same = let tables = ap (λ (s : Schema). s.tables) same in cc
+apart_14 same = let tables = ap (λ (s : Schema). s.tables) same in cc
+
+apart_15 : no_schema ≡ analyzed_schema → ⊥
+unfolding office_schema analyzed_schema
+apart_15 same = let tables = ap (λ (s : Schema). s.tables) same in cc
+
+pub apart : (s : Schema) → s ≡ no_schema → IsCurrentSchema s → ⊥
+apart s none (inl all) = apart_14 (sym none ∙ all)
+apart s none (inr analyzed) = apart_15 (sym none ∙ analyzed)
 
 pub none_of_office : (s : Schema) → s ≡ no_schema → IsOfficeSchema s → ⊥
 none_of_office s no_table office = elim office [
   | inl nine ↦ apart_9 (sym no_table ∙ nine)
-  | inr rest ↦ elim rest [ inl thirteen ↦ apart_13 (sym no_table ∙ thirteen) | inr all ↦ apart (sym no_table ∙ all) ]
+  | inr rest ↦ elim rest [ inl thirteen ↦ apart_13 (sym no_table ∙ thirteen) | inr all ↦ apart s no_table all ]
 ]
 
 nine_or_13 : schema_9 ≡ schema_13 → ⊥
@@ -48,10 +57,16 @@ unfolding schema_9 office_schema
 nine_or_all same =
     let counts : ◌≡◌ {A = ℕ} 9 14 = ap (λ (s : Schema). length s.tables) same in omega (arith, counts)
 
+pub nine_or_15 : schema_9 ≡ analyzed_schema → ⊥
+unfolding schema_9 office_schema analyzed_schema
+nine_or_15 same =
+    let counts : ◌≡◌ {A = ℕ} 9 15 = ap (λ (s : Schema). length s.tables) same in omega (arith, counts)
+
 -- tables with live messages as bodies are never completed, and never opened
-pub never_completed_9 : (s : Schema) → s ≡ schema_9 → (s ≡ schema_13) ⊎ (s ≡ office_schema) → ⊥
+pub never_completed_9 : (s : Schema) → s ≡ schema_9 → (s ≡ schema_13) ⊎ IsCurrentSchema s → ⊥
 never_completed_9 s nine (inl thirteen) = nine_or_13 (sym nine ∙ thirteen)
-never_completed_9 s nine (inr all) = nine_or_all (sym nine ∙ all)
+never_completed_9 s nine (inr (inl all)) = nine_or_all (sym nine ∙ all)
+never_completed_9 s nine (inr (inr analyzed)) = nine_or_15 (sym nine ∙ analyzed)
 
 pub never_opened_9 : (s : Schema) → s ≡ schema_9 → MayOpen s → ⊥
 never_opened_9 s nine (inl no_table) = apart_9 (sym no_table ∙ nine)

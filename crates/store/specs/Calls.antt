@@ -13,7 +13,7 @@ use Rattle.store.specs.declared.lost.Lost.TheVariants.{Memory, Store}
 use Rattle.store.specs.Holding.{Holding, Keeps, Leaves}
 use Rattle.store.specs.Lost.{IsOfCall}
 use Rattle.store.specs.Office.{OfficeView}
-use Rattle.store.specs.Opening.{HasTables}
+use Rattle.store.specs.Opening.{HasSameStatistics, HasTables, StatisticsStay}
 use Rattle.store.specs.Running.{answered_of}
 
 -- no transaction is open
@@ -81,6 +81,17 @@ SameOnErr g old new result = OnTables g old new (IsTrue (state g new).is_open �
 abbrev pub LeavesHistory : {S : Type 0} → Ghosts S → Held S → Held S → Type 0
 LeavesHistory g old new = OnHistory g old new (λ h. Leaves (Keeps h) (state g new))
 
+-- whether it succeeds or is lost, the tables of an office are the same while the connection is open: no statistics come
+-- or go, and their rows stay
+abbrev pub KeepsStatistics : {S : Type 0} → Ghosts S → Held S → Held S → Type 0
+KeepsStatistics g old new =
+    OnTables g old new (IsTrue (state g new).is_open → HasSameStatistics (state g old).now (state g new).now)
+
+-- and so they are in whatever more a crash leaves
+abbrev pub LeavesStatistics : {S : Type 0} → Ghosts S → Held S → Held S → Type 0
+LeavesStatistics g old new = Survives (state g old) (state g new)
+    (λ db. HasTables (state g old) → StatisticsStay (state g old).now db)
+
 -- ---- of an arrival; `with_answer` makes of an answer the arrival that was so answered
 
 -- if it is answered, the history and then this arrival are held, and left by a crash
@@ -112,6 +123,12 @@ abbrev pub SameIfAllRepeat : {S : Type 0}
     → Ghosts S → Held S → Held S → List Arrival → List (Result Answer Lost) → Type 0
 SameIfAllRepeat g old new arrivals results = OnHistory g old new (λ h. IsTrue (state g new).is_open
     → All (λ a. IsSome (first_of h a)) (answered_of arrivals results) → ShowsSame g old new)
+
+-- the statistics are those from before, on the connection while it is open and in whatever more a crash leaves
+abbrev pub StatisticsStayAfter : {S : Type 0} → Ghosts S → Held S → Held S → Type 0
+StatisticsStayAfter g old new = OnHistory g old new
+    (λ h. (IsTrue (state g new).is_open → HasSameStatistics (state g old).now (state g new).now)
+    × Leaves (λ db. (state g old).may_leave db ⊎ StatisticsStay (state g old).now db) (state g new))
 
 -- ---- of each call on an office, whatever it asks
 

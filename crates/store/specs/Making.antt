@@ -6,7 +6,8 @@ use Rattle.sqlite.specs.Held.{Held, state}
 use Rattle.sqlite.specs.Schema.{Schema}
 use Rattle.sqlite.specs.State.{HasCleanDisk, IsUnchanged, Survives}
 use Rattle.sqlite_trees.specs.declared.store.Store.{Ghosts}
-use Rattle.store_tables.specs.Schema.{IsOfficeSchema, no_schema, office_schema, schema_13}
+use Rattle.store_tables.specs.Schema.{IsCurrentSchema, IsOfficeSchema, analyzed_schema, no_schema, office_schema}
+use Rattle.store_tables.specs.Schema.{schema_13}
 use Rattle.store_tables.specs.Statements.{IsOfficeWith}
 use Rattle.store_tables.specs.Tables.{tables_of}
 use Rattle.store_migrate.specs.FormSchema.{schema_of}
@@ -27,6 +28,10 @@ use Rattle.store.specs.Opening.{MayMigrateFrom, MayOpen}
 abbrev pub HasSchema : {S : Type 0} → Ghosts S → Held S → Schema → Type 0
 HasSchema g conn schema = (state g conn).now.schema ≡ schema
 
+-- the connection has all tables of an office, with statistics after them or not
+abbrev pub HasAllTables : {S : Type 0} → Ghosts S → Held S → Type 0
+HasAllTables g conn = IsCurrentSchema (state g conn).now.schema
+
 -- the rows of its profile say this
 abbrev pub SaysMarks : {S : Type 0} → Ghosts S → Held S → ProfileRows → Type 0
 SaysMarks g conn marks = HasProfileRows (tables_of (state g conn).now.trees) marks
@@ -36,6 +41,10 @@ SaysMarks g conn marks = HasProfileRows (tables_of (state g conn).now.trees) mar
 -- this was the schema
 abbrev pub OnSchema : {S : Type 0} → Ghosts S → Held S → Held S → Schema → Type 0 → Type 0
 OnSchema g old new schema Promise = HasCleanDisk (state g new) → HasSchema g old schema → Promise
+
+-- all tables of an office were there
+abbrev pub OnAllTables : {S : Type 0} → Ghosts S → Held S → Held S → Type 0 → Type 0
+OnAllTables g old new Promise = HasCleanDisk (state g new) → HasAllTables g old → Promise
 
 -- the schema was that of an office of some time
 abbrev pub OnOfficeSchema : {S : Type 0} → Ghosts S → Held S → Held S → Type 0 → Type 0
@@ -89,11 +98,13 @@ MakesParts g old new result = OnNoParts g old new (CommitsOnOk g new result (IsG
 -- what completes an office's tables
 pub record Completes {S X : Type 0} (g : Ghosts S) (old new : Held S) (result : Result X Lost) : Type 0 where
   -- it is done only on the tables of an office, of which that of parts alone may be missing
-  pub taken : OnOk result (HasSchema g old schema_13 ⊎ HasSchema g old office_schema)
-  -- then all tables are there
-  pub tables : HasCleanDisk (state g new) → OnOk result (HasSchema g new office_schema)
+  pub taken : OnOk result (HasSchema g old schema_13 ⊎ HasAllTables g old)
+  -- then all tables are there, and no statistics where there were none
+  pub tables : HasCleanDisk (state g new) → OnOk result (HasAllTables g new)
+  pub none_come : HasCleanDisk (state g new) → ¬ HasSchema g old analyzed_schema
+      → OnOk result (HasSchema g new office_schema)
   -- where all were there, nothing changes
-  pub same : HasSchema g old office_schema → OnOk result (new ≡ old)
+  pub same : HasAllTables g old → OnOk result (new ≡ old)
   -- where that of parts was missing, it is made
   pub grown : MakesParts g old new result
   -- it isn't lost by the profile
@@ -105,15 +116,17 @@ pub record Completes {S X : Type 0} (g : Ghosts S) (old new : Held S) (result : 
 
 -- if it is done
 pub record ReadiesOnOk {S X : Type 0} (g : Ghosts S) (old new : Held S) (result : Result X Lost) : Type 0 where
-  -- only tables that may be opened are taken, and then all are there
+  -- only tables that may be opened are taken, and then all are there, and no statistics where there were none
   pub taken : HasCleanDisk (state g new) → OnOk result (MayOpen (state g old).now.schema)
-  pub tables : HasCleanDisk (state g new) → OnOk result (HasSchema g new office_schema)
+  pub tables : HasCleanDisk (state g new) → OnOk result (HasAllTables g new)
+  pub none_come : HasCleanDisk (state g new) → ¬ HasSchema g old analyzed_schema
+      → OnOk result (HasSchema g new office_schema)
   -- of whatever office they were, the profile was the second
   pub second : OnOfficeSchema g old new (OnOk result (SaysMarks g old Second))
   -- no table: new ones are made
   pub made : MakesNew g old new result
   -- all tables of an office: nothing changes
-  pub same : OnSchema g old new office_schema (OnOk result (IsUnchanged (state g old) (state g new)))
+  pub same : OnAllTables g old new (OnOk result (IsUnchanged (state g old) (state g new)))
   -- that of parts was missing: it is made
   pub grown : MakesParts g old new result
 
@@ -140,7 +153,7 @@ pub record MakesCurrentOnOk {S X : Type 0} (g : Ghosts S) (old new : Held S) (re
   -- no table: new ones are made
   pub made : MakesNew g old new result
   -- all tables of an office, of the second profile: nothing changes
-  pub same : OnSchema g old new office_schema
+  pub same : OnAllTables g old new
       (SaysMarks g old Second → OnOk result (IsUnchanged (state g old) (state g new)))
   -- of the second profile, and that of parts was missing: it is made
   pub grown : OnNoParts g old new

@@ -6,16 +6,17 @@ use Rattle.sqlite.specs.State.{State}
 use Rattle.sqlite.specs.Tree.{Trees}
 use Rattle.sqlite_catalog.specs.Listing.{IsSound}
 use Rattle.office_rules.specs.Profile.{One, Profile, Two}
-use Rattle.store_tables.specs.Schema.{IsOfficeSchema, no_schema, office_schema, schema_13, schema_9}
-use Rattle.store_tables.specs.Statements.{IsOfficeWith, tables_in}
+use Rattle.store_tables.specs.Schema.{IsCurrentSchema, IsOfficeSchema, analyzed_schema, no_schema, office_schema}
+use Rattle.store_tables.specs.Schema.{schema_13, schema_9}
+use Rattle.store_tables.specs.Statements.{IsOfficeWith, statistics_in, statistics_of, tables_in}
 use Rattle.store_tables.specs.Tables.{AreNumbered, AreOffice, IsOffice, Tables, no_rows, tables_of}
 use Rattle.office_history.specs.History.{Answered}
-use Rattle.store_migrate.specs.FormSchema.{schema_of}
+use Rattle.store_migrate.specs.FormSchema.{current_schema_of, schema_of}
 use Rattle.store_migrate.specs.Forms.{HoldsAsRows, row_marks}
 use Rattle.store_migrate.specs.InForm.{KeepsAs}
 use Rattle.store_migrate.specs.ProfileRows.{HasProfileRows}
 use Rattle.store_migrate.specs.declared.forms.SchemaForm.{SchemaForm}
-use Rattle.store_migrate.specs.declared.forms.SchemaForm.TheVariants.{All, Bodies, Foreign, Rows}
+use Rattle.store_migrate.specs.declared.forms.SchemaForm.TheVariants.{All, Analyzed, Bodies, Foreign, Rows}
 use Rattle.store_migrate.specs.declared.profile_rows.ProfileRows.TheVariants as marks
 
 -- the connection has no table
@@ -46,7 +47,7 @@ pub record HasOffice (s : State) : Type 0 where
 
 -- by an open: no table, or those of an office of now, of which that of bundles' parts alone may be missing
 abbrev pub MayOpen : Schema → Type 0
-MayOpen schema = (schema ≡ no_schema) ⊎ (schema ≡ schema_13) ⊎ (schema ≡ office_schema)
+MayOpen schema = (schema ≡ no_schema) ⊎ (schema ≡ schema_13) ⊎ IsCurrentSchema schema
 
 -- by `migrate`: no table, or those of an office of some time
 abbrev pub MayMigrateFrom : Schema → Type 0
@@ -61,7 +62,22 @@ abbrev pub HasProfileRowsOf : SchemaForm → Tables → Type 0
 HasProfileRowsOf Bodies t = HasProfileRows t marks.Bodies
 HasProfileRowsOf Rows t = HasProfileRows t marks.First ⊎ HasProfileRows t marks.Second
 HasProfileRowsOf All t = HasProfileRows t marks.First ⊎ HasProfileRows t marks.Second
+HasProfileRowsOf Analyzed t = HasProfileRows t marks.First ⊎ HasProfileRows t marks.Second
 HasProfileRowsOf Foreign t = ⊥
+
+-- ---- statistics
+
+-- where a database had no statistics, the trees are those of an office's tables alone; where it had some, they are
+-- there after the office's tables, with the same rows
+pub record StatisticsStay (before : Database) (after : Trees) : Type 0 where
+  pub none_come : before.schema ≢ analyzed_schema → IsSound office_schema after
+  pub they_stay : before.schema ≡ analyzed_schema
+      → IsSound analyzed_schema after × (statistics_in analyzed_schema after ≡ statistics_of before)
+
+-- the same tables, and the statistics among them have the same rows
+pub record HasSameStatistics (before after : Database) : Type 0 where
+  pub same_schema : after.schema ≡ before.schema
+  pub statistics : statistics_of after ≡ statistics_of before
 
 -- ---- what becomes of it
 
@@ -79,22 +95,26 @@ new_tables = record no_rows { profile = row_marks Two }
 
 pub record IsNew (db : Database) : Type 0 where
   pub office : IsOffice db
+  pub schema_is : db.schema ≡ office_schema
   pub tables_are : tables_of db.trees ≡ new_tables
 
 -- all tables of an office, with the rows of an office that had none for the parts of bundles
 pub record IsGrown (before : Trees) (db : Database) : Type 0 where
   pub office : IsOffice db
+  pub schema_is : db.schema ≡ office_schema
   pub tables_are : tables_of db.trees ≡ tables_in schema_13 before
 
--- all tables of an office, which hold each history that older ones held
+-- all tables of an office, with the statistics that there were, which hold each history that older ones held
 pub record IsCarried (form : SchemaForm) (before : Trees) (db : Database) : Type 0 where
   pub office : IsOffice db
+  pub schema_is : db.schema ≡ current_schema_of form
+  pub statistics : statistics_of db ≡ statistics_in (schema_of form) before
   pub holds : (h : List Answered) → KeepsAs One form h before → HoldsAsRows Two h (tables_of db.trees)
 
 -- What a crash may leave beside the tables from before: those with the table of parts, where that alone was missing.
 pub record MayGrow (before : Database) (after : Trees) : Type 0 where
   pub not_first : before.schema ≢ schema_9
-  pub not_all : before.schema ≢ office_schema
+  pub not_all : ¬ IsCurrentSchema before.schema
   pub grown : IsOfficeWith schema_13 before → AreTreesOf (IsGrown before.trees) after
 
 -- The same of carrying over: those that hold each history that older ones held.

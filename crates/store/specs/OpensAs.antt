@@ -4,7 +4,8 @@ use Rattle.sqlite.specs.Held.{Held, state}
 use Rattle.sqlite.specs.State.{HasCleanDisk, IsUnchanged, Survives}
 use Rattle.sqlite.specs.Tree.{Trees}
 use Rattle.sqlite_trees.specs.declared.store.Store.{Ghosts}
-use Rattle.store_tables.specs.Schema.{office_schema}
+use Rattle.store_tables.specs.Schema.{analyzed_schema, office_schema}
+use Rattle.store_tables.specs.Statements.{statistics_of}
 use Rattle.store_tables.specs.Tables.{tables_of}
 use Rattle.office_history.specs.History.{Answered}
 use Rattle.store_migrate.specs.declared.forms.SchemaForm.{SchemaForm}
@@ -15,11 +16,11 @@ use Rattle.store.specs.declared.lost.Lost.TheVariants.{NewerProfile, OlderProfil
 use Rattle.store.specs.Calls.{HoldsThroughCrash, IsSettled, LeavesHistory, OnTables}
 use Rattle.store.specs.Holding.{Holding, Keeps, Leaves}
 use Rattle.store.specs.Lost.{IsOfCall}
-use Rattle.store.specs.Making.{HasSchema, SaysMarks}
+use Rattle.store.specs.Making.{HasAllTables, HasSchema, SaysMarks}
 use Rattle.store.specs.Office.{OfficeView}
-use Rattle.store.specs.Opening.{HasCommitted, HasForm, HasProfileRowsOf, HasNone, HasOffice, HasOlderProfileRows}
-use Rattle.store.specs.Opening.{HasTables}
-use Rattle.store.specs.Opening.{HoldingInSomeForm, IsGrown, MayComplete, MayMigrateFrom, MayOpen}
+use Rattle.store.specs.Opening.{AreTreesOf, HasCommitted, HasForm, HasProfileRowsOf, HasNone, HasOffice}
+use Rattle.store.specs.Opening.{HasOlderProfileRows, HasTables}
+use Rattle.store.specs.Opening.{HoldingInSomeForm, IsGrown, IsNew, MayComplete, MayMigrateFrom, MayOpen, StatisticsStay}
 
 -- the connection afterwards: the office's, or the one that is given back
 abbrev pub conn_of : {S : Type 0} → Result (OfficeView S) (Lost × Held S) → Held S
@@ -55,9 +56,16 @@ HasGrown g old new = HasCommitted (IsGrown (state g old).now.trees) (state g new
 abbrev pub LeavesCommittedOr : {S : Type 0} → Ghosts S → Held S → Held S → (Trees → Type 0) → Type 0
 LeavesCommittedOr g old new AreSo = Leaves (λ db. (db ≡ (state g old).committed.trees) ⊎ AreSo db) (state g new)
 
--- a history in tables of some profile and form: a crash leaves what was committed, or tables of now that hold it
+-- a history in tables of some profile and form: a crash leaves what was committed, or tables of now that hold it, and
+-- the statistics that there were
 abbrev pub LeavesInForm : {S : Type 0} → Ghosts S → Held S → Held S → Type 0
-LeavesInForm g old new = OnSomeForm g old new (λ h. LeavesCommittedOr g old new (Keeps h))
+LeavesInForm g old new = OnSomeForm g old new
+    (λ h. LeavesCommittedOr g old new (λ db. Keeps h db × StatisticsStay (state g old).now db))
+
+-- and the connection shows those that there were, with the same rows
+abbrev pub ShowsStatistics : {S : Type 0} → Ghosts S → Held S → Held S → Type 0
+ShowsStatistics g old new = OnSomeForm g old new (λ h. StatisticsStay (state g old).now (state g new).now.trees
+    × (statistics_of (state g new).now ≡ statistics_of (state g old).now))
 
 -- ---- an office was opened
 
@@ -66,19 +74,24 @@ pub record IsOpened {S : Type 0} (g : Ghosts S) (old : Held S) (office : OfficeV
   pub working : office.failed ≡ false
   -- there was no table, or those of an office of now, maybe without that of parts; and then all are there
   pub taken : HasCleanDisk (state g office.conn) → MayOpen (state g old).now.schema
-  pub tables : HasCleanDisk (state g office.conn) → HasSchema g office.conn office_schema
+  pub tables : HasCleanDisk (state g office.conn) → HasAllTables g office.conn
+  -- no statistics are there where there were none
+  pub none_come : HasCleanDisk (state g office.conn) → ¬ HasSchema g old analyzed_schema
+      → HasSchema g office.conn office_schema
   -- of whatever office they were, the profile was the second
   pub second : OnOffice g old office.conn (SaysMarks g old Second)
-  -- no table: it has new ones, which hold the empty history
+  -- no table: it has new ones, which hold the empty history, and no statistics
   pub made : OnNone g old office.conn (HoldsThroughCrash g office.conn [])
+  pub new : OnNone g old office.conn (HasCommitted IsNew (state g office.conn))
   -- all tables: nothing changed
   pub same : OnTables g old office.conn (IsUnchanged (state g old) (state g office.conn))
   -- all but that of parts: it has that too
   pub grown : OnTablesOf Rows g old office.conn (HasGrown g old office.conn)
   -- live messages as bodies: those aren't opened
   pub bodies : OnTablesOf Bodies g old office.conn ⊥
-  -- a history that was held, in whatever tables: it is held
+  -- a history that was held, in whatever tables: it is held, and the statistics stay
   pub completed : OnSomeForm g old office.conn (λ h. Holding h (state g office.conn))
+  pub statistics : ShowsStatistics g old office.conn
 
 -- the same of migrating, which carries tables of the first profile over
 pub record IsMigrated {S : Type 0} (g : Ghosts S) (old : Held S) (office : OfficeView S) : Type 0 where
@@ -88,14 +101,16 @@ pub record IsMigrated {S : Type 0} (g : Ghosts S) (old : Held S) (office : Offic
   pub taken : HasCleanDisk (state g office.conn) → MayMigrateFrom (state g old).now.schema
   pub known : HasCleanDisk (state g office.conn) → (has : HasOffice (state g old))
       → HasProfileRowsOf has.form (tables_of (state g old).now.trees)
-  -- no table: it has new ones, which hold the empty history
+  -- no table: it has new ones, which hold the empty history, and no statistics
   pub made : OnNone g old office.conn (HoldsThroughCrash g office.conn [])
+  pub new : OnNone g old office.conn (HasCommitted IsNew (state g office.conn))
   -- all tables, of the second profile: nothing changed
   pub same : OnTables g old office.conn (SaysMarks g old Second → IsUnchanged (state g old) (state g office.conn))
   -- of the second profile, and all but that of parts: it has that too
   pub grown : OnTablesOf Rows g old office.conn (SaysMarks g old Second → HasGrown g old office.conn)
-  -- a history that was held, in whatever tables: it is held, and left by a crash
+  -- a history that was held, in whatever tables: it is held, and left by a crash, and the statistics stay
   pub migrated : OnSomeForm g old office.conn (HoldsThroughCrash g office.conn)
+  pub statistics : ShowsStatistics g old office.conn
 
 -- ---- it was lost, and the connection is given back
 
@@ -107,7 +122,7 @@ pub record IsGivenBack {S : Type 0} (g : Ghosts S) (old : Held S) (lost : Lost �
       → IsTrue (state g lost.1).is_open → (state g lost.1).committed ≡ (state g old).committed
   -- no table: it isn't lost by the profile, and a crash leaves none, or new ones
   pub named : HasNone (state g old) → IsOfCall lost.0
-  pub unmade : OnNone g old lost.1 (LeavesCommittedOr g old lost.1 (Keeps []))
+  pub unmade : OnNone g old lost.1 (LeavesCommittedOr g old lost.1 (λ db. Keeps [] db × AreTreesOf IsNew db))
   -- the tables of an office: it is lost by another profile only where they are of such a one
   pub older : OnOffice g old lost.1 (lost.0 ≡ OlderProfile → HasOlderProfileRows (tables_of (state g old).now.trees))
   pub newer : OnOffice g old lost.1 (lost.0 ≡ NewerProfile → SaysMarks g old Newer)

@@ -5,7 +5,8 @@ ghost use Rattle.store_tables.specs.Tables.{tables_of};
 ghost use Rattle.office_history.specs.History.{Answered, first_of};
 ghost use Rattle.office_history.specs.Answering.{answered};
 ghost use Rattle.store.specs.Calls.{HoldsOnErr, HoldsOneMoreOnOk, IsOfficeCall, IsSettled};
-ghost use Rattle.store.specs.Calls.{KeepsDoubt, LeavesOneMoreAtMost, SameOnErr, SameOnRepeat};
+ghost use Rattle.store.specs.Calls.{KeepsDoubt, KeepsStatistics, LeavesOneMoreAtMost, LeavesStatistics};
+ghost use Rattle.store.specs.Calls.{SameOnErr, SameOnRepeat};
 ghost use Rattle.store.specs.Calls.{followed_by};
 ghost use Rattle.store_tables.specs.Frames.{Asks, StaysIn};
 ghost use Rattle.store.specs.Holds.{Holds};
@@ -94,6 +95,8 @@ pub(crate) fn transact<S: Alter>(
     ensures lost_same { SameOnErr S.Store conn.old conn.new result }
     ensures left { LeavesOneMoreAtMost S.Store conn.old conn.new result
         (answered team.now key.now request.now) }
+    ensures statistics { KeepsStatistics S.Store conn.old conn.new }
+    ensures statistics_left { LeavesStatistics S.Store conn.old conn.new }
 {
     knows_schema(conn);
     leaves_committed(conn);
@@ -130,6 +133,8 @@ impl<S: Alter> StoredOffice<S> {
         ensures lost_same { SameOnErr S.Store self.old.conn self.new.conn result }
         ensures left { LeavesOneMoreAtMost S.Store self.old.conn self.new.conn result
             (answered team.now key.now request.now) }
+        ensures statistics { KeepsStatistics S.Store self.old.conn self.new.conn }
+        ensures statistics_left { LeavesStatistics S.Store self.old.conn self.new.conn }
     {
         leaves_committed(&self.conn);
         let _settled = self.conn.is_autocommit();

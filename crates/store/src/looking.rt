@@ -2,8 +2,8 @@
 ghost use Rattle.std.specs.Prelude.{◌≡◌, List, IfOk};
 ghost use Rattle.office_types.specs.declared.state.Office.{Office as Whole};
 ghost use Rattle.office_history.specs.History.{Answered, IsLegal};
-ghost use Rattle.store.specs.Calls.{HoldsOnErr, HoldsOnOk, IsOfficeCall, IsSettled, KeepsDoubt};
-ghost use Rattle.store.specs.Calls.{LeavesHistory, OnHistory, OnHolding, SameOnErr, SameOnOk};
+ghost use Rattle.store.specs.Calls.{HoldsOnErr, HoldsOnOk, IsOfficeCall, IsSettled, KeepsDoubt, KeepsStatistics};
+ghost use Rattle.store.specs.Calls.{LeavesHistory, LeavesStatistics, OnHistory, OnHolding, SameOnErr, SameOnOk};
 ghost use Rattle.store_tables.specs.Frames.{Asks, ReadsOnly};
 ghost use Rattle.store.specs.Holds.{Holds};
 ghost use Rattle.store.specs.Looking.{IsShown, bytes_of};
@@ -58,6 +58,7 @@ fn look_alone<S: Alter>(
     ensures same { SameOnOk S.Store conn.old conn.new result }
     ensures lost_same { SameOnErr S.Store conn.old conn.new result }
     ensures left { LeavesHistory S.Store conn.old conn.new }
+    ensures statistics_left { LeavesStatistics S.Store conn.old conn.new }
 {
     knows_schema(conn);
     leaves_committed(conn);
@@ -84,6 +85,8 @@ impl<S: Alter> StoredOffice<S> {
         ensures same { SameOnOk S.Store self.old.conn self.new.conn result }
         ensures lost_same { SameOnErr S.Store self.old.conn self.new.conn result }
         ensures left { LeavesHistory S.Store self.old.conn self.new.conn }
+        ensures statistics { KeepsStatistics S.Store self.old.conn self.new.conn }
+        ensures statistics_left { LeavesStatistics S.Store self.old.conn self.new.conn }
     {
         histories_leave_offices();
         self.leaves_now();

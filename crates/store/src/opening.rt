@@ -95,6 +95,7 @@ pub(crate) fn complete<S: Alter>(conn: &mut Connection<S>) -> Result<(), Lost>
 {
     match form_of(conn) {
         SchemaForm::All => Ok(()),
+        SchemaForm::Analyzed => Ok(()),
         SchemaForm::Rows => {
             make_part(conn)?;
             Ok(())
@@ -156,8 +157,9 @@ fn make_ready<S: Alter>(conn: &mut Connection<S>) -> Result<(), Lost>
 
 impl<S: Alter> StoredOffice<S> {
     /// Opens the office on the connection. New tables, which hold the empty history, are made where there is no table,
-    /// index or view. Else only the tables of an office are taken, as canoffice makes them. Tables that hold a history
-    /// hold it still. Where it is lost, the connection is given back: [`Lost::NewerProfile`] where the tables are of a
+    /// index or view. Else only the tables of an office are taken, as canoffice makes them, with the statistics of
+    /// ANALYZE after all of them or without. Tables that hold a history hold it still, and the statistics stay. Where
+    /// it is lost, the connection is given back: [`Lost::NewerProfile`] where the tables are of a
     /// profile that isn't known here, [`Lost::OlderProfile`] where they are of the first, which
     /// [`StoredOffice::migrate`] carries over; out of memory, or an error of the store, as on tables of something else.
     /// Either the tables are as before then, or, where the disk failed, they may be new. Tables of the second profile

@@ -1,7 +1,7 @@
 //! Lists of arrivals.
 ghost use Rattle.std.specs.Prelude.{◌≡◌, All, IsTrue, IfOk, OnErr};
 ghost use Rattle.sqlite.specs.Held.{state};
-ghost use Rattle.store.specs.Calls.{KeepsDoubt, OnHistory, SameIfAllLost, SameIfAllRepeat};
+ghost use Rattle.store.specs.Calls.{KeepsDoubt, OnHistory, SameIfAllLost, SameIfAllRepeat, StatisticsStayAfter};
 ghost use Rattle.store.specs.Headline.{HasRunOnTables};
 ghost use Rattle.store.specs.Running.{FailsBy, IsNoProfile};
 
@@ -26,6 +26,7 @@ impl<S: Alter> StoredOffice<S> {
             SameIfAllLost S.Store self.old.conn self.new.conn results.items) }
         ensures repeated { IfOk result (λ results.
             SameIfAllRepeat S.Store self.old.conn self.new.conn arrivals.now results.items) }
+        ensures statistics { StatisticsStayAfter S.Store self.old.conn self.new.conn }
         ensures refused { IsTrue self.old.failed → self.new ≡ self.old }
         ensures failed { IfOk result (λ results.
             FailsBy self.old.failed results.items self.new.failed) }

@@ -1,7 +1,7 @@
 pub mod AllCarried
 mod NetsCarried
 mod LiveAdded
-mod Grown
+pub mod Grown
 pub mod Formed
 pub mod ReadProfile
 mod Examples

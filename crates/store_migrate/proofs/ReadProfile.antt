@@ -22,7 +22,7 @@ use Rattle.store_migrate.specs.Forms.{body_marks, row_marks}
 use Rattle.store_migrate.specs.InForm.{HoldsAs}
 use Rattle.store_migrate.specs.ProfileRows.{HasProfileRows, IsKnownProfileRow}
 use Rattle.store_migrate.specs.declared.forms.SchemaForm.{SchemaForm}
-use Rattle.store_migrate.specs.declared.forms.SchemaForm.TheVariants.{All, Bodies, Foreign, Rows}
+use Rattle.store_migrate.specs.declared.forms.SchemaForm.TheVariants.{All, Analyzed, Bodies, Foreign, Rows}
 use Rattle.store_migrate.specs.declared.profile_rows.ProfileRows.TheVariants as marks
 
 -- the number in a row's second column
@@ -98,6 +98,8 @@ not_second Rows h t u same holds has =
     second_is_not u 3 (ap (λ l. total (filter is_any l)) (sym same ∙ holds.holds.profile)) (omega arith) has
 not_second All h t u same holds has =
     second_is_not u 3 (ap (λ l. total (filter is_any l)) (sym same ∙ holds.holds.profile)) (omega arith) has
+not_second Analyzed h t u same holds has =
+    second_is_not u 3 (ap (λ l. total (filter is_any l)) (sym same ∙ holds.holds.profile)) (omega arith) has
 not_second Foreign h t u same holds has = holds
 
 second_sorted : IsSorted profile_order (row_marks Two)
@@ -122,4 +124,5 @@ pub is_second : (form : SchemaForm) (h : List Answered) (t u : Tables) → t.pro
 is_second Bodies h t u same holds = absurd holds
 is_second Rows h t u same holds = says_second u (sym same ∙ holds.holds.profile)
 is_second All h t u same holds = says_second u (sym same ∙ holds.holds.profile)
+is_second Analyzed h t u same holds = says_second u (sym same ∙ holds.holds.profile)
 is_second Foreign h t u same holds = absurd holds

@@ -7,7 +7,7 @@ use Rattle.sqlite.specs.declared.transaction.Transaction.{Transaction}
 use Rattle.sqlite_trees.specs.declared.store.Store.{Ghosts}
 use Rattle.office_history.specs.History.{Answered}
 use Rattle.office_rules.specs.Profile.{Two}
-use Rattle.store_tables.specs.Statements.{IsOfficeWith, LeavesNothing, tables_in}
+use Rattle.store_tables.specs.Statements.{IsOfficeWith, LeavesNothing, statistics_of, tables_in}
 use Rattle.store_tables.specs.Tables.{IsOffice, Tables, tables_of}
 use Rattle.store_migrate.specs.Forms.{HoldsAsRows}
 
@@ -23,12 +23,17 @@ CarriesFrom g old new result before Holds = HasCleanDisk (state g new.conn.now)
     → OnOk result (CarriesEach Holds (tables_in before (state g old.conn.now).now.trees)
     (tables_of (state g new.conn.now).now.trees))
 
--- where there are the tables of a schema, nothing is committed, and if it succeeds, they are an office's in a transaction
+-- where there are the tables of a schema, nothing is committed, and if it succeeds, they are an office's, of the schema
+-- after, with the statistics that there were, in a transaction
 pub record BecomesOffice {S X E : Type 0} (g : Ghosts S) (old new : Transaction S) (result : Result X E)
-    (before : Schema) : Type 0 where
+    (before after : Schema) : Type 0 where
   pub same_reference : new.conn.ghost_name ≡ old.conn.ghost_name
   pub office : HasCleanDisk (state g new.conn.now) → IsOfficeWith before (state g old.conn.now).now
       → OnOk result (IsOffice (state g new.conn.now).now)
+  pub schema_is : HasCleanDisk (state g new.conn.now) → IsOfficeWith before (state g old.conn.now).now
+      → OnOk result ((state g new.conn.now).now.schema ≡ after)
+  pub statistics : HasCleanDisk (state g new.conn.now) → IsOfficeWith before (state g old.conn.now).now
+      → OnOk result (statistics_of (state g new.conn.now).now ≡ statistics_of (state g old.conn.now).now)
   pub inside : HasCleanDisk (state g new.conn.now) → IsOfficeWith before (state g old.conn.now).now
       → OnOk result (IsTrue (state g new.conn.now).in_transaction)
   pub kept : HasCleanDisk (state g new.conn.now) → IsOfficeWith before (state g old.conn.now).now

@@ -9,7 +9,7 @@ use Rattle.office_history.specs.History.{Answered}
 use Rattle.store_migrate.specs.Forms.{HoldsAsBodies, HoldsAsRows}
 use Rattle.store_migrate.specs.FormSchema.{schema_of}
 use Rattle.store_migrate.specs.declared.forms.SchemaForm.{SchemaForm}
-use Rattle.store_migrate.specs.declared.forms.SchemaForm.TheVariants.{All, Bodies, Foreign, Rows}
+use Rattle.store_migrate.specs.declared.forms.SchemaForm.TheVariants.{All, Analyzed, Bodies, Foreign, Rows}
 use Rattle.store_migrate.specs.declared.profile_rows.ProfileRows.{ProfileRows}
 use Rattle.store_migrate.specs.declared.profile_rows.ProfileRows.TheVariants as marks
 
@@ -18,6 +18,7 @@ abbrev pub HoldsAs : Profile → SchemaForm → List Answered → Tables → Typ
 HoldsAs One Bodies h t = HoldsAsBodies h t
 HoldsAs p Rows h t = HoldsAsRows p h t
 HoldsAs p All h t = HoldsAsRows p h t
+HoldsAs p Analyzed h t = HoldsAsRows p h t
 HoldsAs p form h t = ⊥
 
 -- what the rows of the profile say where tables of a form are of the first profile
@@ -25,6 +26,7 @@ abbrev pub first_profile_rows : SchemaForm → ProfileRows
 first_profile_rows Bodies = marks.Bodies
 first_profile_rows Rows = marks.First
 first_profile_rows All = marks.First
+first_profile_rows Analyzed = marks.First
 first_profile_rows Foreign = marks.Foreign
 
 -- trees with the tables of a form that hold the history so

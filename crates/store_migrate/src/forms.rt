@@ -16,12 +16,14 @@ pub enum SchemaForm {
     Rows,
     /// All fourteen.
     All,
+    /// All fourteen, and after them the statistics of ANALYZE.
+    Analyzed,
     /// Other tables, or others beside them: no office's.
     Foreign,
 }
 
 /// Which tables the connection has: those of a form exactly if they are its tables as canoffice makes them, with no
-/// table, index, view or trigger beside them.
+/// table, index, view or trigger beside them but for the statistics.
 pub fn form_of<S: Alter>(conn: &Connection<S>) -> SchemaForm
     ensures known { (form : FormOf) → form ≢ SchemaForm.Foreign
         → (state S.Store conn.now).now.schema ≡ schema_of form → result ≡ form }
@@ -36,6 +38,7 @@ pub fn form_of<S: Alter>(conn: &Connection<S>) -> SchemaForm
         (9, 8) => SchemaForm::Bodies,
         (13, 14) => SchemaForm::Rows,
         (14, 15) => SchemaForm::All,
+        (15, 15) => SchemaForm::Analyzed,
         _ => SchemaForm::Foreign,
     }
 }

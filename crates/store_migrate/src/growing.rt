@@ -2,10 +2,10 @@
 ghost use Rattle.std.specs.Prelude.{◌≡◌, OnOk};
 ghost use Rattle.office_rules.specs.Profile.{One};
 ghost use Rattle.store_tables.specs.Frames.{OnlyWrites};
-ghost use Rattle.store_tables.specs.Schema.{schema_9, schema_13};
+ghost use Rattle.store_tables.specs.Schema.{office_schema, schema_9, schema_13};
 ghost use Rattle.store_migrate.specs.Carrying.{BecomesOffice, CarriesFrom};
 ghost use Rattle.store_migrate.specs.Forms.{HoldsAsBodies, HoldsAsRows};
-ghost use Rattle.store_migrate.specs.FormSchema.{schema_of};
+ghost use Rattle.store_migrate.specs.FormSchema.{current_schema_of, schema_of};
 ghost use Rattle.store_migrate.specs.InForm.{HoldsAs, first_profile_rows};
 
 use crate::carrying::carry_over;
@@ -25,7 +25,7 @@ pub fn carry_bodies<S: Alter, W: Watch>(
     watch: &mut W,
 ) -> Result<(), Error>
     ensures held { CarriesFrom S.Store tx.old tx.new result schema_9 HoldsAsBodies }
-    ensures frame { BecomesOffice S.Store tx.old tx.new result schema_9 }
+    ensures frame { BecomesOffice S.Store tx.old tx.new result schema_9 office_schema }
 {
     make_live_tables(tx)?;
     carry_over(alloc, tx, watch)
@@ -35,7 +35,7 @@ pub fn carry_bodies<S: Alter, W: Watch>(
 /// profile 1 become all of the office's, and hold it under profile 2. The errors are those of [`renew_profile`].
 pub fn carry_rows<S: Alter>(tx: &mut Transaction<'_, S>) -> Result<(), Error>
     ensures held { CarriesFrom S.Store tx.old tx.new result schema_13 (HoldsAsRows One) }
-    ensures frame { BecomesOffice S.Store tx.old tx.new result schema_13 }
+    ensures frame { BecomesOffice S.Store tx.old tx.new result schema_13 office_schema }
     ensures writes { OnlyWrites S.Store tx.old tx.new }
 {
     create_part(tx)?;
@@ -54,12 +54,14 @@ pub fn carry<S: Alter, W: Watch>(
 ) -> Result<(), Error>
     ensures held { CarriesFrom S.Store tx.old tx.new result (schema_of form) (HoldsAs One form) }
     ensures matched { OnOk result (marks ≡ first_profile_rows form) }
-    ensures frame { BecomesOffice S.Store tx.old tx.new result (schema_of form) }
+    ensures frame { BecomesOffice S.Store tx.old tx.new result (schema_of form)
+        (current_schema_of form) }
 {
     match (marks, form) {
         (ProfileRows::Bodies, SchemaForm::Bodies) => carry_bodies(alloc, tx, watch),
         (ProfileRows::First, SchemaForm::Rows) => carry_rows(tx),
         (ProfileRows::First, SchemaForm::All) => renew_profile(tx),
+        (ProfileRows::First, SchemaForm::Analyzed) => renew_profile(tx),
         _ => Err(Error::InvalidQuery),
     }
 }

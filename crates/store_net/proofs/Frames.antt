@@ -1,5 +1,6 @@
 -- Frames of several statements: what each of two keeps, both keep.
 use Rattle.std.proofs.Common.{◌∙◌, Ok, Err, Result, inl, refl, arith}
+use Rattle.std.proofs.lemmas.Result.{on_ok_weaker}
 use Rattle.sqlite.specs.Held.{state}
 use Rattle.sqlite.specs.State.{State, HasCleanDisk, Survives}
 use Rattle.sqlite.specs.declared.error.Error.{Error}
@@ -30,6 +31,8 @@ pub none_written : {S : Type 0} (g : Ghosts S) (tx : Transaction S) → WritesAn
 none_written g tx = record {
   same_reference = refl;
   office = λ clean was. was;
+  same_schema = λ clean was. refl;
+  statistics = λ clean was. refl;
   inside = λ clean was mode. mode;
   kept = λ clean. record { was_open = λ here. here; committed = λ here. refl };
   survives = nothing_done (state g tx.conn.now);
@@ -41,6 +44,8 @@ pub ends_and_stays : {S X E : Type 0} (g : Ghosts S) (old new : Transaction S) (
 ends_and_stays g old new (Ok x) w = record {
   same_reference = w.same_reference;
   office = w.office;
+  same_schema = w.same_schema;
+  statistics = w.statistics;
   inside = λ clean was mode. w.inside clean was;
   kept = w.kept;
   survives = w.survives;
@@ -48,6 +53,8 @@ ends_and_stays g old new (Ok x) w = record {
 ends_and_stays g old new (Err e) w = record {
   same_reference = w.same_reference;
   office = w.office;
+  same_schema = w.same_schema;
+  statistics = w.statistics;
   inside = λ clean was mode. tt;
   kept = w.kept;
   survives = w.survives;
@@ -60,6 +67,8 @@ pub edits_end : {S : Type 0} (g : Ghosts S) (old new : Transaction S) (made : Ta
 edits_end g old new made w edits = record {
   same_reference = w.same_reference;
   office = λ clean was. (edits clean was).office;
+  same_schema = λ clean was. (edits clean was).same_schema;
+  statistics = λ clean was. (edits clean was).statistics;
   inside = λ clean was. (edits clean was).inside;
   kept = w.kept;
   survives = w.survives;
@@ -77,6 +86,8 @@ writes_then g old mid new x i w =
     record {
       same_reference = w.same_reference ∙ i.same_reference;
       office = λ clean was. w.office clean (i.office (early clean) was);
+      same_schema = λ clean was. w.same_schema clean (i.office (early clean) was) ∙ i.same_schema (early clean) was;
+      statistics = λ clean was. w.statistics clean (i.office (early clean) was) ∙ i.statistics (early clean) was;
       inside = λ clean was mode. w.inside clean (i.office (early clean) was) (i.inside (early clean) was mode);
       kept = λ clean. keeps_then a b c (i.kept (early clean)) (w.kept clean);
       survives = nothing_left a b c i.survives w.survives;
@@ -94,6 +105,10 @@ ends_then g old mid new x r i w =
     record {
       same_reference = w.same_reference ∙ i.same_reference;
       office = λ clean was. w.office clean (i.office (early clean) was);
+      same_schema = λ clean was. on_ok_weaker r (λ same. same ∙ i.same_schema (early clean) was)
+          (w.same_schema clean (i.office (early clean) was));
+      statistics = λ clean was. on_ok_weaker r (λ same. same ∙ i.statistics (early clean) was)
+          (w.statistics clean (i.office (early clean) was));
       inside = λ clean was. w.inside clean (i.office (early clean) was) (i.inside (early clean) was);
       kept = λ clean. keeps_then a b c (i.kept (early clean)) (w.kept clean);
       survives = nothing_left a b c i.survives w.survives;
@@ -110,6 +125,8 @@ stays_then g old mid new x i w =
     record {
       same_reference = w.same_reference ∙ i.same_reference;
       office = λ clean was. w.office clean (i.office (early clean) was);
+      same_schema = λ clean was. w.same_schema clean (i.office (early clean) was) ∙ i.same_schema (early clean) was;
+      statistics = λ clean was. w.statistics clean (i.office (early clean) was) ∙ i.statistics (early clean) was;
       inside = λ clean was mode. w.inside clean (i.office (early clean) was) (i.inside (early clean) was mode);
       kept = λ clean was. keeps_then a b c (i.kept (early clean) was) (w.kept clean (i.office (early clean) was));
       survives = nothing_left a b c i.survives w.survives;

@@ -25,3 +25,4 @@ mod NumberExamples
 pub mod Bare
 mod FewRows
 pub mod Frames
+pub mod Made

@@ -21,16 +21,16 @@ use Rattle.sqlite_tied.specs.Compute.{everything}
 use Rattle.sqlite.specs.Listing.{understood}
 use Rattle.sqlite.specs.State.{State, ExecutesInside, Shown}
 use Rattle.sqlite.proofs.Callers.{IsPlain, command_of}
-use Rattle.store_tables.specs.Schema.{office_schema}
+use Rattle.store_tables.specs.Schema.{IsCurrentSchema, analyzed_schema, office_schema}
 use Rattle.store_tables.specs.Tables.{tables_of, values, IsOffice}
 use Rattle.store_tables.specs.Statements.{Makes}
 use Rattle.store_tables.specs.Selected.{IsSelected}
 use Rattle.store_tables.proofs.Columns.{cast_null, column_is}
 use Rattle.store_tables.proofs.Changing.{appends, makes, removes}
-use Rattle.store_tables.proofs.Keeping.{plain_in}
+use Rattle.store_tables.proofs.Current.{InEach, in_each}
 use Rattle.store_tables.proofs.TableIndices.{approval, approval_there, approval_only}
 use Rattle.store_tables.proofs.Selecting.{query}
-use Rattle.store_tables.proofs.Finding.{ascending, IsSelect, Means, finds}
+use Rattle.store_tables.proofs.Finding.{ascending, IsSelect, Means, finds_now}
 use Rattle.store_statements.specs.Rows.{approval_row, has_two_texts, is_of_net}
 use Rattle.store_statements.specs.Shown.{approvals_order, approvals_shown}
 use Rattle.store_statements.proofs.Requested.{net_requested, one_test, texts_requested, two_tests}
@@ -43,13 +43,13 @@ insert_text = codes "INSERT INTO approval VALUES (?1, ?2)"
 abbrev insert_terms : List Term
 insert_terms = lit Null ∷ col 0 0 ∷ col 0 1 ∷ []
 
-insert_is : command_of (understood office_schema insert_text) ≡ Insert 6 (Values insert_terms 3)
-unfolding understood everything office_schema
-insert_is = refl
+insert_is : InEach (λ s. command_of (understood s insert_text) ≡ Insert 6 (Values insert_terms 3))
+unfolding understood everything office_schema analyzed_schema
+insert_is = record { usual = refl; analyzed = refl }
 
-insert_plain : IsPlain (understood office_schema insert_text)
-unfolding understood everything office_schema
-insert_plain = (refl, refl)
+insert_plain : InEach (λ s. IsPlain (understood s insert_text))
+unfolding understood everything office_schema analyzed_schema
+insert_plain = record { usual = (refl, refl); analyzed = (refl, refl) }
 
 put : (net : List ℕ) (team : List ℕ) (db : Trees)
     → edited db (edit_of db approval [] Chosen 0
@@ -73,14 +73,14 @@ inserts net team old new r office ended ran =
 abbrev delete_approval_text : List ℕ
 delete_approval_text = codes "DELETE FROM approval WHERE net = ?1 AND team = ?2"
 
-delete_approval_is : (params : Row) → command_of (understood office_schema delete_approval_text)
-    ≡ Delete 6 (record { lets = []; body = query 11 two_tests (col 1 0 ∷ []) [] params })
-unfolding understood everything office_schema
-delete_approval_is params = refl
+delete_approval_is : (params : Row) → InEach (λ s. command_of (understood s delete_approval_text)
+    ≡ Delete 6 (record { lets = []; body = query 11 two_tests (col 1 0 ∷ []) [] params }))
+unfolding understood everything office_schema analyzed_schema
+delete_approval_is params = record { usual = refl; analyzed = refl }
 
-delete_approval_plain : IsPlain (understood office_schema delete_approval_text)
-unfolding understood everything office_schema
-delete_approval_plain = (refl, refl)
+delete_approval_plain : InEach (λ s. IsPlain (understood s delete_approval_text))
+unfolding understood everything office_schema analyzed_schema
+delete_approval_plain = record { usual = (refl, refl); analyzed = (refl, refl) }
 
 pub delete_approvals : (net : List ℕ) (team : List ℕ) (old new : State) (r : Result ℕ Error) → IsOffice old.now
     → (old.in_transaction ≡ false → r ≡ Err (SqliteFailure TransactionState))
@@ -99,14 +99,14 @@ delete_approvals net team old new r office ended ran =
 abbrev delete_approvals_text : List ℕ
 delete_approvals_text = codes "DELETE FROM approval WHERE net = ?1"
 
-delete_approvals_is : (params : Row) → command_of (understood office_schema delete_approvals_text)
-    ≡ Delete 6 (record { lets = []; body = query 11 one_test (col 1 0 ∷ []) [] params })
-unfolding understood everything office_schema
-delete_approvals_is params = refl
+delete_approvals_is : (params : Row) → InEach (λ s. command_of (understood s delete_approvals_text)
+    ≡ Delete 6 (record { lets = []; body = query 11 one_test (col 1 0 ∷ []) [] params }))
+unfolding understood everything office_schema analyzed_schema
+delete_approvals_is params = record { usual = refl; analyzed = refl }
 
-delete_approvals_plain : IsPlain (understood office_schema delete_approvals_text)
-unfolding understood everything office_schema
-delete_approvals_plain = (refl, refl)
+delete_approvals_plain : InEach (λ s. IsPlain (understood s delete_approvals_text))
+unfolding understood everything office_schema analyzed_schema
+delete_approvals_plain = record { usual = (refl, refl); analyzed = (refl, refl) }
 
 pub delete_approvalss : (net : List ℕ) (old new : State) (r : Result ℕ Error) → IsOffice old.now
     → (old.in_transaction ≡ false → r ≡ Err (SqliteFailure TransactionState))
@@ -131,10 +131,13 @@ approvals_columns = col 1 2 ∷ []
 abbrev approvals_by : List (Term × Key)
 approvals_by = (col 1 2, ascending) ∷ []
 
-approvals_selects : (params : Row) → IsSelect office_schema approvals_text 11 one_test approvals_columns approvals_by
-    (codes "team" ∷ []) params
-unfolding understood everything office_schema
-approvals_selects params = record { command = refl; listing = refl; plain = (refl, refl) }
+approvals_selects : (params : Row) → InEach (λ s. IsSelect s approvals_text 11 one_test approvals_columns approvals_by
+    (codes "team" ∷ []) params)
+unfolding understood everything office_schema analyzed_schema
+approvals_selects params = record {
+  usual = record { command = refl; listing = refl; plain = (refl, refl) };
+  analyzed = record { command = refl; listing = refl; plain = (refl, refl) };
+}
 
 approvals_means : (net : List ℕ) → Means values 11 one_test approvals_columns approvals_by (Text net ∷ [])
     (is_of_net net) approvals_shown approvals_order
@@ -145,13 +148,13 @@ approvals_means net = record {
 }
 
 pub approvals_found : {X : Type 0} (rows_of : X → List Row) (net : List ℕ) (old new : State) (r : Result X Error)
-    → old.now.schema ≡ office_schema
+    → IsCurrentSchema old.now.schema
     → IfOk r (λ x. Shown approvals_text (Text net ∷ []) old new (rows_of x))
     → IfOk r (λ x. IsSelected (is_of_net net) approvals_shown approvals_order (tables_of old.now.trees).approval
     (rows_of x))
-approvals_found rows_of net = finds office_schema approvals_text 11 one_test approvals_columns approvals_by _
+approvals_found rows_of net = finds_now approvals_text 11 one_test approvals_columns approvals_by _
     (Text net ∷ []) (approvals_selects (Text net ∷ [])) values (is_of_net net) approvals_shown approvals_order
     (approvals_means net) rows_of
 
-pub approvals_plain : (s : Schema) → s ≡ office_schema → IsPlain (understood s approvals_text)
-approvals_plain = plain_in approvals_text (approvals_selects []).plain
+pub approvals_plain : (s : Schema) → IsCurrentSchema s → IsPlain (understood s approvals_text)
+approvals_plain s now = (in_each (approvals_selects []) s now).plain

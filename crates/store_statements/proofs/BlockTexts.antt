@@ -22,16 +22,16 @@ use Rattle.sqlite_tied.specs.Compute.{everything}
 use Rattle.sqlite.specs.Listing.{understood}
 use Rattle.sqlite.specs.State.{State, ExecutesInside, Shown}
 use Rattle.sqlite.proofs.Callers.{IsPlain, command_of}
-use Rattle.store_tables.specs.Schema.{office_schema}
+use Rattle.store_tables.specs.Schema.{IsCurrentSchema, analyzed_schema, office_schema}
 use Rattle.store_tables.specs.Tables.{tables_of, values, IsOffice}
 use Rattle.store_tables.specs.Statements.{Makes}
 use Rattle.store_tables.specs.Selected.{IsSelected}
 use Rattle.store_tables.proofs.Columns.{cast_null, cast_number, column_is}
 use Rattle.store_tables.proofs.Changing.{appends, makes, removes}
-use Rattle.store_tables.proofs.Keeping.{plain_in}
+use Rattle.store_tables.proofs.Current.{InEach, in_each}
 use Rattle.store_tables.proofs.TableIndices.{block, block_there, block_only}
 use Rattle.store_tables.proofs.Selecting.{query}
-use Rattle.store_tables.proofs.Finding.{ascending, IsSelect, Means, finds}
+use Rattle.store_tables.proofs.Finding.{ascending, IsSelect, Means, finds_now}
 use Rattle.store_statements.specs.declared.row.BlockRow.{BlockRow}
 use Rattle.store_statements.specs.Rows.{block_row, is_block, is_of_form, is_of_net}
 use Rattle.store_statements.specs.Shown.{blocks_of_form_order, blocks_of_form_shown, blocks_order, blocks_shown}
@@ -46,13 +46,13 @@ insert_text = codes "INSERT INTO block VALUES (?1, ?2, ?3, ?4, ?5)"
 abbrev insert_terms : List Term
 insert_terms = lit Null ∷ col 0 0 ∷ col 0 1 ∷ col 0 2 ∷ col 0 3 ∷ col 0 4 ∷ []
 
-insert_is : command_of (understood office_schema insert_text) ≡ Insert 3 (Values insert_terms 6)
-unfolding understood everything office_schema
-insert_is = refl
+insert_is : InEach (λ s. command_of (understood s insert_text) ≡ Insert 3 (Values insert_terms 6))
+unfolding understood everything office_schema analyzed_schema
+insert_is = record { usual = refl; analyzed = refl }
 
-insert_plain : IsPlain (understood office_schema insert_text)
-unfolding understood everything office_schema
-insert_plain = (refl, refl)
+insert_plain : InEach (λ s. IsPlain (understood s insert_text))
+unfolding understood everything office_schema analyzed_schema
+insert_plain = record { usual = (refl, refl); analyzed = (refl, refl) }
 
 put : (row : BlockRow) (db : Trees)
     → edited db (edit_of db block [] Chosen 0 (value_rows (stamped block (block_row row)) 6 1 insert_terms))
@@ -74,14 +74,14 @@ inserts row old new r office ended ran =
 abbrev delete_block_text : List ℕ
 delete_block_text = codes "DELETE FROM block WHERE net = ?1 AND form = ?2 AND first = ?3"
 
-delete_block_is : (params : Row) → command_of (understood office_schema delete_block_text)
-    ≡ Delete 3 (record { lets = []; body = query 6 three_tests (col 1 0 ∷ []) [] params })
-unfolding understood everything office_schema
-delete_block_is params = refl
+delete_block_is : (params : Row) → InEach (λ s. command_of (understood s delete_block_text)
+    ≡ Delete 3 (record { lets = []; body = query 6 three_tests (col 1 0 ∷ []) [] params }))
+unfolding understood everything office_schema analyzed_schema
+delete_block_is params = record { usual = refl; analyzed = refl }
 
-delete_block_plain : IsPlain (understood office_schema delete_block_text)
-unfolding understood everything office_schema
-delete_block_plain = (refl, refl)
+delete_block_plain : InEach (λ s. IsPlain (understood s delete_block_text))
+unfolding understood everything office_schema analyzed_schema
+delete_block_plain = record { usual = (refl, refl); analyzed = (refl, refl) }
 
 pub delete_blocks : (net : List ℕ) (form : ℕ) (first : ℕ) (old new : State) (r : Result ℕ Error) → IsOffice old.now
     → (old.in_transaction ≡ false → r ≡ Err (SqliteFailure TransactionState))
@@ -107,10 +107,13 @@ blocks_columns = col 1 2 ∷ col 1 3 ∷ col 1 4 ∷ col 1 5 ∷ []
 abbrev blocks_by : List (Term × Key)
 blocks_by = (col 1 2, ascending) ∷ (col 1 3, ascending) ∷ []
 
-blocks_selects : (params : Row) → IsSelect office_schema blocks_text 6 one_test blocks_columns blocks_by
-    (codes "form" ∷ codes "first" ∷ codes "last" ∷ codes "team" ∷ []) params
-unfolding understood everything office_schema
-blocks_selects params = record { command = refl; listing = refl; plain = (refl, refl) }
+blocks_selects : (params : Row) → InEach (λ s. IsSelect s blocks_text 6 one_test blocks_columns blocks_by
+    (codes "form" ∷ codes "first" ∷ codes "last" ∷ codes "team" ∷ []) params)
+unfolding understood everything office_schema analyzed_schema
+blocks_selects params = record {
+  usual = record { command = refl; listing = refl; plain = (refl, refl) };
+  analyzed = record { command = refl; listing = refl; plain = (refl, refl) };
+}
 
 blocks_means : (net : List ℕ) → Means values 6 one_test blocks_columns blocks_by (Text net ∷ []) (is_of_net net)
     blocks_shown blocks_order
@@ -122,14 +125,14 @@ blocks_means net = record {
 }
 
 pub blocks_found : {X : Type 0} (rows_of : X → List Row) (net : List ℕ) (old new : State) (r : Result X Error)
-    → old.now.schema ≡ office_schema
+    → IsCurrentSchema old.now.schema
     → IfOk r (λ x. Shown blocks_text (Text net ∷ []) old new (rows_of x))
     → IfOk r (λ x. IsSelected (is_of_net net) blocks_shown blocks_order (tables_of old.now.trees).block (rows_of x))
-blocks_found rows_of net = finds office_schema blocks_text 6 one_test blocks_columns blocks_by _ (Text net ∷ [])
+blocks_found rows_of net = finds_now blocks_text 6 one_test blocks_columns blocks_by _ (Text net ∷ [])
     (blocks_selects (Text net ∷ [])) values (is_of_net net) blocks_shown blocks_order (blocks_means net) rows_of
 
-pub blocks_plain : (s : Schema) → s ≡ office_schema → IsPlain (understood s blocks_text)
-blocks_plain = plain_in blocks_text (blocks_selects []).plain
+pub blocks_plain : (s : Schema) → IsCurrentSchema s → IsPlain (understood s blocks_text)
+blocks_plain s now = (in_each (blocks_selects []) s now).plain
 
 -- ---- select_blocks_of_form
 
@@ -142,10 +145,13 @@ blocks_of_form_columns = col 1 1 ∷ col 1 3 ∷ col 1 4 ∷ col 1 5 ∷ []
 abbrev blocks_of_form_by : List (Term × Key)
 blocks_of_form_by = (col 1 1, ascending) ∷ (col 1 3, ascending) ∷ []
 
-blocks_of_form_selects : (params : Row) → IsSelect office_schema blocks_of_form_text 6 form_test blocks_of_form_columns
-    blocks_of_form_by (codes "net" ∷ codes "first" ∷ codes "last" ∷ codes "team" ∷ []) params
-unfolding understood everything office_schema
-blocks_of_form_selects params = record { command = refl; listing = refl; plain = (refl, refl) }
+blocks_of_form_selects : (params : Row) → InEach (λ s. IsSelect s blocks_of_form_text 6 form_test blocks_of_form_columns
+    blocks_of_form_by (codes "net" ∷ codes "first" ∷ codes "last" ∷ codes "team" ∷ []) params)
+unfolding understood everything office_schema analyzed_schema
+blocks_of_form_selects params = record {
+  usual = record { command = refl; listing = refl; plain = (refl, refl) };
+  analyzed = record { command = refl; listing = refl; plain = (refl, refl) };
+}
 
 blocks_of_form_means : (form : ℕ)
     → Means values 6 form_test blocks_of_form_columns blocks_of_form_by (Int (pos form) ∷ []) (is_of_form form)
@@ -158,13 +164,13 @@ blocks_of_form_means form = record {
 }
 
 pub blocks_of_form_found : {X : Type 0} (rows_of : X → List Row) (form : ℕ) (old new : State) (r : Result X Error)
-    → old.now.schema ≡ office_schema
+    → IsCurrentSchema old.now.schema
     → IfOk r (λ x. Shown blocks_of_form_text (Int (pos form) ∷ []) old new (rows_of x))
     → IfOk r (λ x. IsSelected (is_of_form form) blocks_of_form_shown blocks_of_form_order
     (tables_of old.now.trees).block (rows_of x))
-blocks_of_form_found rows_of form = finds office_schema blocks_of_form_text 6 form_test blocks_of_form_columns
+blocks_of_form_found rows_of form = finds_now blocks_of_form_text 6 form_test blocks_of_form_columns
     blocks_of_form_by _ (Int (pos form) ∷ []) (blocks_of_form_selects (Int (pos form) ∷ [])) values (is_of_form form)
     blocks_of_form_shown blocks_of_form_order (blocks_of_form_means form) rows_of
 
-pub blocks_of_form_plain : (s : Schema) → s ≡ office_schema → IsPlain (understood s blocks_of_form_text)
-blocks_of_form_plain = plain_in blocks_of_form_text (blocks_of_form_selects []).plain
+pub blocks_of_form_plain : (s : Schema) → IsCurrentSchema s → IsPlain (understood s blocks_of_form_text)
+blocks_of_form_plain s now = (in_each (blocks_of_form_selects []) s now).plain

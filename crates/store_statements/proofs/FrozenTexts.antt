@@ -21,15 +21,15 @@ use Rattle.sqlite_tied.specs.Compute.{everything}
 use Rattle.sqlite.specs.Listing.{understood}
 use Rattle.sqlite.specs.State.{State, ExecutesInside, Shown}
 use Rattle.sqlite.proofs.Callers.{IsPlain, command_of}
-use Rattle.store_tables.specs.Schema.{office_schema}
+use Rattle.store_tables.specs.Schema.{IsCurrentSchema, analyzed_schema, office_schema}
 use Rattle.store_tables.specs.Tables.{tables_of, values, IsOffice}
 use Rattle.store_tables.specs.Statements.{Makes}
 use Rattle.store_tables.specs.Selected.{IsSelected}
 use Rattle.store_tables.proofs.Columns.{cast_null, cast_number, column_is}
 use Rattle.store_tables.proofs.Changing.{appends, makes}
-use Rattle.store_tables.proofs.Keeping.{plain_in}
+use Rattle.store_tables.proofs.Current.{InEach, in_each}
 use Rattle.store_tables.proofs.TableIndices.{frozen, frozen_there, frozen_only}
-use Rattle.store_tables.proofs.Finding.{ascending, IsSelect, Means, finds}
+use Rattle.store_tables.proofs.Finding.{ascending, IsSelect, Means, finds_now}
 use Rattle.store_statements.specs.declared.row.FrozenRow.{FrozenRow}
 use Rattle.store_statements.specs.Rows.{frozen_row, has_net_and_number, is_of_net}
 use Rattle.store_statements.specs.Shown.{release_numbers_order, release_numbers_shown, release_order, release_shown}
@@ -44,13 +44,13 @@ insert_text = codes "INSERT INTO frozen VALUES (?1, ?2, ?3)"
 abbrev insert_terms : List Term
 insert_terms = lit Null ∷ col 0 0 ∷ col 0 1 ∷ col 0 2 ∷ []
 
-insert_is : command_of (understood office_schema insert_text) ≡ Insert 7 (Values insert_terms 4)
-unfolding understood everything office_schema
-insert_is = refl
+insert_is : InEach (λ s. command_of (understood s insert_text) ≡ Insert 7 (Values insert_terms 4))
+unfolding understood everything office_schema analyzed_schema
+insert_is = record { usual = refl; analyzed = refl }
 
-insert_plain : IsPlain (understood office_schema insert_text)
-unfolding understood everything office_schema
-insert_plain = (refl, refl)
+insert_plain : InEach (λ s. IsPlain (understood s insert_text))
+unfolding understood everything office_schema analyzed_schema
+insert_plain = record { usual = (refl, refl); analyzed = (refl, refl) }
 
 put : (row : FrozenRow) (db : Trees)
     → edited db (edit_of db frozen [] Chosen 0 (value_rows (stamped frozen (frozen_row row)) 4 1 insert_terms))
@@ -78,10 +78,13 @@ releases_columns = col 1 2 ∷ col 1 3 ∷ []
 abbrev releases_by : List (Term × Key)
 releases_by = (col 1 2, ascending) ∷ []
 
-releases_selects : (params : Row) → IsSelect office_schema releases_text 13 one_test releases_columns releases_by
-    (codes "number" ∷ codes "body" ∷ []) params
-unfolding understood everything office_schema
-releases_selects params = record { command = refl; listing = refl; plain = (refl, refl) }
+releases_selects : (params : Row) → InEach (λ s. IsSelect s releases_text 13 one_test releases_columns releases_by
+    (codes "number" ∷ codes "body" ∷ []) params)
+unfolding understood everything office_schema analyzed_schema
+releases_selects params = record {
+  usual = record { command = refl; listing = refl; plain = (refl, refl) };
+  analyzed = record { command = refl; listing = refl; plain = (refl, refl) };
+}
 
 releases_means : (net : List ℕ) → Means values 13 one_test releases_columns releases_by (Text net ∷ []) (is_of_net net)
     releases_shown releases_order
@@ -92,16 +95,16 @@ releases_means net = record {
 }
 
 pub releases_found : {X : Type 0} (rows_of : X → List Row) (net : List ℕ) (old new : State) (r : Result X Error)
-    → old.now.schema ≡ office_schema
+    → IsCurrentSchema old.now.schema
     → IfOk r (λ x. Shown releases_text (Text net ∷ []) old new (rows_of x))
     → IfOk r (λ x. IsSelected (is_of_net net) releases_shown releases_order (tables_of old.now.trees).frozen
     (rows_of x))
-releases_found rows_of net = finds office_schema releases_text 13 one_test releases_columns releases_by _
+releases_found rows_of net = finds_now releases_text 13 one_test releases_columns releases_by _
     (Text net ∷ []) (releases_selects (Text net ∷ [])) values (is_of_net net) releases_shown releases_order
     (releases_means net) rows_of
 
-pub releases_plain : (s : Schema) → s ≡ office_schema → IsPlain (understood s releases_text)
-releases_plain = plain_in releases_text (releases_selects []).plain
+pub releases_plain : (s : Schema) → IsCurrentSchema s → IsPlain (understood s releases_text)
+releases_plain s now = (in_each (releases_selects []) s now).plain
 
 -- ---- select_release_numbers
 
@@ -115,10 +118,13 @@ abbrev release_numbers_by : List (Term × Key)
 release_numbers_by = (col 1 2, ascending) ∷ []
 
 release_numbers_selects : (params : Row)
-    → IsSelect office_schema release_numbers_text 13 one_test release_numbers_columns release_numbers_by
-    (codes "number" ∷ []) params
-unfolding understood everything office_schema
-release_numbers_selects params = record { command = refl; listing = refl; plain = (refl, refl) }
+    → InEach (λ s. IsSelect s release_numbers_text 13 one_test release_numbers_columns release_numbers_by
+    (codes "number" ∷ []) params)
+unfolding understood everything office_schema analyzed_schema
+release_numbers_selects params = record {
+  usual = record { command = refl; listing = refl; plain = (refl, refl) };
+  analyzed = record { command = refl; listing = refl; plain = (refl, refl) };
+}
 
 release_numbers_means : (net : List ℕ)
     → Means values 13 one_test release_numbers_columns release_numbers_by (Text net ∷ []) (is_of_net net)
@@ -130,16 +136,16 @@ release_numbers_means net = record {
 }
 
 pub release_numbers_found : {X : Type 0} (rows_of : X → List Row) (net : List ℕ) (old new : State) (r : Result X Error)
-    → old.now.schema ≡ office_schema
+    → IsCurrentSchema old.now.schema
     → IfOk r (λ x. Shown release_numbers_text (Text net ∷ []) old new (rows_of x))
     → IfOk r (λ x. IsSelected (is_of_net net) release_numbers_shown release_numbers_order
     (tables_of old.now.trees).frozen (rows_of x))
-release_numbers_found rows_of net = finds office_schema release_numbers_text 13 one_test release_numbers_columns
+release_numbers_found rows_of net = finds_now release_numbers_text 13 one_test release_numbers_columns
     release_numbers_by _ (Text net ∷ []) (release_numbers_selects (Text net ∷ [])) values (is_of_net net)
     release_numbers_shown release_numbers_order (release_numbers_means net) rows_of
 
-pub release_numbers_plain : (s : Schema) → s ≡ office_schema → IsPlain (understood s release_numbers_text)
-release_numbers_plain = plain_in release_numbers_text (release_numbers_selects []).plain
+pub release_numbers_plain : (s : Schema) → IsCurrentSchema s → IsPlain (understood s release_numbers_text)
+release_numbers_plain s now = (in_each (release_numbers_selects []) s now).plain
 
 -- ---- select_release
 
@@ -152,10 +158,13 @@ release_columns = col 1 3 ∷ []
 abbrev release_by : List (Term × Key)
 release_by = (col 1 2, ascending) ∷ []
 
-release_selects : (params : Row) → IsSelect office_schema release_text 13 two_tests release_columns release_by
-    (codes "body" ∷ []) params
-unfolding understood everything office_schema
-release_selects params = record { command = refl; listing = refl; plain = (refl, refl) }
+release_selects : (params : Row) → InEach (λ s. IsSelect s release_text 13 two_tests release_columns release_by
+    (codes "body" ∷ []) params)
+unfolding understood everything office_schema analyzed_schema
+release_selects params = record {
+  usual = record { command = refl; listing = refl; plain = (refl, refl) };
+  analyzed = record { command = refl; listing = refl; plain = (refl, refl) };
+}
 
 release_means : (net : List ℕ) (number : ℕ)
     → Means values 13 two_tests release_columns release_by (Text net ∷ Int (pos number) ∷ [])
@@ -167,13 +176,13 @@ release_means net number = record {
 }
 
 pub release_found : {X : Type 0} (rows_of : X → List Row) (net : List ℕ) (number : ℕ) (old new : State)
-    (r : Result X Error) → old.now.schema ≡ office_schema
+    (r : Result X Error) → IsCurrentSchema old.now.schema
     → IfOk r (λ x. Shown release_text (Text net ∷ Int (pos number) ∷ []) old new (rows_of x))
     → IfOk r (λ x. IsSelected (has_net_and_number net number) release_shown release_order
     (tables_of old.now.trees).frozen (rows_of x))
-release_found rows_of net number = finds office_schema release_text 13 two_tests release_columns release_by _
+release_found rows_of net number = finds_now release_text 13 two_tests release_columns release_by _
     (Text net ∷ Int (pos number) ∷ []) (release_selects (Text net ∷ Int (pos number) ∷ [])) values
     (has_net_and_number net number) release_shown release_order (release_means net number) rows_of
 
-pub release_plain : (s : Schema) → s ≡ office_schema → IsPlain (understood s release_text)
-release_plain = plain_in release_text (release_selects []).plain
+pub release_plain : (s : Schema) → IsCurrentSchema s → IsPlain (understood s release_text)
+release_plain s now = (in_each (release_selects []) s now).plain

@@ -21,16 +21,16 @@ use Rattle.sqlite_tied.specs.Compute.{everything}
 use Rattle.sqlite.specs.Listing.{understood}
 use Rattle.sqlite.specs.State.{State, ExecutesInside, Shown}
 use Rattle.sqlite.proofs.Callers.{IsPlain, command_of}
-use Rattle.store_tables.specs.Schema.{office_schema}
+use Rattle.store_tables.specs.Schema.{IsCurrentSchema, analyzed_schema, office_schema}
 use Rattle.store_tables.specs.Tables.{tables_of, values, IsOffice}
 use Rattle.store_tables.specs.Statements.{Makes}
 use Rattle.store_tables.specs.Selected.{IsSelected}
 use Rattle.store_tables.proofs.Columns.{cast_null, cast_number, column_is}
 use Rattle.store_tables.proofs.Changing.{appends, makes, removes}
-use Rattle.store_tables.proofs.Keeping.{plain_in}
+use Rattle.store_tables.proofs.Current.{InEach, in_each}
 use Rattle.store_tables.proofs.TableIndices.{held, held_there, held_only}
 use Rattle.store_tables.proofs.Selecting.{query}
-use Rattle.store_tables.proofs.Finding.{ascending, IsSelect, Means, finds}
+use Rattle.store_tables.proofs.Finding.{ascending, IsSelect, Means, finds_now}
 use Rattle.store_statements.specs.Rows.{has_net_and_number, has_number_between, held_row, is_of_net}
 use Rattle.store_statements.specs.Shown.{held_order, held_shown}
 use Rattle.store_statements.proofs.Requested.{net_requested, numbered_requested, one_test, range_requested, range_tests}
@@ -44,13 +44,13 @@ insert_text = codes "INSERT INTO held VALUES (?1, ?2)"
 abbrev insert_terms : List Term
 insert_terms = lit Null ∷ col 0 0 ∷ col 0 1 ∷ []
 
-insert_is : command_of (understood office_schema insert_text) ≡ Insert 4 (Values insert_terms 3)
-unfolding understood everything office_schema
-insert_is = refl
+insert_is : InEach (λ s. command_of (understood s insert_text) ≡ Insert 4 (Values insert_terms 3))
+unfolding understood everything office_schema analyzed_schema
+insert_is = record { usual = refl; analyzed = refl }
 
-insert_plain : IsPlain (understood office_schema insert_text)
-unfolding understood everything office_schema
-insert_plain = (refl, refl)
+insert_plain : InEach (λ s. IsPlain (understood s insert_text))
+unfolding understood everything office_schema analyzed_schema
+insert_plain = record { usual = (refl, refl); analyzed = (refl, refl) }
 
 put : (net : List ℕ) (number : ℕ) (db : Trees)
     → edited db (edit_of db held [] Chosen 0 (value_rows (stamped held (held_row net number)) 3 1 insert_terms))
@@ -72,14 +72,14 @@ inserts net number old new r office ended ran =
 abbrev delete_held_text : List ℕ
 delete_held_text = codes "DELETE FROM held WHERE net = ?1 AND number = ?2"
 
-delete_held_is : (params : Row) → command_of (understood office_schema delete_held_text)
-    ≡ Delete 4 (record { lets = []; body = query 8 two_tests (col 1 0 ∷ []) [] params })
-unfolding understood everything office_schema
-delete_held_is params = refl
+delete_held_is : (params : Row) → InEach (λ s. command_of (understood s delete_held_text)
+    ≡ Delete 4 (record { lets = []; body = query 8 two_tests (col 1 0 ∷ []) [] params }))
+unfolding understood everything office_schema analyzed_schema
+delete_held_is params = record { usual = refl; analyzed = refl }
 
-delete_held_plain : IsPlain (understood office_schema delete_held_text)
-unfolding understood everything office_schema
-delete_held_plain = (refl, refl)
+delete_held_plain : InEach (λ s. IsPlain (understood s delete_held_text))
+unfolding understood everything office_schema analyzed_schema
+delete_held_plain = record { usual = (refl, refl); analyzed = (refl, refl) }
 
 pub delete_helds : (net : List ℕ) (number : ℕ) (old new : State) (r : Result ℕ Error) → IsOffice old.now
     → (old.in_transaction ≡ false → r ≡ Err (SqliteFailure TransactionState))
@@ -104,10 +104,13 @@ held_columns = col 1 2 ∷ []
 abbrev held_by : List (Term × Key)
 held_by = (col 1 2, ascending) ∷ []
 
-held_selects : (params : Row) → IsSelect office_schema held_text 8 one_test held_columns held_by (codes "number" ∷ [])
-    params
-unfolding understood everything office_schema
-held_selects params = record { command = refl; listing = refl; plain = (refl, refl) }
+held_selects : (params : Row) → InEach (λ s. IsSelect s held_text 8 one_test held_columns held_by (codes "number" ∷ [])
+    params)
+unfolding understood everything office_schema analyzed_schema
+held_selects params = record {
+  usual = record { command = refl; listing = refl; plain = (refl, refl) };
+  analyzed = record { command = refl; listing = refl; plain = (refl, refl) };
+}
 
 held_means : (net : List ℕ) → Means values 8 one_test held_columns held_by (Text net ∷ []) (is_of_net net) held_shown
     held_order
@@ -118,24 +121,27 @@ held_means net = record {
 }
 
 pub held_found : {X : Type 0} (rows_of : X → List Row) (net : List ℕ) (old new : State) (r : Result X Error)
-    → old.now.schema ≡ office_schema
+    → IsCurrentSchema old.now.schema
     → IfOk r (λ x. Shown held_text (Text net ∷ []) old new (rows_of x))
     → IfOk r (λ x. IsSelected (is_of_net net) held_shown held_order (tables_of old.now.trees).held (rows_of x))
-held_found rows_of net = finds office_schema held_text 8 one_test held_columns held_by _ (Text net ∷ [])
+held_found rows_of net = finds_now held_text 8 one_test held_columns held_by _ (Text net ∷ [])
     (held_selects (Text net ∷ [])) values (is_of_net net) held_shown held_order (held_means net) rows_of
 
-pub held_plain : (s : Schema) → s ≡ office_schema → IsPlain (understood s held_text)
-held_plain = plain_in held_text (held_selects []).plain
+pub held_plain : (s : Schema) → IsCurrentSchema s → IsPlain (understood s held_text)
+held_plain s now = (in_each (held_selects []) s now).plain
 
 -- ---- select_held_numbers
 
 abbrev pub held_numbers_text : List ℕ
 held_numbers_text = codes "SELECT number FROM held WHERE net = ?1 AND number >= ?2 AND number <= ?3 ORDER BY number"
 
-held_numbers_selects : (params : Row) → IsSelect office_schema held_numbers_text 8 range_tests held_columns held_by
-    (codes "number" ∷ []) params
-unfolding understood everything office_schema
-held_numbers_selects params = record { command = refl; listing = refl; plain = (refl, refl) }
+held_numbers_selects : (params : Row) → InEach (λ s. IsSelect s held_numbers_text 8 range_tests held_columns held_by
+    (codes "number" ∷ []) params)
+unfolding understood everything office_schema analyzed_schema
+held_numbers_selects params = record {
+  usual = record { command = refl; listing = refl; plain = (refl, refl) };
+  analyzed = record { command = refl; listing = refl; plain = (refl, refl) };
+}
 
 held_numbers_means : (net : List ℕ) (first last : ℕ)
     → Means values 8 range_tests held_columns held_by (Text net ∷ Int (pos first) ∷ Int (pos last) ∷ [])
@@ -147,14 +153,14 @@ held_numbers_means net first last = record {
 }
 
 pub held_numbers_found : {X : Type 0} (rows_of : X → List Row) (net : List ℕ) (first last : ℕ) (old new : State)
-    (r : Result X Error) → old.now.schema ≡ office_schema
+    (r : Result X Error) → IsCurrentSchema old.now.schema
     → IfOk r (λ x. Shown held_numbers_text (Text net ∷ Int (pos first) ∷ Int (pos last) ∷ []) old new (rows_of x))
     → IfOk r (λ x. IsSelected (has_number_between net first last) held_shown held_order (tables_of old.now.trees).held
     (rows_of x))
-held_numbers_found rows_of net first last = finds office_schema held_numbers_text 8 range_tests held_columns held_by _
+held_numbers_found rows_of net first last = finds_now held_numbers_text 8 range_tests held_columns held_by _
     (Text net ∷ Int (pos first) ∷ Int (pos last) ∷ [])
     (held_numbers_selects (Text net ∷ Int (pos first) ∷ Int (pos last) ∷ [])) values (has_number_between net first last)
     held_shown held_order (held_numbers_means net first last) rows_of
 
-pub held_numbers_plain : (s : Schema) → s ≡ office_schema → IsPlain (understood s held_numbers_text)
-held_numbers_plain = plain_in held_numbers_text (held_numbers_selects []).plain
+pub held_numbers_plain : (s : Schema) → IsCurrentSchema s → IsPlain (understood s held_numbers_text)
+held_numbers_plain s now = (in_each (held_numbers_selects []) s now).plain

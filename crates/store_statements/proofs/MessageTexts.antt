@@ -21,16 +21,16 @@ use Rattle.sqlite_tied.specs.Compute.{everything}
 use Rattle.sqlite.specs.Listing.{understood}
 use Rattle.sqlite.specs.State.{State, Executes, ExecutesInside, Shown}
 use Rattle.sqlite.proofs.Callers.{IsPlain, command_of}
-use Rattle.store_tables.specs.Schema.{office_schema}
+use Rattle.store_tables.specs.Schema.{IsCurrentSchema, analyzed_schema, office_schema}
 use Rattle.store_tables.specs.Tables.{tables_of, values, IsOffice}
 use Rattle.store_tables.specs.Statements.{Makes}
 use Rattle.store_tables.specs.Selected.{IsSelected}
 use Rattle.store_tables.proofs.Columns.{cast_null, cast_number, column_is}
-use Rattle.store_tables.proofs.Changing.{appends, makes, removes}
-use Rattle.store_tables.proofs.Keeping.{plain_in}
+use Rattle.store_tables.proofs.Changing.{IsOfficeAs, appends, makes, removes}
+use Rattle.store_tables.proofs.Current.{InEach, in_each}
 use Rattle.store_tables.proofs.TableIndices.{message, message_there, message_only}
 use Rattle.store_tables.proofs.Selecting.{query}
-use Rattle.store_tables.proofs.Finding.{ascending, IsSelect, Means, finds}
+use Rattle.store_tables.proofs.Finding.{ascending, IsSelect, Means, finds_now}
 use Rattle.store_statements.specs.declared.row.BodyRow.{BodyRow}
 use Rattle.store_statements.specs.Rows.{has_net_and_number, is_any, is_of_net, message_row}
 use Rattle.store_statements.specs.Shown.{messages_order, messages_shown}
@@ -45,13 +45,13 @@ insert_text = codes "INSERT INTO message VALUES (?1, ?2, ?3, ?4, ?5)"
 abbrev insert_terms : List Term
 insert_terms = lit Null ∷ col 0 0 ∷ col 0 1 ∷ col 0 2 ∷ col 0 3 ∷ col 0 4 ∷ []
 
-insert_is : command_of (understood office_schema insert_text) ≡ Insert 2 (Values insert_terms 6)
-unfolding understood everything office_schema
-insert_is = refl
+insert_is : InEach (λ s. command_of (understood s insert_text) ≡ Insert 2 (Values insert_terms 6))
+unfolding understood everything office_schema analyzed_schema
+insert_is = record { usual = refl; analyzed = refl }
 
-insert_plain : IsPlain (understood office_schema insert_text)
-unfolding understood everything office_schema
-insert_plain = (refl, refl)
+insert_plain : InEach (λ s. IsPlain (understood s insert_text))
+unfolding understood everything office_schema analyzed_schema
+insert_plain = record { usual = (refl, refl); analyzed = (refl, refl) }
 
 put : (row : BodyRow) (db : Trees)
     → edited db (edit_of db message [] Chosen 0 (value_rows (stamped message (message_row row)) 6 1 insert_terms))
@@ -73,14 +73,14 @@ inserts row old new r office ended ran =
 abbrev delete_message_text : List ℕ
 delete_message_text = codes "DELETE FROM message WHERE net = ?1 AND number = ?2"
 
-delete_message_is : (params : Row) → command_of (understood office_schema delete_message_text)
-    ≡ Delete 2 (record { lets = []; body = query 3 two_tests (col 1 0 ∷ []) [] params })
-unfolding understood everything office_schema
-delete_message_is params = refl
+delete_message_is : (params : Row) → InEach (λ s. command_of (understood s delete_message_text)
+    ≡ Delete 2 (record { lets = []; body = query 3 two_tests (col 1 0 ∷ []) [] params }))
+unfolding understood everything office_schema analyzed_schema
+delete_message_is params = record { usual = refl; analyzed = refl }
 
-delete_message_plain : IsPlain (understood office_schema delete_message_text)
-unfolding understood everything office_schema
-delete_message_plain = (refl, refl)
+delete_message_plain : InEach (λ s. IsPlain (understood s delete_message_text))
+unfolding understood everything office_schema analyzed_schema
+delete_message_plain = record { usual = (refl, refl); analyzed = (refl, refl) }
 
 pub delete_messages : (net : List ℕ) (number : ℕ) (old new : State) (r : Result ℕ Error) → IsOffice old.now
     → (old.in_transaction ≡ false → r ≡ Err (SqliteFailure TransactionState))
@@ -100,14 +100,14 @@ delete_messages net number old new r office ended ran =
 abbrev clear_messages_text : List ℕ
 clear_messages_text = codes "DELETE FROM message"
 
-clear_messages_is : command_of (understood office_schema clear_messages_text)
-    ≡ Delete 2 (record { lets = []; body = query 3 [] (col 1 0 ∷ []) [] [] })
-unfolding understood everything office_schema
-clear_messages_is = refl
+clear_messages_is : InEach (λ s. command_of (understood s clear_messages_text)
+    ≡ Delete 2 (record { lets = []; body = query 3 [] (col 1 0 ∷ []) [] [] }))
+unfolding understood everything office_schema analyzed_schema
+clear_messages_is = record { usual = refl; analyzed = refl }
 
-clear_messages_plain : IsPlain (understood office_schema clear_messages_text)
-unfolding understood everything office_schema
-clear_messages_plain = (refl, refl)
+clear_messages_plain : InEach (λ s. IsPlain (understood s clear_messages_text))
+unfolding understood everything office_schema analyzed_schema
+clear_messages_plain = record { usual = (refl, refl); analyzed = (refl, refl) }
 
 pub clears : (old new : State) (r : Result ℕ Error) → IsOffice old.now
     → (old.in_transaction ≡ false → r ≡ Err (SqliteFailure TransactionState))
@@ -118,7 +118,7 @@ unfolding office_schema
 clears old new r office ended ran = makes clear_messages_text [] _ _ old new r does ended ran
   where
     does : (count : ℕ) → Executes clear_messages_text [] old new (Ok count)
-        → IsOffice new.now × (tables_of new.now.trees ≡ record (tables_of old.now.trees) { message = [] })
+        → IsOfficeAs old new × (tables_of new.now.trees ≡ record (tables_of old.now.trees) { message = [] })
         × (count ≡ length (tables_of old.now.trees).message)
     does count h =
         let rows = (tables_of old.now.trees).message in
@@ -141,10 +141,13 @@ messages_columns = col 1 4 ∷ col 1 5 ∷ []
 abbrev messages_by : List (Term × Key)
 messages_by = (col 1 2, ascending) ∷ []
 
-messages_selects : (params : Row) → IsSelect office_schema messages_text 3 one_test messages_columns messages_by
-    (codes "owner" ∷ codes "body" ∷ []) params
-unfolding understood everything office_schema
-messages_selects params = record { command = refl; listing = refl; plain = (refl, refl) }
+messages_selects : (params : Row) → InEach (λ s. IsSelect s messages_text 3 one_test messages_columns messages_by
+    (codes "owner" ∷ codes "body" ∷ []) params)
+unfolding understood everything office_schema analyzed_schema
+messages_selects params = record {
+  usual = record { command = refl; listing = refl; plain = (refl, refl) };
+  analyzed = record { command = refl; listing = refl; plain = (refl, refl) };
+}
 
 messages_means : (net : List ℕ) → Means values 3 one_test messages_columns messages_by (Text net ∷ []) (is_of_net net)
     messages_shown messages_order
@@ -155,12 +158,12 @@ messages_means net = record {
 }
 
 pub messages_found : {X : Type 0} (rows_of : X → List Row) (net : List ℕ) (old new : State) (r : Result X Error)
-    → old.now.schema ≡ office_schema
+    → IsCurrentSchema old.now.schema
     → IfOk r (λ x. Shown messages_text (Text net ∷ []) old new (rows_of x))
     → IfOk r (λ x. IsSelected (is_of_net net) messages_shown messages_order (tables_of old.now.trees).message
     (rows_of x))
-messages_found rows_of net = finds office_schema messages_text 3 one_test messages_columns messages_by _ (Text net ∷ [])
+messages_found rows_of net = finds_now messages_text 3 one_test messages_columns messages_by _ (Text net ∷ [])
     (messages_selects (Text net ∷ [])) values (is_of_net net) messages_shown messages_order (messages_means net) rows_of
 
-pub messages_plain : (s : Schema) → s ≡ office_schema → IsPlain (understood s messages_text)
-messages_plain = plain_in messages_text (messages_selects []).plain
+pub messages_plain : (s : Schema) → IsCurrentSchema s → IsPlain (understood s messages_text)
+messages_plain s now = (in_each (messages_selects []) s now).plain

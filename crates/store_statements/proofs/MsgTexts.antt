@@ -21,16 +21,16 @@ use Rattle.sqlite_tied.specs.Compute.{everything}
 use Rattle.sqlite.specs.Listing.{understood}
 use Rattle.sqlite.specs.State.{State, ExecutesInside, Shown}
 use Rattle.sqlite.proofs.Callers.{IsPlain, command_of}
-use Rattle.store_tables.specs.Schema.{office_schema}
+use Rattle.store_tables.specs.Schema.{IsCurrentSchema, analyzed_schema, office_schema}
 use Rattle.store_tables.specs.Tables.{tables_of, values, IsOffice}
 use Rattle.store_tables.specs.Statements.{Makes}
 use Rattle.store_tables.specs.Selected.{IsSelected}
 use Rattle.store_tables.proofs.Columns.{cast_null, cast_number, column_is}
 use Rattle.store_tables.proofs.Changing.{appends, makes, removes}
-use Rattle.store_tables.proofs.Keeping.{plain_in}
+use Rattle.store_tables.proofs.Current.{InEach, in_each}
 use Rattle.store_tables.proofs.TableIndices.{msg, msg_there, msg_only}
 use Rattle.store_tables.proofs.Selecting.{query}
-use Rattle.store_tables.proofs.Finding.{ascending, IsSelect, Means, finds}
+use Rattle.store_tables.proofs.Finding.{ascending, IsSelect, Means, finds_now}
 use Rattle.store_statements.specs.declared.row.LiveRow.{LiveRow}
 use Rattle.store_statements.specs.Rows.{has_net_and_name, has_net_and_number, has_number_between, has_rowid_above}
 use Rattle.store_statements.specs.Rows.{has_rowid_below, is_of_net, msg_row}
@@ -50,13 +50,13 @@ insert_text = codes "INSERT INTO msg VALUES (?1, ?2, ?3, ?4, ?5, ?6, ?7)"
 abbrev insert_terms : List Term
 insert_terms = lit Null ∷ col 0 0 ∷ col 0 1 ∷ col 0 2 ∷ col 0 3 ∷ col 0 4 ∷ col 0 5 ∷ col 0 6 ∷ []
 
-insert_is : command_of (understood office_schema insert_text) ≡ Insert 9 (Values insert_terms 8)
-unfolding understood everything office_schema
-insert_is = refl
+insert_is : InEach (λ s. command_of (understood s insert_text) ≡ Insert 9 (Values insert_terms 8))
+unfolding understood everything office_schema analyzed_schema
+insert_is = record { usual = refl; analyzed = refl }
 
-insert_plain : IsPlain (understood office_schema insert_text)
-unfolding understood everything office_schema
-insert_plain = (refl, refl)
+insert_plain : InEach (λ s. IsPlain (understood s insert_text))
+unfolding understood everything office_schema analyzed_schema
+insert_plain = record { usual = (refl, refl); analyzed = (refl, refl) }
 
 put : (row : LiveRow) (db : Trees)
     → edited db (edit_of db msg [] Chosen 0 (value_rows (stamped msg (msg_row row)) 8 1 insert_terms))
@@ -78,14 +78,14 @@ inserts row old new r office ended ran =
 abbrev delete_text : List ℕ
 delete_text = codes "DELETE FROM msg WHERE net = ?1 AND number = ?2"
 
-delete_is : (params : Row) → command_of (understood office_schema delete_text)
-    ≡ Delete 9 (record { lets = []; body = query 17 two_tests (col 1 0 ∷ []) [] params })
-unfolding understood everything office_schema
-delete_is params = refl
+delete_is : (params : Row) → InEach (λ s. command_of (understood s delete_text)
+    ≡ Delete 9 (record { lets = []; body = query 17 two_tests (col 1 0 ∷ []) [] params }))
+unfolding understood everything office_schema analyzed_schema
+delete_is params = record { usual = refl; analyzed = refl }
 
-delete_plain : IsPlain (understood office_schema delete_text)
-unfolding understood everything office_schema
-delete_plain = (refl, refl)
+delete_plain : InEach (λ s. IsPlain (understood s delete_text))
+unfolding understood everything office_schema analyzed_schema
+delete_plain = record { usual = (refl, refl); analyzed = (refl, refl) }
 
 pub deletes : (net : List ℕ) (number : ℕ) (old new : State) (r : Result ℕ Error) → IsOffice old.now
     → (old.in_transaction ≡ false → r ≡ Err (SqliteFailure TransactionState))
@@ -110,10 +110,13 @@ msg_named_columns = col 1 2 ∷ col 1 3 ∷ col 1 4 ∷ col 1 5 ∷ col 1 6 ∷ 
 abbrev msg_named_by : List (Term × Key)
 msg_named_by = (col 1 2, ascending) ∷ []
 
-msg_named_selects : (params : Row) → IsSelect office_schema msg_named_text 17 name_tests msg_named_columns msg_named_by
-    (codes "number" ∷ codes "name" ∷ codes "owner" ∷ codes "length" ∷ codes "sender" ∷ codes "comment" ∷ []) params
-unfolding understood everything office_schema
-msg_named_selects params = record { command = refl; listing = refl; plain = (refl, refl) }
+msg_named_selects : (params : Row) → InEach (λ s. IsSelect s msg_named_text 17 name_tests msg_named_columns msg_named_by
+    (codes "number" ∷ codes "name" ∷ codes "owner" ∷ codes "length" ∷ codes "sender" ∷ codes "comment" ∷ []) params)
+unfolding understood everything office_schema analyzed_schema
+msg_named_selects params = record {
+  usual = record { command = refl; listing = refl; plain = (refl, refl) };
+  analyzed = record { command = refl; listing = refl; plain = (refl, refl) };
+}
 
 msg_named_means : (net : List ℕ) (name : List ℕ)
     → Means values 17 name_tests msg_named_columns msg_named_by (Text net ∷ Text name ∷ []) (has_net_and_name net name)
@@ -125,16 +128,16 @@ msg_named_means net name = record {
 }
 
 pub msg_named_found : {X : Type 0} (rows_of : X → List Row) (net : List ℕ) (name : List ℕ) (old new : State)
-    (r : Result X Error) → old.now.schema ≡ office_schema
+    (r : Result X Error) → IsCurrentSchema old.now.schema
     → IfOk r (λ x. Shown msg_named_text (Text net ∷ Text name ∷ []) old new (rows_of x))
     → IfOk r (λ x. IsSelected (has_net_and_name net name) msg_named_shown msg_named_order
     (tables_of old.now.trees).msg (rows_of x))
-msg_named_found rows_of net name = finds office_schema msg_named_text 17 name_tests msg_named_columns msg_named_by _
+msg_named_found rows_of net name = finds_now msg_named_text 17 name_tests msg_named_columns msg_named_by _
     (Text net ∷ Text name ∷ []) (msg_named_selects (Text net ∷ Text name ∷ [])) values (has_net_and_name net name)
     msg_named_shown msg_named_order (msg_named_means net name) rows_of
 
-pub msg_named_plain : (s : Schema) → s ≡ office_schema → IsPlain (understood s msg_named_text)
-msg_named_plain = plain_in msg_named_text (msg_named_selects []).plain
+pub msg_named_plain : (s : Schema) → IsCurrentSchema s → IsPlain (understood s msg_named_text)
+msg_named_plain s now = (in_each (msg_named_selects []) s now).plain
 
 -- ---- select_msgs
 
@@ -148,10 +151,13 @@ abbrev msgs_by : List (Term × Key)
 msgs_by = (col 1 2, ascending) ∷ []
 
 msgs_selects : (params : Row)
-    → IsSelect office_schema msgs_text 17 one_test msgs_columns msgs_by
-    (codes "number" ∷ codes "name" ∷ codes "owner" ∷ codes "length" ∷ codes "sender" ∷ codes "comment" ∷ []) params
-unfolding understood everything office_schema
-msgs_selects params = record { command = refl; listing = refl; plain = (refl, refl) }
+    → InEach (λ s. IsSelect s msgs_text 17 one_test msgs_columns msgs_by
+    (codes "number" ∷ codes "name" ∷ codes "owner" ∷ codes "length" ∷ codes "sender" ∷ codes "comment" ∷ []) params)
+unfolding understood everything office_schema analyzed_schema
+msgs_selects params = record {
+  usual = record { command = refl; listing = refl; plain = (refl, refl) };
+  analyzed = record { command = refl; listing = refl; plain = (refl, refl) };
+}
 
 msgs_means : (net : List ℕ) → Means values 17 one_test msgs_columns msgs_by (Text net ∷ []) (is_of_net net) msgs_shown
     msgs_order
@@ -162,71 +168,82 @@ msgs_means net = record {
 }
 
 pub msgs_found : {X : Type 0} (rows_of : X → List Row) (net : List ℕ) (old new : State) (r : Result X Error)
-    → old.now.schema ≡ office_schema
+    → IsCurrentSchema old.now.schema
     → IfOk r (λ x. Shown msgs_text (Text net ∷ []) old new (rows_of x))
     → IfOk r (λ x. IsSelected (is_of_net net) msgs_shown msgs_order (tables_of old.now.trees).msg (rows_of x))
-msgs_found rows_of net = finds office_schema msgs_text 17 one_test msgs_columns msgs_by _ (Text net ∷ [])
+msgs_found rows_of net = finds_now msgs_text 17 one_test msgs_columns msgs_by _ (Text net ∷ [])
     (msgs_selects (Text net ∷ [])) values (is_of_net net) msgs_shown msgs_order (msgs_means net) rows_of
 
-pub msgs_plain : (s : Schema) → s ≡ office_schema → IsPlain (understood s msgs_text)
-msgs_plain = plain_in msgs_text (msgs_selects []).plain
+pub msgs_plain : (s : Schema) → IsCurrentSchema s → IsPlain (understood s msgs_text)
+msgs_plain s now = (in_each (msgs_selects []) s now).plain
 
 -- ---- count_msgs
 
 abbrev pub count_text : List ℕ
 count_text = codes "SELECT count(*) FROM msg WHERE net = ?1"
 
-count_selects : (params : Row) → IsCountSelect count_text 17 one_test params
-unfolding understood everything office_schema
-count_selects params = record { command = refl; listing = refl; plain = (refl, refl) }
+count_selects : (params : Row) → InEach (λ s. IsCountSelect s count_text 17 one_test params)
+unfolding understood everything office_schema analyzed_schema
+count_selects params = record {
+  usual = record { command = refl; listing = refl; plain = (refl, refl) };
+  analyzed = record { command = refl; listing = refl; plain = (refl, refl) };
+}
 
 pub counted_msgs : {X : Type 0} (rows_of : X → List Row) (net : List ℕ) (old new : State) (r : Result X Error)
-    → old.now.schema ≡ office_schema
+    → IsCurrentSchema old.now.schema
     → IfOk r (λ x. Shown count_text (Text net ∷ []) old new (rows_of x))
     → IfOk r (λ x. rows_of x ≡ (count (length (filter (is_of_net net) (tables_of old.now.trees).msg)) ∷ []) ∷ [])
 counted_msgs rows_of net = counts count_text 17 one_test (Text net ∷ []) (count_selects (Text net ∷ [])) (is_of_net net)
     (net_requested net) rows_of
 
-pub count_plain : (s : Schema) → s ≡ office_schema → IsPlain (understood s count_text)
-count_plain = plain_in count_text (count_selects []).plain
+pub count_plain : (s : Schema) → IsCurrentSchema s → IsPlain (understood s count_text)
+count_plain s now = (in_each (count_selects []) s now).plain
 
 -- ---- select_msg_above, select_msg_below
 
 abbrev pub above_text : List ℕ
 above_text = codes "SELECT number FROM msg WHERE rowid > ?1 LIMIT 1"
 
-above_selects : (params : Row) → IsAnySelect above_text 17 above_test (col 1 2 ∷ []) (codes "number" ∷ []) params
-unfolding understood everything office_schema
-above_selects params = record { command = refl; listing = refl; plain = (refl, refl) }
+above_selects : (params : Row)
+    → InEach (λ s. IsAnySelect s above_text 17 above_test (col 1 2 ∷ []) (codes "number" ∷ []) params)
+unfolding understood everything office_schema analyzed_schema
+above_selects params = record {
+  usual = record { command = refl; listing = refl; plain = (refl, refl) };
+  analyzed = record { command = refl; listing = refl; plain = (refl, refl) };
+}
 
 pub above_found : {X : Type 0} (rows_of : X → List Row) (number : ℕ) (old new : State) (r : Result X Error)
-    → old.now.schema ≡ office_schema
+    → IsCurrentSchema old.now.schema
     → IfOk r (λ x. Shown above_text (Int (pos number) ∷ []) old new (rows_of x))
     → IfOk r (λ x. length (rows_of x) ≡ min 1 (length (filter (has_rowid_above number) (old.now.trees 17))))
 above_found rows_of number =
     shows_any above_text 17 above_test (col 1 2 ∷ []) (codes "number" ∷ []) (Int (pos number) ∷ [])
     (above_selects (Int (pos number) ∷ [])) (has_rowid_above number) (above_requested number) rows_of
 
-pub above_plain : (s : Schema) → s ≡ office_schema → IsPlain (understood s above_text)
-above_plain = plain_in above_text (above_selects []).plain
+pub above_plain : (s : Schema) → IsCurrentSchema s → IsPlain (understood s above_text)
+above_plain s now = (in_each (above_selects []) s now).plain
 
 abbrev pub below_text : List ℕ
 below_text = codes "SELECT number FROM msg WHERE rowid < ?1 LIMIT 1"
 
-below_selects : (params : Row) → IsAnySelect below_text 17 below_test (col 1 2 ∷ []) (codes "number" ∷ []) params
-unfolding understood everything office_schema
-below_selects params = record { command = refl; listing = refl; plain = (refl, refl) }
+below_selects : (params : Row)
+    → InEach (λ s. IsAnySelect s below_text 17 below_test (col 1 2 ∷ []) (codes "number" ∷ []) params)
+unfolding understood everything office_schema analyzed_schema
+below_selects params = record {
+  usual = record { command = refl; listing = refl; plain = (refl, refl) };
+  analyzed = record { command = refl; listing = refl; plain = (refl, refl) };
+}
 
 pub below_found : {X : Type 0} (rows_of : X → List Row) (number : ℕ) (old new : State) (r : Result X Error)
-    → old.now.schema ≡ office_schema
+    → IsCurrentSchema old.now.schema
     → IfOk r (λ x. Shown below_text (Int (pos number) ∷ []) old new (rows_of x))
     → IfOk r (λ x. length (rows_of x) ≡ min 1 (length (filter (has_rowid_below number) (old.now.trees 17))))
 below_found rows_of number =
     shows_any below_text 17 below_test (col 1 2 ∷ []) (codes "number" ∷ []) (Int (pos number) ∷ [])
     (below_selects (Int (pos number) ∷ [])) (has_rowid_below number) (below_requested number) rows_of
 
-pub below_plain : (s : Schema) → s ≡ office_schema → IsPlain (understood s below_text)
-below_plain = plain_in below_text (below_selects []).plain
+pub below_plain : (s : Schema) → IsCurrentSchema s → IsPlain (understood s below_text)
+below_plain s now = (in_each (below_selects []) s now).plain
 
 -- ---- select_msg_numbers
 
@@ -234,10 +251,13 @@ abbrev pub msg_numbers_text : List ℕ
 msg_numbers_text = codes "SELECT number FROM msg WHERE net = ?1 AND number >= ?2 AND number <= ?3 ORDER BY number"
 
 msg_numbers_selects : (params : Row)
-    → IsSelect office_schema msg_numbers_text 17 range_tests (col 1 2 ∷ []) ((col 1 2, ascending) ∷ [])
-    (codes "number" ∷ []) params
-unfolding understood everything office_schema
-msg_numbers_selects params = record { command = refl; listing = refl; plain = (refl, refl) }
+    → InEach (λ s. IsSelect s msg_numbers_text 17 range_tests (col 1 2 ∷ []) ((col 1 2, ascending) ∷ [])
+    (codes "number" ∷ []) params)
+unfolding understood everything office_schema analyzed_schema
+msg_numbers_selects params = record {
+  usual = record { command = refl; listing = refl; plain = (refl, refl) };
+  analyzed = record { command = refl; listing = refl; plain = (refl, refl) };
+}
 
 msg_numbers_means : (net : List ℕ) (first last : ℕ)
     → Means values 17 range_tests (col 1 2 ∷ []) ((col 1 2, ascending) ∷ [])
@@ -250,15 +270,15 @@ msg_numbers_means net first last = record {
 }
 
 pub msg_numbers_found : {X : Type 0} (rows_of : X → List Row) (net : List ℕ) (first last : ℕ) (old new : State)
-    (r : Result X Error) → old.now.schema ≡ office_schema
+    (r : Result X Error) → IsCurrentSchema old.now.schema
     → IfOk r (λ x. Shown msg_numbers_text (Text net ∷ Int (pos first) ∷ Int (pos last) ∷ []) old new (rows_of x))
     → IfOk r (λ x. IsSelected (has_number_between net first last) msg_numbers_shown msg_numbers_order
     (tables_of old.now.trees).msg (rows_of x))
 msg_numbers_found rows_of net first last =
-    finds office_schema msg_numbers_text 17 range_tests (col 1 2 ∷ []) ((col 1 2, ascending) ∷ []) _
+    finds_now msg_numbers_text 17 range_tests (col 1 2 ∷ []) ((col 1 2, ascending) ∷ []) _
     (Text net ∷ Int (pos first) ∷ Int (pos last) ∷ [])
     (msg_numbers_selects (Text net ∷ Int (pos first) ∷ Int (pos last) ∷ [])) values (has_number_between net first last)
     msg_numbers_shown msg_numbers_order (msg_numbers_means net first last) rows_of
 
-pub msg_numbers_plain : (s : Schema) → s ≡ office_schema → IsPlain (understood s msg_numbers_text)
-msg_numbers_plain = plain_in msg_numbers_text (msg_numbers_selects []).plain
+pub msg_numbers_plain : (s : Schema) → IsCurrentSchema s → IsPlain (understood s msg_numbers_text)
+msg_numbers_plain s now = (in_each (msg_numbers_selects []) s now).plain

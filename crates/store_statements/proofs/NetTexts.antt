@@ -21,16 +21,16 @@ use Rattle.sqlite_tied.specs.Compute.{everything}
 use Rattle.sqlite.specs.Listing.{understood}
 use Rattle.sqlite.specs.State.{State, ExecutesInside, Shown}
 use Rattle.sqlite.proofs.Callers.{IsPlain, command_of}
-use Rattle.store_tables.specs.Schema.{office_schema}
+use Rattle.store_tables.specs.Schema.{IsCurrentSchema, analyzed_schema, office_schema}
 use Rattle.store_tables.specs.Tables.{tables_of, values, IsOffice}
 use Rattle.store_tables.specs.Statements.{Makes}
 use Rattle.store_tables.specs.Selected.{IsSelected}
 use Rattle.store_tables.proofs.Columns.{cast_null, cast_number, column_is}
 use Rattle.store_tables.proofs.Changing.{appends, makes, removes}
-use Rattle.store_tables.proofs.Keeping.{plain_in}
+use Rattle.store_tables.proofs.Current.{InEach, in_each}
 use Rattle.store_tables.proofs.TableIndices.{net, net_there, net_only}
 use Rattle.store_tables.proofs.Selecting.{query}
-use Rattle.store_tables.proofs.Finding.{ascending, IsSelect, Means, finds}
+use Rattle.store_tables.proofs.Finding.{ascending, IsSelect, Means, finds_now}
 use Rattle.store_statements.specs.declared.row.NetRow.{NetRow}
 use Rattle.store_statements.specs.Rows.{is_any, is_of_net, net_row}
 use Rattle.store_statements.specs.Shown.{net_names_order, net_names_shown, net_order, net_shown}
@@ -44,13 +44,13 @@ insert_text = codes "INSERT INTO net VALUES (?1, ?2, ?3, ?4, ?5, ?6)"
 abbrev insert_terms : List Term
 insert_terms = lit Null ∷ col 0 0 ∷ col 0 1 ∷ col 0 2 ∷ col 0 3 ∷ col 0 4 ∷ col 0 5 ∷ []
 
-insert_is : command_of (understood office_schema insert_text) ≡ Insert 1 (Values insert_terms 7)
-unfolding understood everything office_schema
-insert_is = refl
+insert_is : InEach (λ s. command_of (understood s insert_text) ≡ Insert 1 (Values insert_terms 7))
+unfolding understood everything office_schema analyzed_schema
+insert_is = record { usual = refl; analyzed = refl }
 
-insert_plain : IsPlain (understood office_schema insert_text)
-unfolding understood everything office_schema
-insert_plain = (refl, refl)
+insert_plain : InEach (λ s. IsPlain (understood s insert_text))
+unfolding understood everything office_schema analyzed_schema
+insert_plain = record { usual = (refl, refl); analyzed = (refl, refl) }
 
 put : (row : NetRow) (db : Trees)
     → edited db (edit_of db net [] Chosen 0 (value_rows (stamped net (net_row row)) 7 1 insert_terms))
@@ -72,14 +72,14 @@ inserts row old new r office ended ran =
 abbrev delete_net_text : List ℕ
 delete_net_text = codes "DELETE FROM net WHERE name = ?1"
 
-delete_net_is : (params : Row) → command_of (understood office_schema delete_net_text)
-    ≡ Delete 1 (record { lets = []; body = query 1 one_test (col 1 0 ∷ []) [] params })
-unfolding understood everything office_schema
-delete_net_is params = refl
+delete_net_is : (params : Row) → InEach (λ s. command_of (understood s delete_net_text)
+    ≡ Delete 1 (record { lets = []; body = query 1 one_test (col 1 0 ∷ []) [] params }))
+unfolding understood everything office_schema analyzed_schema
+delete_net_is params = record { usual = refl; analyzed = refl }
 
-delete_net_plain : IsPlain (understood office_schema delete_net_text)
-unfolding understood everything office_schema
-delete_net_plain = (refl, refl)
+delete_net_plain : InEach (λ s. IsPlain (understood s delete_net_text))
+unfolding understood everything office_schema analyzed_schema
+delete_net_plain = record { usual = (refl, refl); analyzed = (refl, refl) }
 
 pub delete_nets : (name : List ℕ) (old new : State) (r : Result ℕ Error) → IsOffice old.now
     → (old.in_transaction ≡ false → r ≡ Err (SqliteFailure TransactionState))
@@ -103,10 +103,13 @@ net_names_columns = col 1 1 ∷ []
 abbrev net_names_by : List (Term × Key)
 net_names_by = (col 1 1, ascending) ∷ []
 
-net_names_selects : (params : Row) → IsSelect office_schema net_names_text 1 [] net_names_columns net_names_by
-    (codes "name" ∷ []) params
-unfolding understood everything office_schema
-net_names_selects params = record { command = refl; listing = refl; plain = (refl, refl) }
+net_names_selects : (params : Row) → InEach (λ s. IsSelect s net_names_text 1 [] net_names_columns net_names_by
+    (codes "name" ∷ []) params)
+unfolding understood everything office_schema analyzed_schema
+net_names_selects params = record {
+  usual = record { command = refl; listing = refl; plain = (refl, refl) };
+  analyzed = record { command = refl; listing = refl; plain = (refl, refl) };
+}
 
 net_names_means : Means values 1 [] net_names_columns net_names_by [] is_any net_names_shown net_names_order
 net_names_means = record {
@@ -116,14 +119,14 @@ net_names_means = record {
 }
 
 pub net_names_found : {X : Type 0} (rows_of : X → List Row) (old new : State) (r : Result X Error)
-    → old.now.schema ≡ office_schema
+    → IsCurrentSchema old.now.schema
     → IfOk r (λ x. Shown net_names_text [] old new (rows_of x))
     → IfOk r (λ x. IsSelected is_any net_names_shown net_names_order (tables_of old.now.trees).net (rows_of x))
-net_names_found rows_of = finds office_schema net_names_text 1 [] net_names_columns net_names_by _ []
+net_names_found rows_of = finds_now net_names_text 1 [] net_names_columns net_names_by _ []
     (net_names_selects []) values is_any net_names_shown net_names_order net_names_means rows_of
 
-pub net_names_plain : (s : Schema) → s ≡ office_schema → IsPlain (understood s net_names_text)
-net_names_plain = plain_in net_names_text (net_names_selects []).plain
+pub net_names_plain : (s : Schema) → IsCurrentSchema s → IsPlain (understood s net_names_text)
+net_names_plain s now = (in_each (net_names_selects []) s now).plain
 
 -- ---- select_net
 
@@ -137,10 +140,13 @@ abbrev net_by : List (Term × Key)
 net_by = (col 1 1, ascending) ∷ []
 
 net_selects : (params : Row)
-    → IsSelect office_schema net_text 1 one_test net_columns net_by
-    (codes "kind" ∷ codes "reviews" ∷ codes "phase" ∷ codes "submitter" ∷ codes "frame" ∷ []) params
-unfolding understood everything office_schema
-net_selects params = record { command = refl; listing = refl; plain = (refl, refl) }
+    → InEach (λ s. IsSelect s net_text 1 one_test net_columns net_by
+    (codes "kind" ∷ codes "reviews" ∷ codes "phase" ∷ codes "submitter" ∷ codes "frame" ∷ []) params)
+unfolding understood everything office_schema analyzed_schema
+net_selects params = record {
+  usual = record { command = refl; listing = refl; plain = (refl, refl) };
+  analyzed = record { command = refl; listing = refl; plain = (refl, refl) };
+}
 
 net_means : (name : List ℕ) → Means values 1 one_test net_columns net_by (Text name ∷ []) (is_of_net name) net_shown
     net_order
@@ -151,11 +157,11 @@ net_means name = record {
 }
 
 pub net_found : {X : Type 0} (rows_of : X → List Row) (name : List ℕ) (old new : State) (r : Result X Error)
-    → old.now.schema ≡ office_schema
+    → IsCurrentSchema old.now.schema
     → IfOk r (λ x. Shown net_text (Text name ∷ []) old new (rows_of x))
     → IfOk r (λ x. IsSelected (is_of_net name) net_shown net_order (tables_of old.now.trees).net (rows_of x))
-net_found rows_of name = finds office_schema net_text 1 one_test net_columns net_by _ (Text name ∷ [])
+net_found rows_of name = finds_now net_text 1 one_test net_columns net_by _ (Text name ∷ [])
     (net_selects (Text name ∷ [])) values (is_of_net name) net_shown net_order (net_means name) rows_of
 
-pub net_plain : (s : Schema) → s ≡ office_schema → IsPlain (understood s net_text)
-net_plain = plain_in net_text (net_selects []).plain
+pub net_plain : (s : Schema) → IsCurrentSchema s → IsPlain (understood s net_text)
+net_plain s now = (in_each (net_selects []) s now).plain

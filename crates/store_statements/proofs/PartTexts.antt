@@ -21,15 +21,15 @@ use Rattle.sqlite_tied.specs.Compute.{everything}
 use Rattle.sqlite.specs.Listing.{understood}
 use Rattle.sqlite.specs.State.{State, ExecutesInside, Shown}
 use Rattle.sqlite.proofs.Callers.{IsPlain, command_of}
-use Rattle.store_tables.specs.Schema.{office_schema}
+use Rattle.store_tables.specs.Schema.{IsCurrentSchema, analyzed_schema, office_schema}
 use Rattle.store_tables.specs.Tables.{tables_of, values, IsOffice}
 use Rattle.store_tables.specs.Statements.{Makes}
 use Rattle.store_tables.specs.Selected.{IsSelected}
 use Rattle.store_tables.proofs.Columns.{cast_null, cast_number, column_is}
 use Rattle.store_tables.proofs.Changing.{appends, makes}
-use Rattle.store_tables.proofs.Keeping.{plain_in}
+use Rattle.store_tables.proofs.Current.{InEach, in_each}
 use Rattle.store_tables.proofs.TableIndices.{part, part_there, part_only}
-use Rattle.store_tables.proofs.Finding.{ascending, IsSelect, Means, finds}
+use Rattle.store_tables.proofs.Finding.{ascending, IsSelect, Means, finds_now}
 use Rattle.store_statements.specs.declared.row.PartRow.{PartRow}
 use Rattle.store_statements.specs.Rows.{has_two_texts, part_row}
 use Rattle.store_statements.specs.Shown.{parts_order, parts_shown}
@@ -43,13 +43,13 @@ insert_text = codes "INSERT INTO part VALUES (?1, ?2, ?3, ?4, ?5, ?6)"
 abbrev insert_terms : List Term
 insert_terms = lit Null ∷ col 0 0 ∷ col 0 1 ∷ col 0 2 ∷ col 0 3 ∷ col 0 4 ∷ col 0 5 ∷ []
 
-insert_is : command_of (understood office_schema insert_text) ≡ Insert 13 (Values insert_terms 7)
-unfolding understood everything office_schema
-insert_is = refl
+insert_is : InEach (λ s. command_of (understood s insert_text) ≡ Insert 13 (Values insert_terms 7))
+unfolding understood everything office_schema analyzed_schema
+insert_is = record { usual = refl; analyzed = refl }
 
-insert_plain : IsPlain (understood office_schema insert_text)
-unfolding understood everything office_schema
-insert_plain = (refl, refl)
+insert_plain : InEach (λ s. IsPlain (understood s insert_text))
+unfolding understood everything office_schema analyzed_schema
+insert_plain = record { usual = (refl, refl); analyzed = (refl, refl) }
 
 put : (row : PartRow) (db : Trees)
     → edited db (edit_of db part [] Chosen 0 (value_rows (stamped part (part_row row)) 7 1 insert_terms))
@@ -78,9 +78,12 @@ abbrev parts_by : List (Term × Key)
 parts_by = (col 1 3, ascending) ∷ []
 
 parts_selects : (params : Row)
-    → IsSelect office_schema parts_text 27 two_tests parts_columns parts_by (codes "kind" ∷ codes "a" ∷ []) params
-unfolding understood everything office_schema
-parts_selects params = record { command = refl; listing = refl; plain = (refl, refl) }
+    → InEach (λ s. IsSelect s parts_text 27 two_tests parts_columns parts_by (codes "kind" ∷ codes "a" ∷ []) params)
+unfolding understood everything office_schema analyzed_schema
+parts_selects params = record {
+  usual = record { command = refl; listing = refl; plain = (refl, refl) };
+  analyzed = record { command = refl; listing = refl; plain = (refl, refl) };
+}
 
 parts_means : (team : List ℕ) (key : List ℕ)
     → Means values 27 two_tests parts_columns parts_by (Text team ∷ Text key ∷ []) (has_two_texts team key) parts_shown
@@ -92,14 +95,14 @@ parts_means team key = record {
 }
 
 pub parts_found : {X : Type 0} (rows_of : X → List Row) (team : List ℕ) (key : List ℕ) (old new : State)
-    (r : Result X Error) → old.now.schema ≡ office_schema
+    (r : Result X Error) → IsCurrentSchema old.now.schema
     → IfOk r (λ x. Shown parts_text (Text team ∷ Text key ∷ []) old new (rows_of x))
     → IfOk r (λ x. IsSelected (has_two_texts team key) parts_shown parts_order (tables_of old.now.trees).part
     (rows_of x))
 parts_found rows_of team key =
-    finds office_schema parts_text 27 two_tests parts_columns parts_by _ (Text team ∷ Text key ∷ [])
+    finds_now parts_text 27 two_tests parts_columns parts_by _ (Text team ∷ Text key ∷ [])
     (parts_selects (Text team ∷ Text key ∷ [])) values (has_two_texts team key) parts_shown parts_order
     (parts_means team key) rows_of
 
-pub parts_plain : (s : Schema) → s ≡ office_schema → IsPlain (understood s parts_text)
-parts_plain = plain_in parts_text (parts_selects []).plain
+pub parts_plain : (s : Schema) → IsCurrentSchema s → IsPlain (understood s parts_text)
+parts_plain s now = (in_each (parts_selects []) s now).plain

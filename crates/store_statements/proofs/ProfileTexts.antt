@@ -22,12 +22,13 @@ use Rattle.sqlite_tied.specs.Compute.{everything}
 use Rattle.sqlite.specs.Listing.{understood}
 use Rattle.sqlite.specs.State.{State, Executes, ExecutesInside, Shown}
 use Rattle.sqlite.proofs.Callers.{IsPlain, command_of}
-use Rattle.store_tables.specs.Schema.{IsOfficeSchema, office_schema, schema_9, schema_13}
+use Rattle.store_tables.specs.Schema.{IsOfficeSchema, analyzed_schema, office_schema, schema_9, schema_13}
 use Rattle.store_tables.specs.Tables.{tables_of, keyed_values, IsOffice}
 use Rattle.store_tables.specs.Statements.{Makes}
 use Rattle.store_tables.specs.Selected.{IsSelected}
 use Rattle.store_tables.proofs.Columns.{cast_null, cast_number, keyed_column_is}
-use Rattle.store_tables.proofs.Changing.{makes, puts, removes}
+use Rattle.store_tables.proofs.Current.{InEach, in_each}
+use Rattle.store_tables.proofs.Changing.{IsOfficeAs, makes, puts, removes}
 use Rattle.store_tables.proofs.TableIndices.{profile, profile_there, profile_only}
 use Rattle.store_tables.proofs.Selecting.{query}
 use Rattle.store_tables.proofs.Finding.{ascending, IsSelect, Means, finds}
@@ -43,13 +44,13 @@ insert_text = codes "INSERT INTO profile VALUES (?1, ?2)"
 abbrev insert_terms : List Term
 insert_terms = col 0 0 ∷ lit Null ∷ col 0 1 ∷ []
 
-insert_is : command_of (understood office_schema insert_text) ≡ Insert 0 (Values insert_terms 3)
-unfolding understood everything office_schema
-insert_is = refl
+insert_is : InEach (λ s. command_of (understood s insert_text) ≡ Insert 0 (Values insert_terms 3))
+unfolding understood everything office_schema analyzed_schema
+insert_is = record { usual = refl; analyzed = refl }
 
-insert_plain : IsPlain (understood office_schema insert_text)
-unfolding understood everything office_schema
-insert_plain = (refl, refl)
+insert_plain : InEach (λ s. IsPlain (understood s insert_text))
+unfolding understood everything office_schema analyzed_schema
+insert_plain = record { usual = (refl, refl); analyzed = (refl, refl) }
 
 put : (one number : ℕ) (db : Trees)
     → edited db (edit_of db profile [] Chosen 0 (value_rows (stamped profile (mark_row one number)) 3 1 insert_terms))
@@ -72,14 +73,14 @@ inserts one number old new r office ended ran =
 abbrev clear_text : List ℕ
 clear_text = codes "DELETE FROM profile"
 
-clear_is : command_of (understood office_schema clear_text)
-    ≡ Delete 0 (record { lets = []; body = query 0 [] (col 1 0 ∷ []) [] [] })
-unfolding understood everything office_schema
-clear_is = refl
+clear_is : InEach (λ s. command_of (understood s clear_text)
+    ≡ Delete 0 (record { lets = []; body = query 0 [] (col 1 0 ∷ []) [] [] }))
+unfolding understood everything office_schema analyzed_schema
+clear_is = record { usual = refl; analyzed = refl }
 
-clear_plain : IsPlain (understood office_schema clear_text)
-unfolding understood everything office_schema
-clear_plain = (refl, refl)
+clear_plain : InEach (λ s. IsPlain (understood s clear_text))
+unfolding understood everything office_schema analyzed_schema
+clear_plain = record { usual = (refl, refl); analyzed = (refl, refl) }
 
 pub clears : (old new : State) (r : Result ℕ Error) → IsOffice old.now
     → (old.in_transaction ≡ false → r ≡ Err (SqliteFailure TransactionState))
@@ -90,7 +91,7 @@ unfolding office_schema
 clears old new r office ended ran = makes clear_text [] _ _ old new r does ended ran
   where
     does : (count : ℕ) → Executes clear_text [] old new (Ok count)
-        → IsOffice new.now × (tables_of new.now.trees ≡ record (tables_of old.now.trees) { profile = [] })
+        → IsOfficeAs old new × (tables_of new.now.trees ≡ record (tables_of old.now.trees) { profile = [] })
         × (count ≡ length (tables_of old.now.trees).profile)
     does count h =
         let rows = (tables_of old.now.trees).profile in
@@ -124,15 +125,18 @@ selects_13 : IsSelectIn schema_13
 unfolding understood everything schema_13
 selects_13 = record { command = refl; listing = refl; plain = (refl, refl) }
 
-selects_all : IsSelectIn office_schema
-unfolding understood everything office_schema
-selects_all = record { command = refl; listing = refl; plain = (refl, refl) }
+selects_all : InEach IsSelectIn
+unfolding understood everything office_schema analyzed_schema
+selects_all = record {
+  usual = record { command = refl; listing = refl; plain = (refl, refl) };
+  analyzed = record { command = refl; listing = refl; plain = (refl, refl) };
+}
 
 -- the profile is the first table of an office of any time
 profile_selects : (schema : Schema) → IsOfficeSchema schema → IsSelectIn schema
 profile_selects schema (inl is) = subst IsSelectIn (sym is) selects_9
 profile_selects schema (inr (inl is)) = subst IsSelectIn (sym is) selects_13
-profile_selects schema (inr (inr is)) = subst IsSelectIn (sym is) selects_all
+profile_selects schema (inr (inr current)) = in_each selects_all schema current
 
 profile_means : Means keyed_values 0 [] profile_columns profile_by [] is_any profile_shown profile_order
 profile_means = record {

@@ -22,16 +22,16 @@ use Rattle.sqlite_tied.specs.Compute.{everything}
 use Rattle.sqlite.specs.Listing.{understood}
 use Rattle.sqlite.specs.State.{State, ExecutesInside, Shown}
 use Rattle.sqlite.proofs.Callers.{IsPlain, command_of}
-use Rattle.store_tables.specs.Schema.{office_schema}
+use Rattle.store_tables.specs.Schema.{IsCurrentSchema, analyzed_schema, office_schema}
 use Rattle.store_tables.specs.Tables.{tables_of, values, IsOffice}
 use Rattle.store_tables.specs.Statements.{Makes}
 use Rattle.store_tables.specs.Selected.{IsSelected}
 use Rattle.store_tables.proofs.Columns.{cast_null, cast_number, column_is}
 use Rattle.store_tables.proofs.Changing.{appends, makes, removes}
-use Rattle.store_tables.proofs.Keeping.{plain_in}
+use Rattle.store_tables.proofs.Current.{InEach, in_each}
 use Rattle.store_tables.proofs.TableIndices.{receiver, receiver_there, receiver_only}
 use Rattle.store_tables.proofs.Selecting.{query}
-use Rattle.store_tables.proofs.Finding.{ascending, IsSelect, Means, finds}
+use Rattle.store_tables.proofs.Finding.{ascending, IsSelect, Means, finds_now}
 use Rattle.store_statements.specs.declared.row.ReceiverRow.{ReceiverRow}
 use Rattle.store_statements.specs.Rows.{has_net_and_number, has_place_of, is_of_net, receiver_row}
 use Rattle.store_statements.specs.Shown.{receivers_order, receivers_shown}
@@ -48,13 +48,13 @@ insert_text = codes "INSERT INTO receiver VALUES (?1, ?2, ?3, ?4, ?5)"
 abbrev insert_terms : List Term
 insert_terms = lit Null ∷ col 0 0 ∷ col 0 1 ∷ col 0 2 ∷ col 0 3 ∷ col 0 4 ∷ []
 
-insert_is : command_of (understood office_schema insert_text) ≡ Insert 11 (Values insert_terms 6)
-unfolding understood everything office_schema
-insert_is = refl
+insert_is : InEach (λ s. command_of (understood s insert_text) ≡ Insert 11 (Values insert_terms 6))
+unfolding understood everything office_schema analyzed_schema
+insert_is = record { usual = refl; analyzed = refl }
 
-insert_plain : IsPlain (understood office_schema insert_text)
-unfolding understood everything office_schema
-insert_plain = (refl, refl)
+insert_plain : InEach (λ s. IsPlain (understood s insert_text))
+unfolding understood everything office_schema analyzed_schema
+insert_plain = record { usual = (refl, refl); analyzed = (refl, refl) }
 
 put : (row : ReceiverRow) (db : Trees)
     → edited db (edit_of db receiver [] Chosen 0 (value_rows (stamped receiver (receiver_row row)) 6 1 insert_terms))
@@ -76,14 +76,14 @@ inserts row old new r office ended ran =
 abbrev delete_text : List ℕ
 delete_text = codes "DELETE FROM receiver WHERE net = ?1 AND number = ?2"
 
-delete_is : (params : Row) → command_of (understood office_schema delete_text)
-    ≡ Delete 11 (record { lets = []; body = query 23 two_tests (col 1 0 ∷ []) [] params })
-unfolding understood everything office_schema
-delete_is params = refl
+delete_is : (params : Row) → InEach (λ s. command_of (understood s delete_text)
+    ≡ Delete 11 (record { lets = []; body = query 23 two_tests (col 1 0 ∷ []) [] params }))
+unfolding understood everything office_schema analyzed_schema
+delete_is params = record { usual = refl; analyzed = refl }
 
-delete_plain : IsPlain (understood office_schema delete_text)
-unfolding understood everything office_schema
-delete_plain = (refl, refl)
+delete_plain : InEach (λ s. IsPlain (understood s delete_text))
+unfolding understood everything office_schema analyzed_schema
+delete_plain = record { usual = (refl, refl); analyzed = (refl, refl) }
 
 pub deletes : (net : List ℕ) (number : ℕ) (old new : State) (r : Result ℕ Error) → IsOffice old.now
     → (old.in_transaction ≡ false → r ≡ Err (SqliteFailure TransactionState))
@@ -103,14 +103,14 @@ deletes net number old new r office ended ran =
 abbrev delete_at_text : List ℕ
 delete_at_text = codes "DELETE FROM receiver WHERE net = ?1 AND number = ?2 AND place = ?3"
 
-delete_at_is : (params : Row) → command_of (understood office_schema delete_at_text)
-    ≡ Delete 11 (record { lets = []; body = query 23 three_tests (col 1 0 ∷ []) [] params })
-unfolding understood everything office_schema
-delete_at_is params = refl
+delete_at_is : (params : Row) → InEach (λ s. command_of (understood s delete_at_text)
+    ≡ Delete 11 (record { lets = []; body = query 23 three_tests (col 1 0 ∷ []) [] params }))
+unfolding understood everything office_schema analyzed_schema
+delete_at_is params = record { usual = refl; analyzed = refl }
 
-delete_at_plain : IsPlain (understood office_schema delete_at_text)
-unfolding understood everything office_schema
-delete_at_plain = (refl, refl)
+delete_at_plain : InEach (λ s. IsPlain (understood s delete_at_text))
+unfolding understood everything office_schema analyzed_schema
+delete_at_plain = record { usual = (refl, refl); analyzed = (refl, refl) }
 
 pub deletes_at : (net : List ℕ) (number place : ℕ) (old new : State) (r : Result ℕ Error) → IsOffice old.now
     → (old.in_transaction ≡ false → r ≡ Err (SqliteFailure TransactionState))
@@ -138,10 +138,13 @@ receivers_columns = col 1 3 ∷ col 1 5 ∷ []
 abbrev receivers_by : List (Term × Key)
 receivers_by = (col 1 3, ascending) ∷ (col 1 4, ascending) ∷ []
 
-receivers_selects : (params : Row) → IsSelect office_schema receivers_text 23 two_tests receivers_columns receivers_by
-    (codes "place" ∷ codes "name" ∷ []) params
-unfolding understood everything office_schema
-receivers_selects params = record { command = refl; listing = refl; plain = (refl, refl) }
+receivers_selects : (params : Row) → InEach (λ s. IsSelect s receivers_text 23 two_tests receivers_columns receivers_by
+    (codes "place" ∷ codes "name" ∷ []) params)
+unfolding understood everything office_schema analyzed_schema
+receivers_selects params = record {
+  usual = record { command = refl; listing = refl; plain = (refl, refl) };
+  analyzed = record { command = refl; listing = refl; plain = (refl, refl) };
+}
 
 receivers_means : (net : List ℕ) (number : ℕ)
     → Means values 23 two_tests receivers_columns receivers_by (Text net ∷ Int (pos number) ∷ [])
@@ -154,32 +157,35 @@ receivers_means net number = record {
 }
 
 pub receivers_found : {X : Type 0} (rows_of : X → List Row) (net : List ℕ) (number : ℕ) (old new : State)
-    (r : Result X Error) → old.now.schema ≡ office_schema
+    (r : Result X Error) → IsCurrentSchema old.now.schema
     → IfOk r (λ x. Shown receivers_text (Text net ∷ Int (pos number) ∷ []) old new (rows_of x))
     → IfOk r (λ x. IsSelected (has_net_and_number net number) receivers_shown receivers_order
     (tables_of old.now.trees).receiver (rows_of x))
-receivers_found rows_of net number = finds office_schema receivers_text 23 two_tests receivers_columns receivers_by _
+receivers_found rows_of net number = finds_now receivers_text 23 two_tests receivers_columns receivers_by _
     (Text net ∷ Int (pos number) ∷ []) (receivers_selects (Text net ∷ Int (pos number) ∷ [])) values
     (has_net_and_number net number) receivers_shown receivers_order (receivers_means net number) rows_of
 
-pub receivers_plain : (s : Schema) → s ≡ office_schema → IsPlain (understood s receivers_text)
-receivers_plain = plain_in receivers_text (receivers_selects []).plain
+pub receivers_plain : (s : Schema) → IsCurrentSchema s → IsPlain (understood s receivers_text)
+receivers_plain s now = (in_each (receivers_selects []) s now).plain
 
 -- ---- count_receivers
 
 abbrev pub count_text : List ℕ
 count_text = codes "SELECT count(*) FROM receiver WHERE net = ?1"
 
-count_selects : (params : Row) → IsCountSelect count_text 23 one_test params
-unfolding understood everything office_schema
-count_selects params = record { command = refl; listing = refl; plain = (refl, refl) }
+count_selects : (params : Row) → InEach (λ s. IsCountSelect s count_text 23 one_test params)
+unfolding understood everything office_schema analyzed_schema
+count_selects params = record {
+  usual = record { command = refl; listing = refl; plain = (refl, refl) };
+  analyzed = record { command = refl; listing = refl; plain = (refl, refl) };
+}
 
 pub counted_receivers : {X : Type 0} (rows_of : X → List Row) (net : List ℕ) (old new : State) (r : Result X Error)
-    → old.now.schema ≡ office_schema
+    → IsCurrentSchema old.now.schema
     → IfOk r (λ x. Shown count_text (Text net ∷ []) old new (rows_of x))
     → IfOk r (λ x. rows_of x ≡ (count (length (filter (is_of_net net) (tables_of old.now.trees).receiver)) ∷ []) ∷ [])
 counted_receivers rows_of net = counts count_text 23 one_test (Text net ∷ []) (count_selects (Text net ∷ []))
     (is_of_net net) (net_requested net) rows_of
 
-pub count_plain : (s : Schema) → s ≡ office_schema → IsPlain (understood s count_text)
-count_plain = plain_in count_text (count_selects []).plain
+pub count_plain : (s : Schema) → IsCurrentSchema s → IsPlain (understood s count_text)
+count_plain s now = (in_each (count_selects []) s now).plain

@@ -21,15 +21,15 @@ use Rattle.sqlite_tied.specs.Compute.{everything}
 use Rattle.sqlite.specs.Listing.{understood}
 use Rattle.sqlite.specs.State.{State, ExecutesInside, Shown}
 use Rattle.sqlite.proofs.Callers.{IsPlain, command_of}
-use Rattle.store_tables.specs.Schema.{office_schema}
+use Rattle.store_tables.specs.Schema.{IsCurrentSchema, analyzed_schema, office_schema}
 use Rattle.store_tables.specs.Tables.{tables_of, values, IsOffice}
 use Rattle.store_tables.specs.Statements.{Makes}
 use Rattle.store_tables.specs.Selected.{IsSelected}
 use Rattle.store_tables.proofs.Columns.{cast_null, cast_number, column_is}
 use Rattle.store_tables.proofs.Changing.{appends, makes}
-use Rattle.store_tables.proofs.Keeping.{plain_in}
+use Rattle.store_tables.proofs.Current.{InEach, in_each}
 use Rattle.store_tables.proofs.TableIndices.{reply, reply_there, reply_only}
-use Rattle.store_tables.proofs.Finding.{ascending, IsSelect, Means, finds}
+use Rattle.store_tables.proofs.Finding.{ascending, IsSelect, Means, finds_now}
 use Rattle.store_statements.specs.declared.row.ReplyRow.{ReplyRow}
 use Rattle.store_statements.specs.Rows.{has_two_texts, is_of_team, reply_row}
 use Rattle.store_statements.specs.Shown.{keys_order, keys_shown, reply_order, reply_shown}
@@ -43,13 +43,13 @@ insert_text = codes "INSERT INTO reply VALUES (?1, ?2, ?3, ?4, ?5, ?6, ?7)"
 abbrev insert_terms : List Term
 insert_terms = lit Null ∷ col 0 0 ∷ col 0 1 ∷ col 0 2 ∷ col 0 3 ∷ col 0 4 ∷ col 0 5 ∷ col 0 6 ∷ []
 
-insert_is : command_of (understood office_schema insert_text) ≡ Insert 8 (Values insert_terms 8)
-unfolding understood everything office_schema
-insert_is = refl
+insert_is : InEach (λ s. command_of (understood s insert_text) ≡ Insert 8 (Values insert_terms 8))
+unfolding understood everything office_schema analyzed_schema
+insert_is = record { usual = refl; analyzed = refl }
 
-insert_plain : IsPlain (understood office_schema insert_text)
-unfolding understood everything office_schema
-insert_plain = (refl, refl)
+insert_plain : InEach (λ s. IsPlain (understood s insert_text))
+unfolding understood everything office_schema analyzed_schema
+insert_plain = record { usual = (refl, refl); analyzed = (refl, refl) }
 
 put : (row : ReplyRow) (db : Trees)
     → edited db (edit_of db reply [] Chosen 0 (value_rows (stamped reply (reply_row row)) 8 1 insert_terms))
@@ -78,10 +78,13 @@ abbrev reply_by : List (Term × Key)
 reply_by = (col 1 2, ascending) ∷ []
 
 reply_selects : (params : Row)
-    → IsSelect office_schema reply_text 15 two_tests reply_columns reply_by
-    (codes "content" ∷ codes "kind" ∷ codes "a" ∷ codes "b" ∷ codes "c" ∷ []) params
-unfolding understood everything office_schema
-reply_selects params = record { command = refl; listing = refl; plain = (refl, refl) }
+    → InEach (λ s. IsSelect s reply_text 15 two_tests reply_columns reply_by
+    (codes "content" ∷ codes "kind" ∷ codes "a" ∷ codes "b" ∷ codes "c" ∷ []) params)
+unfolding understood everything office_schema analyzed_schema
+reply_selects params = record {
+  usual = record { command = refl; listing = refl; plain = (refl, refl) };
+  analyzed = record { command = refl; listing = refl; plain = (refl, refl) };
+}
 
 reply_means : (team : List ℕ) (key : List ℕ)
     → Means values 15 two_tests reply_columns reply_by (Text team ∷ Text key ∷ []) (has_two_texts team key) reply_shown
@@ -93,17 +96,17 @@ reply_means team key = record {
 }
 
 pub reply_found : {X : Type 0} (rows_of : X → List Row) (team : List ℕ) (key : List ℕ) (old new : State)
-    (r : Result X Error) → old.now.schema ≡ office_schema
+    (r : Result X Error) → IsCurrentSchema old.now.schema
     → IfOk r (λ x. Shown reply_text (Text team ∷ Text key ∷ []) old new (rows_of x))
     → IfOk r (λ x. IsSelected (has_two_texts team key) reply_shown reply_order (tables_of old.now.trees).reply
     (rows_of x))
 reply_found rows_of team key =
-    finds office_schema reply_text 15 two_tests reply_columns reply_by _ (Text team ∷ Text key ∷ [])
+    finds_now reply_text 15 two_tests reply_columns reply_by _ (Text team ∷ Text key ∷ [])
     (reply_selects (Text team ∷ Text key ∷ [])) values (has_two_texts team key) reply_shown reply_order
     (reply_means team key) rows_of
 
-pub reply_plain : (s : Schema) → s ≡ office_schema → IsPlain (understood s reply_text)
-reply_plain = plain_in reply_text (reply_selects []).plain
+pub reply_plain : (s : Schema) → IsCurrentSchema s → IsPlain (understood s reply_text)
+reply_plain s now = (in_each (reply_selects []) s now).plain
 
 -- ---- select_keys
 
@@ -114,9 +117,12 @@ abbrev keys_columns : List Term
 keys_columns = col 1 2 ∷ []
 
 keys_selects : (params : Row)
-    → IsSelect office_schema keys_text 15 one_test keys_columns reply_by (codes "key" ∷ []) params
-unfolding understood everything office_schema
-keys_selects params = record { command = refl; listing = refl; plain = (refl, refl) }
+    → InEach (λ s. IsSelect s keys_text 15 one_test keys_columns reply_by (codes "key" ∷ []) params)
+unfolding understood everything office_schema analyzed_schema
+keys_selects params = record {
+  usual = record { command = refl; listing = refl; plain = (refl, refl) };
+  analyzed = record { command = refl; listing = refl; plain = (refl, refl) };
+}
 
 keys_means : (team : List ℕ)
     → Means values 15 one_test keys_columns reply_by (Text team ∷ []) (is_of_team team) keys_shown keys_order
@@ -127,11 +133,11 @@ keys_means team = record {
 }
 
 pub keys_found : {X : Type 0} (rows_of : X → List Row) (team : List ℕ) (old new : State) (r : Result X Error)
-    → old.now.schema ≡ office_schema
+    → IsCurrentSchema old.now.schema
     → IfOk r (λ x. Shown keys_text (Text team ∷ []) old new (rows_of x))
     → IfOk r (λ x. IsSelected (is_of_team team) keys_shown keys_order (tables_of old.now.trees).reply (rows_of x))
-keys_found rows_of team = finds office_schema keys_text 15 one_test keys_columns reply_by _ (Text team ∷ [])
+keys_found rows_of team = finds_now keys_text 15 one_test keys_columns reply_by _ (Text team ∷ [])
     (keys_selects (Text team ∷ [])) values (is_of_team team) keys_shown keys_order (keys_means team) rows_of
 
-pub keys_plain : (s : Schema) → s ≡ office_schema → IsPlain (understood s keys_text)
-keys_plain = plain_in keys_text (keys_selects []).plain
+pub keys_plain : (s : Schema) → IsCurrentSchema s → IsPlain (understood s keys_text)
+keys_plain s now = (in_each (keys_selects []) s now).plain

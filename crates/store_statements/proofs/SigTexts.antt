@@ -21,16 +21,16 @@ use Rattle.sqlite_tied.specs.Compute.{everything}
 use Rattle.sqlite.specs.Listing.{understood}
 use Rattle.sqlite.specs.State.{State, ExecutesInside, Shown}
 use Rattle.sqlite.proofs.Callers.{IsPlain, command_of}
-use Rattle.store_tables.specs.Schema.{office_schema}
+use Rattle.store_tables.specs.Schema.{IsCurrentSchema, analyzed_schema, office_schema}
 use Rattle.store_tables.specs.Tables.{tables_of, values, IsOffice}
 use Rattle.store_tables.specs.Statements.{Makes}
 use Rattle.store_tables.specs.Selected.{IsFirstSelected, IsSelected}
 use Rattle.store_tables.proofs.Columns.{cast_int, cast_null, cast_number, column_is}
 use Rattle.store_tables.proofs.Changing.{appends, makes, removes}
-use Rattle.store_tables.proofs.Keeping.{plain_in}
+use Rattle.store_tables.proofs.Current.{InEach, in_each}
 use Rattle.store_tables.proofs.TableIndices.{sig, sig_there, sig_only}
 use Rattle.store_tables.proofs.Selecting.{query}
-use Rattle.store_tables.proofs.Finding.{ascending, IsSelect, Means, finds}
+use Rattle.store_tables.proofs.Finding.{ascending, IsSelect, Means, finds_now}
 use Rattle.store_tables.proofs.TopRow.{IsTopSelect, descending, tops}
 use Rattle.store_statements.specs.declared.row.SigRow.{SigRow}
 use Rattle.store_statements.specs.Mux.{mux_number}
@@ -50,13 +50,13 @@ abbrev insert_terms : List Term
 insert_terms = lit Null ∷ col 0 0 ∷ col 0 1 ∷ col 0 2 ∷ col 0 3 ∷ col 0 4 ∷ col 0 5 ∷ col 0 6 ∷ col 0 7 ∷ col 0 8
     ∷ col 0 9 ∷ col 0 10 ∷ col 0 11 ∷ col 0 12 ∷ col 0 13 ∷ col 0 14 ∷ col 0 15 ∷ col 0 16 ∷ []
 
-insert_is : command_of (understood office_schema insert_text) ≡ Insert 10 (Values insert_terms 18)
-unfolding understood everything office_schema
-insert_is = refl
+insert_is : InEach (λ s. command_of (understood s insert_text) ≡ Insert 10 (Values insert_terms 18))
+unfolding understood everything office_schema analyzed_schema
+insert_is = record { usual = refl; analyzed = refl }
 
-insert_plain : IsPlain (understood office_schema insert_text)
-unfolding understood everything office_schema
-insert_plain = (refl, refl)
+insert_plain : InEach (λ s. IsPlain (understood s insert_text))
+unfolding understood everything office_schema analyzed_schema
+insert_plain = record { usual = (refl, refl); analyzed = (refl, refl) }
 
 put : (row : SigRow) (db : Trees)
     → edited db (edit_of db sig [] Chosen 0 (value_rows (stamped sig (sig_row row)) 18 1 insert_terms))
@@ -89,14 +89,14 @@ inserts row old new r office ended ran =
 abbrev delete_text : List ℕ
 delete_text = codes "DELETE FROM sig WHERE net = ?1 AND number = ?2"
 
-delete_is : (params : Row) → command_of (understood office_schema delete_text)
-    ≡ Delete 10 (record { lets = []; body = query 20 two_tests (col 1 0 ∷ []) [] params })
-unfolding understood everything office_schema
-delete_is params = refl
+delete_is : (params : Row) → InEach (λ s. command_of (understood s delete_text)
+    ≡ Delete 10 (record { lets = []; body = query 20 two_tests (col 1 0 ∷ []) [] params }))
+unfolding understood everything office_schema analyzed_schema
+delete_is params = record { usual = refl; analyzed = refl }
 
-delete_plain : IsPlain (understood office_schema delete_text)
-unfolding understood everything office_schema
-delete_plain = (refl, refl)
+delete_plain : InEach (λ s. IsPlain (understood s delete_text))
+unfolding understood everything office_schema analyzed_schema
+delete_plain = record { usual = (refl, refl); analyzed = (refl, refl) }
 
 pub deletes : (net : List ℕ) (number : ℕ) (old new : State) (r : Result ℕ Error) → IsOffice old.now
     → (old.in_transaction ≡ false → r ≡ Err (SqliteFailure TransactionState))
@@ -115,14 +115,14 @@ deletes net number old new r office ended ran =
 abbrev delete_at_text : List ℕ
 delete_at_text = codes "DELETE FROM sig WHERE net = ?1 AND number = ?2 AND place = ?3"
 
-delete_at_is : (params : Row) → command_of (understood office_schema delete_at_text)
-    ≡ Delete 10 (record { lets = []; body = query 20 three_tests (col 1 0 ∷ []) [] params })
-unfolding understood everything office_schema
-delete_at_is params = refl
+delete_at_is : (params : Row) → InEach (λ s. command_of (understood s delete_at_text)
+    ≡ Delete 10 (record { lets = []; body = query 20 three_tests (col 1 0 ∷ []) [] params }))
+unfolding understood everything office_schema analyzed_schema
+delete_at_is params = record { usual = refl; analyzed = refl }
 
-delete_at_plain : IsPlain (understood office_schema delete_at_text)
-unfolding understood everything office_schema
-delete_at_plain = (refl, refl)
+delete_at_plain : InEach (λ s. IsPlain (understood s delete_at_text))
+unfolding understood everything office_schema analyzed_schema
+delete_at_plain = record { usual = (refl, refl); analyzed = (refl, refl) }
 
 pub deletes_at : (net : List ℕ) (number place : ℕ) (old new : State) (r : Result ℕ Error) → IsOffice old.now
     → (old.in_transaction ≡ false → r ≡ Err (SqliteFailure TransactionState))
@@ -150,12 +150,15 @@ abbrev sigs_by : List (Term × Key)
 sigs_by = (col 1 3, ascending) ∷ []
 
 sigs_selects : (params : Row)
-    → IsSelect office_schema sigs_text 20 two_tests sigs_columns sigs_by
+    → InEach (λ s. IsSelect s sigs_text 20 two_tests sigs_columns sigs_by
     (codes "place" ∷ codes "name" ∷ codes "start" ∷ codes "size" ∷ codes "motorola" ∷ codes "signed" ∷ codes "mux"
     ∷ codes "factor" ∷ codes "shift" ∷ codes "least" ∷ codes "most" ∷ codes "unit" ∷ codes "comment" ∷ codes "spn"
-    ∷ codes "label" ∷ []) params
-unfolding understood everything office_schema
-sigs_selects params = record { command = refl; listing = refl; plain = (refl, refl) }
+    ∷ codes "label" ∷ []) params)
+unfolding understood everything office_schema analyzed_schema
+sigs_selects params = record {
+  usual = record { command = refl; listing = refl; plain = (refl, refl) };
+  analyzed = record { command = refl; listing = refl; plain = (refl, refl) };
+}
 
 sigs_means : (net : List ℕ) (number : ℕ)
     → Means values 20 two_tests sigs_columns sigs_by (Text net ∷ Int (pos number) ∷ []) (has_net_and_number net number)
@@ -183,29 +186,32 @@ sigs_means net number = record {
 }
 
 pub sigs_found : {X : Type 0} (rows_of : X → List Row) (net : List ℕ) (number : ℕ) (old new : State)
-    (r : Result X Error) → old.now.schema ≡ office_schema
+    (r : Result X Error) → IsCurrentSchema old.now.schema
     → IfOk r (λ x. Shown sigs_text (Text net ∷ Int (pos number) ∷ []) old new (rows_of x))
     → IfOk r (λ x. IsSelected (has_net_and_number net number) sigs_shown sigs_order (tables_of old.now.trees).sig
     (rows_of x))
 sigs_found rows_of net number =
-    finds office_schema sigs_text 20 two_tests sigs_columns sigs_by _ (Text net ∷ Int (pos number) ∷ [])
+    finds_now sigs_text 20 two_tests sigs_columns sigs_by _ (Text net ∷ Int (pos number) ∷ [])
     (sigs_selects (Text net ∷ Int (pos number) ∷ [])) values (has_net_and_number net number) sigs_shown sigs_order
     (sigs_means net number) rows_of
 
-pub sigs_plain : (s : Schema) → s ≡ office_schema → IsPlain (understood s sigs_text)
-sigs_plain = plain_in sigs_text (sigs_selects []).plain
+pub sigs_plain : (s : Schema) → IsCurrentSchema s → IsPlain (understood s sigs_text)
+sigs_plain s now = (in_each (sigs_selects []) s now).plain
 
 -- ---- select_sigs_named
 
 abbrev pub named_text : List ℕ
 named_text = codes "SELECT place, name, start, size, motorola, signed, mux, factor, shift, least, most, unit, comment, spn, label FROM sig WHERE net = ?1 AND number = ?2 AND name = ?3 ORDER BY place"
 
-named_selects : (params : Row) → IsSelect office_schema named_text 20 signal_tests sigs_columns sigs_by
+named_selects : (params : Row) → InEach (λ s. IsSelect s named_text 20 signal_tests sigs_columns sigs_by
     (codes "place" ∷ codes "name" ∷ codes "start" ∷ codes "size" ∷ codes "motorola" ∷ codes "signed" ∷ codes "mux"
     ∷ codes "factor" ∷ codes "shift" ∷ codes "least" ∷ codes "most" ∷ codes "unit" ∷ codes "comment" ∷ codes "spn"
-    ∷ codes "label" ∷ []) params
-unfolding understood everything office_schema
-named_selects params = record { command = refl; listing = refl; plain = (refl, refl) }
+    ∷ codes "label" ∷ []) params)
+unfolding understood everything office_schema analyzed_schema
+named_selects params = record {
+  usual = record { command = refl; listing = refl; plain = (refl, refl) };
+  analyzed = record { command = refl; listing = refl; plain = (refl, refl) };
+}
 
 named_means : (net : List ℕ) (number : ℕ) (name : List ℕ)
     → Means values 20 signal_tests sigs_columns sigs_by (Text net ∷ Int (pos number) ∷ Text name ∷ [])
@@ -217,17 +223,17 @@ named_means net number name = record {
 }
 
 pub named_found : {X : Type 0} (rows_of : X → List Row) (net : List ℕ) (number : ℕ) (name : List ℕ) (old new : State)
-    (r : Result X Error) → old.now.schema ≡ office_schema
+    (r : Result X Error) → IsCurrentSchema old.now.schema
     → IfOk r (λ x. Shown named_text (Text net ∷ Int (pos number) ∷ Text name ∷ []) old new (rows_of x))
     → IfOk r (λ x. IsSelected (has_name_of net number name) sigs_shown sigs_order (tables_of old.now.trees).sig
     (rows_of x))
 named_found rows_of net number name =
-    finds office_schema named_text 20 signal_tests sigs_columns sigs_by _ (Text net ∷ Int (pos number) ∷ Text name ∷ [])
+    finds_now named_text 20 signal_tests sigs_columns sigs_by _ (Text net ∷ Int (pos number) ∷ Text name ∷ [])
     (named_selects (Text net ∷ Int (pos number) ∷ Text name ∷ [])) values (has_name_of net number name) sigs_shown
     sigs_order (named_means net number name) rows_of
 
-pub named_plain : (s : Schema) → s ≡ office_schema → IsPlain (understood s named_text)
-named_plain = plain_in named_text (named_selects []).plain
+pub named_plain : (s : Schema) → IsCurrentSchema s → IsPlain (understood s named_text)
+named_plain s now = (in_each (named_selects []) s now).plain
 
 -- ---- select_last_place
 
@@ -238,9 +244,12 @@ abbrev last_place_by : List (Term × Key)
 last_place_by = (col 1 3, descending) ∷ []
 
 last_place_selects : (params : Row)
-    → IsTopSelect last_place_text 20 two_tests (col 1 3 ∷ []) last_place_by (codes "place" ∷ []) params
-unfolding understood everything office_schema
-last_place_selects params = record { command = refl; listing = refl; plain = (refl, refl) }
+    → InEach (λ s. IsTopSelect s last_place_text 20 two_tests (col 1 3 ∷ []) last_place_by (codes "place" ∷ []) params)
+unfolding understood everything office_schema analyzed_schema
+last_place_selects params = record {
+  usual = record { command = refl; listing = refl; plain = (refl, refl) };
+  analyzed = record { command = refl; listing = refl; plain = (refl, refl) };
+}
 
 last_place_means : (net : List ℕ) (number : ℕ)
     → Means values 20 two_tests (col 1 3 ∷ []) last_place_by (Text net ∷ Int (pos number) ∷ [])
@@ -252,7 +261,7 @@ last_place_means net number = record {
 }
 
 pub last_place_found : {X : Type 0} (rows_of : X → List Row) (net : List ℕ) (number : ℕ) (old new : State)
-    (r : Result X Error) → old.now.schema ≡ office_schema
+    (r : Result X Error) → IsCurrentSchema old.now.schema
     → IfOk r (λ x. Shown last_place_text (Text net ∷ Int (pos number) ∷ []) old new (rows_of x))
     → IfOk r (λ x. IsFirstSelected (has_net_and_number net number) last_place_shown last_place_order
     (tables_of old.now.trees).sig (rows_of x))
@@ -262,24 +271,27 @@ last_place_found rows_of net number =
     (last_place_selects (Text net ∷ Int (pos number) ∷ [])) values (has_net_and_number net number) last_place_shown
     last_place_order (last_place_means net number) rows_of
 
-pub last_place_plain : (s : Schema) → s ≡ office_schema → IsPlain (understood s last_place_text)
-last_place_plain = plain_in last_place_text (last_place_selects []).plain
+pub last_place_plain : (s : Schema) → IsCurrentSchema s → IsPlain (understood s last_place_text)
+last_place_plain s now = (in_each (last_place_selects []) s now).plain
 
 -- ---- count_sigs
 
 abbrev pub count_text : List ℕ
 count_text = codes "SELECT count(*) FROM sig WHERE net = ?1"
 
-count_selects : (params : Row) → IsCountSelect count_text 20 one_test params
-unfolding understood everything office_schema
-count_selects params = record { command = refl; listing = refl; plain = (refl, refl) }
+count_selects : (params : Row) → InEach (λ s. IsCountSelect s count_text 20 one_test params)
+unfolding understood everything office_schema analyzed_schema
+count_selects params = record {
+  usual = record { command = refl; listing = refl; plain = (refl, refl) };
+  analyzed = record { command = refl; listing = refl; plain = (refl, refl) };
+}
 
 pub counted_sigs : {X : Type 0} (rows_of : X → List Row) (net : List ℕ) (old new : State) (r : Result X Error)
-    → old.now.schema ≡ office_schema
+    → IsCurrentSchema old.now.schema
     → IfOk r (λ x. Shown count_text (Text net ∷ []) old new (rows_of x))
     → IfOk r (λ x. rows_of x ≡ (count (length (filter (is_of_net net) (tables_of old.now.trees).sig)) ∷ []) ∷ [])
 counted_sigs rows_of net = counts count_text 20 one_test (Text net ∷ []) (count_selects (Text net ∷ [])) (is_of_net net)
     (net_requested net) rows_of
 
-pub count_plain : (s : Schema) → s ≡ office_schema → IsPlain (understood s count_text)
-count_plain = plain_in count_text (count_selects []).plain
+pub count_plain : (s : Schema) → IsCurrentSchema s → IsPlain (understood s count_text)
+count_plain s now = (in_each (count_selects []) s now).plain

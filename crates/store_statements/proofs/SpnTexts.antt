@@ -21,16 +21,16 @@ use Rattle.sqlite_tied.specs.Compute.{everything}
 use Rattle.sqlite.specs.Listing.{understood}
 use Rattle.sqlite.specs.State.{State, ExecutesInside, Shown}
 use Rattle.sqlite.proofs.Callers.{IsPlain, command_of}
-use Rattle.store_tables.specs.Schema.{office_schema}
+use Rattle.store_tables.specs.Schema.{IsCurrentSchema, analyzed_schema, office_schema}
 use Rattle.store_tables.specs.Tables.{tables_of, keyed_values, IsOffice}
 use Rattle.store_tables.specs.Statements.{Makes}
 use Rattle.store_tables.specs.Selected.{IsSelected}
 use Rattle.store_tables.proofs.Columns.{cast_null, cast_number}
 use Rattle.store_tables.proofs.Changing.{makes, puts, removes}
-use Rattle.store_tables.proofs.Keeping.{plain_in}
+use Rattle.store_tables.proofs.Current.{InEach, in_each}
 use Rattle.store_tables.proofs.TableIndices.{spn, spn_there, spn_only}
 use Rattle.store_tables.proofs.Selecting.{query}
-use Rattle.store_tables.proofs.Finding.{ascending, IsSelect, Means, finds}
+use Rattle.store_tables.proofs.Finding.{ascending, IsSelect, Means, finds_now}
 use Rattle.store_statements.specs.Rows.{is_any, is_number, spn_row}
 use Rattle.store_statements.specs.Shown.{spns_order, spns_shown}
 use Rattle.store_statements.proofs.Requested.{key_test, number_requested_alone}
@@ -43,13 +43,13 @@ insert_text = codes "INSERT INTO spn VALUES (?1)"
 abbrev insert_terms : List Term
 insert_terms = col 0 0 ∷ lit Null ∷ []
 
-insert_is : command_of (understood office_schema insert_text) ≡ Insert 5 (Values insert_terms 2)
-unfolding understood everything office_schema
-insert_is = refl
+insert_is : InEach (λ s. command_of (understood s insert_text) ≡ Insert 5 (Values insert_terms 2))
+unfolding understood everything office_schema analyzed_schema
+insert_is = record { usual = refl; analyzed = refl }
 
-insert_plain : IsPlain (understood office_schema insert_text)
-unfolding understood everything office_schema
-insert_plain = (refl, refl)
+insert_plain : InEach (λ s. IsPlain (understood s insert_text))
+unfolding understood everything office_schema analyzed_schema
+insert_plain = record { usual = (refl, refl); analyzed = (refl, refl) }
 
 put : (number : ℕ) (db : Trees)
     → edited db (edit_of db spn [] Chosen 0 (value_rows (stamped spn (spn_row number)) 2 1 insert_terms))
@@ -71,14 +71,14 @@ inserts number old new r office ended ran =
 abbrev delete_spn_text : List ℕ
 delete_spn_text = codes "DELETE FROM spn WHERE number = ?1"
 
-delete_spn_is : (params : Row) → command_of (understood office_schema delete_spn_text)
-    ≡ Delete 5 (record { lets = []; body = query 10 key_test (col 1 0 ∷ []) [] params })
-unfolding understood everything office_schema
-delete_spn_is params = refl
+delete_spn_is : (params : Row) → InEach (λ s. command_of (understood s delete_spn_text)
+    ≡ Delete 5 (record { lets = []; body = query 10 key_test (col 1 0 ∷ []) [] params }))
+unfolding understood everything office_schema analyzed_schema
+delete_spn_is params = record { usual = refl; analyzed = refl }
 
-delete_spn_plain : IsPlain (understood office_schema delete_spn_text)
-unfolding understood everything office_schema
-delete_spn_plain = (refl, refl)
+delete_spn_plain : InEach (λ s. IsPlain (understood s delete_spn_text))
+unfolding understood everything office_schema analyzed_schema
+delete_spn_plain = record { usual = (refl, refl); analyzed = (refl, refl) }
 
 pub delete_spns : (number : ℕ) (old new : State) (r : Result ℕ Error) → IsOffice old.now
     → (old.in_transaction ≡ false → r ≡ Err (SqliteFailure TransactionState))
@@ -103,9 +103,13 @@ spns_columns = col 1 0 ∷ []
 abbrev spns_by : List (Term × Key)
 spns_by = (col 1 0, ascending) ∷ []
 
-spns_selects : (params : Row) → IsSelect office_schema spns_text 10 [] spns_columns spns_by (codes "number" ∷ []) params
-unfolding understood everything office_schema
-spns_selects params = record { command = refl; listing = refl; plain = (refl, refl) }
+spns_selects : (params : Row)
+    → InEach (λ s. IsSelect s spns_text 10 [] spns_columns spns_by (codes "number" ∷ []) params)
+unfolding understood everything office_schema analyzed_schema
+spns_selects params = record {
+  usual = record { command = refl; listing = refl; plain = (refl, refl) };
+  analyzed = record { command = refl; listing = refl; plain = (refl, refl) };
+}
 
 spns_means : Means keyed_values 10 [] spns_columns spns_by [] is_any spns_shown spns_order
 spns_means = record {
@@ -115,11 +119,11 @@ spns_means = record {
 }
 
 pub spns_found : {X : Type 0} (rows_of : X → List Row) (old new : State) (r : Result X Error)
-    → old.now.schema ≡ office_schema
+    → IsCurrentSchema old.now.schema
     → IfOk r (λ x. Shown spns_text [] old new (rows_of x))
     → IfOk r (λ x. IsSelected is_any spns_shown spns_order (tables_of old.now.trees).spn (rows_of x))
-spns_found rows_of = finds office_schema spns_text 10 [] spns_columns spns_by _ [] (spns_selects []) keyed_values is_any
+spns_found rows_of = finds_now spns_text 10 [] spns_columns spns_by _ [] (spns_selects []) keyed_values is_any
     spns_shown spns_order spns_means rows_of
 
-pub spns_plain : (s : Schema) → s ≡ office_schema → IsPlain (understood s spns_text)
-spns_plain = plain_in spns_text (spns_selects []).plain
+pub spns_plain : (s : Schema) → IsCurrentSchema s → IsPlain (understood s spns_text)
+spns_plain s now = (in_each (spns_selects []) s now).plain

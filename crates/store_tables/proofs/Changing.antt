@@ -17,6 +17,8 @@ use Rattle.sqlite.specs.declared.error.ErrorCode.TheVariants.{TransactionState}
 use Rattle.sqlite.specs.declared.types.Value.TheVariants.{Null, Int}
 use Rattle.sqlite.specs.Order.{Row, column, value_cmp}
 use Rattle.sqlite.specs.Term.{Term, col}
+use Rattle.sqlite.specs.Change.{next_tree}
+use Rattle.sqlite.specs.Schema.{Schema}
 use Rattle.sqlite.specs.Table.{Table}
 use Rattle.sqlite.specs.Tree.{Trees, put_row, rowid}
 use Rattle.sqlite.specs.Program.{overlay}
@@ -34,9 +36,10 @@ use Rattle.sqlite.specs.Listing.{understood}
 use Rattle.sqlite.specs.State.{State, Executes, ExecutesInside}
 use Rattle.sqlite_catalog.specs.Listing.{IsSound}
 use Rattle.sqlite.proofs.Callers.{IsPlain, command_of, runs_as}
-use Rattle.store_tables.specs.Schema.{office_schema}
-use Rattle.store_tables.specs.Tables.{Tables, tables_of, named, row_by, values, keyed_values, IsOffice}
-use Rattle.store_tables.specs.Statements.{Makes, rows_in}
+use Rattle.store_tables.specs.Schema.{IsCurrentSchema, analyzed_schema, office_schema, statistics}
+use Rattle.store_tables.specs.Tables.{AreNumbered, Tables, tables_of, named, row_by, values, keyed_values, IsOffice}
+use Rattle.store_tables.specs.Statements.{Makes, rows_in, statistics_in, statistics_of}
+use Rattle.store_tables.proofs.Current.{InEach, in_each}
 use Rattle.store_tables.proofs.Numbering.{put_next}
 use Rattle.store_tables.proofs.Inserting.{RefersToNone, inserts, uncounted}
 use Rattle.store_tables.proofs.Deleting.{deletes, leaves_others}
@@ -121,9 +124,61 @@ plain_trees db t = bare (nat_le (2 ^ 31) t)
     bare false = refl
 
 -- no table of the office refers to another
-pub alone : RefersToNone office_schema
-unfolding office_schema
-alone keys depth tree olds news = refl
+pub alone : InEach RefersToNone
+unfolding office_schema analyzed_schema
+alone = record {
+  usual = λ keys depth tree olds news. refl;
+  analyzed = λ keys depth tree olds news. refl;
+}
+
+-- the statistics come after all tables of the office
+first_stay : (tables more : List Table) (tree : ℕ) (before now : Trees)
+    → OthersStay (tables ++ more) tree before now → OthersStay tables tree before now
+first_stay [] more tree before now stay = tt
+first_stay (t ∷ tables) more tree before now stay = (stay.0, first_stay tables more tree before now stay.1)
+
+office_stays : (s : Schema) (tree : ℕ) (before now : Trees) → IsCurrentSchema s → OthersStay s.tables tree before now
+    → OthersStay office_schema.tables tree before now
+unfolding analyzed_schema
+office_stays s tree before now (inl is) stay =
+    subst (λ (x : Schema). OthersStay x.tables tree before now) is stay
+office_stays s tree before now (inr is) stay =
+    first_stay office_schema.tables (record statistics { tree = next_tree office_schema } ∷ []) tree before now
+    (subst (λ (x : Schema). OthersStay x.tables tree before now) is stay)
+
+all_apart : (tables more : List Table) (tree : ℕ)
+    → list_all (λ (o : Table). not (o.tree == tree)) (tables ++ more) ≡ true
+    → list_all (λ (o : Table). not (o.tree == tree)) more ≡ true
+all_apart [] more tree all = all
+all_apart (t ∷ tables) more tree all = all_apart tables more tree (and_parts _ _ all).1
+
+-- where the tree is of one of the first tables, it is of none of the later
+rest_apart : (tables more : List Table) (at tree : ℕ) → is_only tables at tree ≡ true
+    → is_only (tables ++ more) at tree ≡ true
+    → list_all (λ (o : Table). not (o.tree == tree)) more ≡ true
+rest_apart [] more at tree only all = absurd (cc)
+rest_apart (t ∷ tables) more zero tree only all = all_apart tables more tree (and_parts _ _ all).1
+rest_apart (t ∷ tables) more (suc at) tree only all =
+    rest_apart tables more at tree (and_parts _ _ only).1 (and_parts _ _ all).1
+
+rest_stay : (tables more : List Table) (tree : ℕ) (before now : Trees)
+    → OthersStay (tables ++ more) tree before now → OthersStay more tree before now
+rest_stay [] more tree before now stay = stay
+rest_stay (t ∷ tables) more tree before now stay = rest_stay tables more tree before now stay.1
+
+statistics_stay : (at tree : ℕ) → InEach (λ s. is_only s.tables at tree ≡ true) → (s : Schema) (before now : Trees)
+    → IsCurrentSchema s → OthersStay s.tables tree before now
+    → statistics_in s now ≡ statistics_in s before
+unfolding office_schema analyzed_schema
+statistics_stay at tree only s before now (inl is) stay =
+    subst (λ x. statistics_in x now ≡ statistics_in x before) (sym is) refl
+statistics_stay at tree only s before now (inr is) stay =
+    let more : List Table = record statistics { tree = next_tree office_schema } ∷ [] in
+    let apart = rest_apart office_schema.tables more at tree only.usual only.analyzed in
+    let stays = rest_stay office_schema.tables more tree before now
+    (subst (λ (x : Schema). OthersStay x.tables tree before now) is stay) in
+    subst (λ x. statistics_in x now ≡ statistics_in x before) (sym is)
+    (all_stay more tree before now apart stays)
 
 pub named_rows : (db : Trees) → tables_of db ≡ named (rows_in office_schema.tables db)
 unfolding office_schema
@@ -148,9 +203,17 @@ put_shown key rest (r ∷ rows) =
     by_order Equal a b c = refl
     by_order Greater a b c = refl
 
+-- the tables are an office's still, and no other than before, and the statistics have the same rows
+abbrev pub IsOfficeAs : State → State → Type 0
+IsOfficeAs old new = IsOffice new.now × (new.now.schema ≡ old.now.schema)
+    × (statistics_of new.now ≡ statistics_of old.now)
+
+numbered_now : (s : State) → IsOffice s.now → AreNumbered s.now.schema s.now.trees
+numbered_now s office = subst (λ x. AreNumbered x s.now.trees) office.listed office.trees.numbered
+
 -- inside a transaction, what a statement that ran made, and how many rows it says that it wrote or removed
 pub makes : (sql : List ℕ) (params : Row) (change : Tables → Tables) (rows : ℕ) (old new : State) (r : Result ℕ Error)
-    → ((count : ℕ) → Executes sql params old new (Ok count) → IsOffice new.now
+    → ((count : ℕ) → Executes sql params old new (Ok count) → IsOfficeAs old new
     × (tables_of new.now.trees ≡ change (tables_of old.now.trees)) × (count ≡ rows))
     → (old.in_transaction ≡ false → r ≡ Err (SqliteFailure TransactionState))
     → (IsTrue old.in_transaction → ExecutesInside 0 sql params old new r)
@@ -162,7 +225,9 @@ makes sql params change rows old new (Ok count) does ended ran =
     let it = ran mode in
     let done = does count it.0 in (
       record {
-        office = done.0;
+        office = done.0.0;
+        same_schema = done.0.1;
+        statistics = done.0.2;
         tables_are = done.1;
         committed = it.1.committed_is;
         inside = it.1.mode;
@@ -184,8 +249,8 @@ only_rows A rows (Ok count) both = both.1
 only_rows A rows (Err e) both = tt
 
 -- a statement on the table at one index
-module _ (at : ℕ) (table : Table) (there : slice_get office_schema.tables at ≡ Some (uncounted table))
-    (only : is_only office_schema.tables at table.tree ≡ true) where
+module _ (at : ℕ) (table : Table) (there : InEach (λ s. slice_get s.tables at ≡ Some (uncounted table)))
+    (only : InEach (λ s. is_only s.tables at table.tree ≡ true)) where
   abbrev tree : ℕ
   tree = table.tree
 
@@ -193,31 +258,47 @@ module _ (at : ℕ) (table : Table) (there : slice_get office_schema.tables at �
   abbrev pub with_rows : Trees → List Row → Tables
   with_rows db rows = named (set (rows_in office_schema.tables db) at rows)
 
-  settled : (old new : State) → IsOffice old.now → new.now.schema ≡ office_schema → IsSound new.now.schema new.now.trees
-      → OthersStay office_schema.tables tree old.now.trees new.now.trees
-      → IsShaped shape.Table (new.now.trees tree) → IsOffice new.now
+  settled : (old new : State) → IsOffice old.now → new.now.schema ≡ old.now.schema
+      → IsSound new.now.schema new.now.trees
+      → OthersStay old.now.schema.tables tree old.now.trees new.now.trees
+      → IsShaped shape.Table (new.now.trees tree) → IsOfficeAs old new
       × (tables_of new.now.trees ≡ with_rows old.now.trees (map (row_by table.key) (new.now.trees tree)))
   settled old new office schema sound stay shaped =
-      let db = new.now.trees in (
-        record {
-          schema = schema;
-          trees = record {
-            sound = subst (λ s. IsSound s db) schema sound;
-            numbered = numbered_after office_schema.tables at tree old.now.trees db only stay office.trees.numbered
-                shaped;
-          };
-        },
+      let was = old.now.schema in
+      let db = new.now.trees in
+      let numbered : AreNumbered was db =
+      numbered_after was.tables at tree old.now.trees db (in_each only was office.schema) stay (numbered_now old office)
+      shaped in
+      let stays = office_stays was tree old.now.trees db office.schema stay in (
+        (
+          record {
+            schema = subst IsCurrentSchema (sym schema) office.schema;
+            trees = record {
+              schema = new.now.schema;
+              current = subst IsCurrentSchema (sym schema) office.schema;
+              sound = sound;
+              numbered = subst (λ s. AreNumbered s db) (sym schema) numbered;
+            };
+            listed = refl;
+          },
+          schema,
+          ap (λ x. statistics_in x db) schema
+              ∙ statistics_stay at tree only was old.now.trees db office.schema stay,
+        ),
         named_rows db ∙ ap named
-            (rows_after office_schema.tables at tree table.key old.now.trees db only stay (uncounted table) there),
+            (rows_after office_schema.tables at tree table.key old.now.trees db only.usual stays (uncounted table)
+            there.usual),
       )
 
   pub shaped_before : (old : State) → IsOffice old.now → IsShaped shape.Table (old.now.trees tree)
-  shaped_before old office = numbered_at office_schema.tables at tree old.now.trees only office.trees.numbered
+  shaped_before old office =
+      numbered_at old.now.schema.tables at tree old.now.trees (in_each only old.now.schema office.schema)
+      (numbered_now old office)
 
   -- ---- INSERT
   module _ (sql : List ℕ) (params : Row) (terms : List Term) (width : ℕ)
-      (is : command_of (understood office_schema sql) ≡ Insert at (Values terms width))
-      (plain : IsPlain (understood office_schema sql)) where
+      (is : InEach (λ s. command_of (understood s sql) ≡ Insert at (Values terms width)))
+      (plain : InEach (λ s. IsPlain (understood s sql))) where
     abbrev pub given : List Row
     given = value_rows (stamped table params) width (length terms / width) terms
 
@@ -225,14 +306,16 @@ module _ (at : ℕ) (table : Table) (there : slice_get office_schema.tables at �
     pub inserted : (old new : State) (rows : List Row) → IsOffice old.now
         → edited old.now.trees (edit_of old.now.trees (uncounted table) [] Chosen 0 given) ≡ rows
         → IsShaped shape.Table rows
-        → (count : ℕ) → Executes sql params old new (Ok count) → IsOffice new.now
+        → (count : ℕ) → Executes sql params old new (Ok count) → IsOfficeAs old new
         × (tables_of new.now.trees ≡ with_rows old.now.trees (map (row_by table.key) rows))
         × (count ≡ length (edit_of old.now.trees (uncounted table) [] Chosen 0 given).news)
     inserted old new rows office made shaped count h =
-        let done = inserts office_schema alone at table there sql params terms width is plain old new office.schema
-        count h in
-        let w = runs_as sql params old new office_schema office.schema (Insert at (Values terms width)) is plain count
-        h in
+        let s = old.now.schema in
+        let means = in_each is s office.schema in
+        let plainly = in_each plain s office.schema in
+        let done = inserts s (in_each alone s office.schema) at table (in_each there s office.schema) sql params terms
+        width means plainly old new refl count h in
+        let w = runs_as sql params old new s refl (Insert at (Values terms width)) means plainly count h in
         let grown : new.now.trees tree ≡ rows = done.1.rows ∙ made in
         let it = settled old new office done.0 w.sound done.1.tables
         (subst (IsShaped shape.Table) (sym grown) shaped) in
@@ -244,7 +327,7 @@ module _ (at : ℕ) (table : Table) (there : slice_get office_schema.tables at �
         → ((db : Trees) → IsShaped shape.Table (db tree) → edited db (edit_of db (uncounted table) [] Chosen 0 given)
         ≡ put_row (Int (next_rowid (db tree)) ∷ row) (db tree))
         → (old new : State) → IsOffice old.now → (count : ℕ) → Executes sql params old new (Ok count)
-        → IsOffice new.now × (tables_of new.now.trees ≡ with_rows old.now.trees
+        → IsOfficeAs old new × (tables_of new.now.trees ≡ with_rows old.now.trees
         (map values (old.now.trees tree) ++ row ∷ [])) × (count ≡ 1)
     appends row unkeyed one put old new office count h =
         let before = old.now.trees tree in
@@ -266,7 +349,7 @@ module _ (at : ℕ) (table : Table) (there : slice_get office_schema.tables at �
         → ((db : Trees) → edited db (edit_of db (uncounted table) [] Chosen 0 given) ≡ put_row (Int key ∷ Null ∷ rest)
         (db tree))
         → (old new : State) → IsOffice old.now → (count : ℕ) → Executes sql params old new (Ok count)
-        → IsOffice new.now × (tables_of new.now.trees ≡ with_rows old.now.trees
+        → IsOfficeAs old new × (tables_of new.now.trees ≡ with_rows old.now.trees
         (put_row (Int key ∷ rest) (map keyed_values (old.now.trees tree)))) × (count ≡ 1)
     puts key rest keyed one put old new office count h =
         let before = old.now.trees tree in
@@ -281,24 +364,28 @@ module _ (at : ℕ) (table : Table) (there : slice_get office_schema.tables at �
 
   -- ---- DELETE
   module _ (sql : List ℕ) (params : Row) (tests : List Term)
-      (is : command_of (understood office_schema sql)
-      ≡ Delete at (record { lets = []; body = query tree tests (col 1 0 ∷ []) [] params }))
-      (plain : IsPlain (understood office_schema sql)) (wants : Row → Bool)
+      (is : InEach (λ s. command_of (understood s sql)
+      ≡ Delete at (record { lets = []; body = query tree tests (col 1 0 ∷ []) [] params })))
+      (plain : InEach (λ s. IsPlain (understood s sql))) (wants : Row → Bool)
       (requested : (r : Row) → wants (row_by table.key r) ≡ wanted tree tests (col 1 0 ∷ []) [] params r) where
     ids_shown : (found : List Row) → ids_of (map (λ r. column r 0 ∷ []) found) ≡ ids_of found
     ids_shown [] = refl
     ids_shown (r ∷ found) = ap (◌∷◌ (id_in (rowid r))) (ids_shown found)
 
-    pub removes : slice_get office_schema.tables at ≡ Some table → (old new : State) → IsOffice old.now → (count : ℕ)
+    pub removes : InEach (λ s. slice_get s.tables at ≡ Some table) → (old new : State) → IsOffice old.now → (count : ℕ)
         → Executes sql params old new (Ok count)
-        → IsOffice new.now × (tables_of new.now.trees ≡ with_rows old.now.trees
+        → IsOfficeAs old new × (tables_of new.now.trees ≡ with_rows old.now.trees
         (filter (λ row. not (wants row)) (map (row_by table.key) (old.now.trees tree))))
         × (count ≡ length (filter wants (map (row_by table.key) (old.now.trees tree))))
     removes exactly old new office count h =
         let before = old.now.trees tree in
         let shaped = shaped_before old office in
-        let done = deletes office_schema alone at table exactly sql params _ is plain old new office.schema count h in
-        let w = runs_as sql params old new office_schema office.schema _ is plain count h in
+        let s = old.now.schema in
+        let means = in_each is s office.schema in
+        let plainly = in_each plain s office.schema in
+        let done = deletes s (in_each alone s office.schema) at table (in_each exactly s office.schema) sql params _
+        means plainly old new refl count h in
+        let w = runs_as sql params old new s refl _ means plainly count h in
         let f = answers tree tests (col 1 0 ∷ []) [] params (overlay old.now.trees []) done.1.0
         (done.1.1.answer Null) in
         let found_by = wanted tree tests (col 1 0 ∷ []) [] params in

@@ -23,8 +23,10 @@ use Rattle.sqlite.specs.Listing.{understood, reads_listing}
 use Rattle.sqlite.specs.Program.{overlay}
 use Rattle.sqlite.specs.State.{State, Shown}
 use Rattle.sqlite.proofs.Callers.{IsPlain, command_of, reads_as}
-use Rattle.store_tables.specs.Schema.{office_schema}
+use Rattle.sqlite.specs.Schema.{Schema}
+use Rattle.store_tables.specs.Schema.{IsCurrentSchema}
 use Rattle.store_tables.specs.Tables.{values}
+use Rattle.store_tables.proofs.Current.{InEach, in_each}
 use Rattle.store_tables.proofs.Changing.{plain_trees}
 use Rattle.store_tables.proofs.Selecting.{filter_map_is}
 
@@ -132,53 +134,54 @@ module _ (t : ℕ) (tests project : List Term) (params : Row) where
       let ordered : length a.ordered ≡ length a.kept = length_permutation a.kept a.ordered a.same in
       ap length a.shown ∙ length_first (λ (o : Output). o.1) a.ordered ∙ ap (min 1) (ordered ∙ kept)
 
--- what such a text means under the office's schema
-pub record IsAnySelect (sql : List ℕ) (t : ℕ) (tests project : List Term) (names : List (List ℕ)) (params : Row) : Type
-    0 where
-  pub command : command_of (understood office_schema sql)
+-- what such a text means under a schema
+pub record IsAnySelect (schema : Schema) (sql : List ℕ) (t : ℕ) (tests project : List Term) (names : List (List ℕ))
+    (params : Row) : Type 0 where
+  pub command : command_of (understood schema sql)
       ≡ Select (record { lets = []; body = any_query t tests project params }) names
-  pub listing : reads_listing office_schema sql ≡ false
-  pub plain : IsPlain (understood office_schema sql)
+  pub listing : reads_listing schema sql ≡ false
+  pub plain : IsPlain (understood schema sql)
 
 module _ (sql : List ℕ) (t : ℕ) (tests project : List Term) (names : List (List ℕ)) (params : Row)
-    (is_select : IsAnySelect sql t tests project names params) (test : Row → Bool)
+    (is_select : InEach (λ s. IsAnySelect s sql t tests project names params)) (test : Row → Bool)
     (same : (r : Row) → test r ≡ list_all (holds (params ∷ r ∷ [])) tests) where
   test_is : (xs : List Row) → filter (wants t tests params) xs ≡ filter test xs
   test_is [] = refl
   test_is (x ∷ xs) = ap (λ b. cond b (x ∷ filter (wants t tests params) xs) (filter (wants t tests params) xs))
       (sym (same x)) ∙ ap (λ l. cond (test x) (x ∷ l) l) (test_is xs)
 
-  shows_any_of : (old new : State) (rows : List Row) → old.now.schema ≡ office_schema → Shown sql params old new rows
+  shows_any_of : (old new : State) (rows : List Row) → IsCurrentSchema old.now.schema → Shown sql params old new rows
       → length rows ≡ min 1 (length (filter test (old.now.trees t)))
   shows_any_of old new rows schema h =
-      let read = reads_as sql params old new office_schema schema _ is_select.command is_select.plain is_select.listing
-      rows h in
+      let is = in_each is_select old.now.schema schema in
+      let read = reads_as sql params old new old.now.schema refl _ is.command is.plain is.listing rows h in
       any_shown t tests project params (overlay old.now.trees []) rows (read.answer Null)
       ∙ ap (λ l. min 1 (length l)) (ap (filter (wants t tests params)) (plain_trees old.now.trees t)
       ∙ test_is (old.now.trees t))
 
   pub shows_any : {X : Type 0} (rows_of : X → List Row) (old new : State) (r : Result X Error)
-      → old.now.schema ≡ office_schema
+      → IsCurrentSchema old.now.schema
       → IfOk r (λ x. Shown sql params old new (rows_of x))
       → IfOk r (λ x. length (rows_of x) ≡ min 1 (length (filter test (old.now.trees t))))
   shows_any rows_of old new (Err e) schema h = tt
   shows_any rows_of old new (Ok x) schema h = shows_any_of old new (rows_of x) schema h
 
--- what the text of a count means under the office's schema
-pub record IsCountSelect (sql : List ℕ) (t : ℕ) (tests : List Term) (params : Row) : Type 0 where
-  pub command : command_of (understood office_schema sql)
+-- what the text of a count means under a schema
+pub record IsCountSelect (schema : Schema) (sql : List ℕ) (t : ℕ) (tests : List Term) (params : Row) : Type 0 where
+  pub command : command_of (understood schema sql)
       ≡ Select (record { lets = []; body = count_query t tests params }) (codes "count(*)" ∷ [])
-  pub listing : reads_listing office_schema sql ≡ false
-  pub plain : IsPlain (understood office_schema sql)
+  pub listing : reads_listing schema sql ≡ false
+  pub plain : IsPlain (understood schema sql)
 
-module _ (sql : List ℕ) (t : ℕ) (tests : List Term) (params : Row) (is_select : IsCountSelect sql t tests params)
+module _ (sql : List ℕ) (t : ℕ) (tests : List Term) (params : Row)
+    (is_select : InEach (λ s. IsCountSelect s sql t tests params))
     (test : Row → Bool)
     (same : (r : Row) → test (values r) ≡ list_all (holds (params ∷ r ∷ [])) tests) where
-  counts_these : (old new : State) (rows : List Row) → old.now.schema ≡ office_schema → Shown sql params old new rows
+  counts_these : (old new : State) (rows : List Row) → IsCurrentSchema old.now.schema → Shown sql params old new rows
       → rows ≡ (count (length (filter test (map values (old.now.trees t)))) ∷ []) ∷ []
   counts_these old new rows schema h =
-      let read = reads_as sql params old new office_schema schema _ is_select.command is_select.plain is_select.listing
-      rows h in
+      let is = in_each is_select old.now.schema schema in
+      let read = reads_as sql params old new old.now.schema refl _ is.command is.plain is.listing rows h in
       let passes = wants t tests params in
       let table = old.now.trees t in
       let many : length (filter passes table) ≡ length (filter test (map values table)) =
@@ -188,7 +191,7 @@ module _ (sql : List ℕ) (t : ℕ) (tests : List Term) (params : Row) (is_selec
       ∙ ap (λ n. (count n ∷ []) ∷ []) many
 
   pub counts : {X : Type 0} (rows_of : X → List Row) (old new : State) (r : Result X Error)
-      → old.now.schema ≡ office_schema
+      → IsCurrentSchema old.now.schema
       → IfOk r (λ x. Shown sql params old new (rows_of x))
       → IfOk r (λ x. rows_of x ≡ (count (length (filter test (map values (old.now.trees t)))) ∷ []) ∷ [])
   counts rows_of old new (Err e) schema h = tt

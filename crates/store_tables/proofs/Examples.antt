@@ -6,11 +6,13 @@ use Rattle.sqlite.specs.declared.types.Value.TheVariants.{Null, Int, Text}
 use Rattle.sqlite.specs.Collation.TheVariants.{Binary, NoCase}
 use Rattle.sqlite.specs.Compile.{table_defined_by}
 use Rattle.sqlite.specs.Table.{Table}
+use Rattle.sqlite.specs.Tree.{Trees}
 use Rattle.sqlite_schema.specs.declared.schema.Column.{Column}
 use Rattle.sqlite_tied.specs.Compute.{everything}
 use Rattle.store_tables.specs.Comparing.{IsBegun}
-use Rattle.store_tables.specs.Schema.{office_schema, schema_13, held, integer, message, net, profile, receiver, reply}
-use Rattle.store_tables.specs.Schema.{spn}
+use Rattle.store_tables.specs.Schema.{analyzed_schema, office_schema, schema_13, held, integer, message, net, profile}
+use Rattle.store_tables.specs.Schema.{receiver, reply, spn, statistics}
+use Rattle.store_tables.specs.Statements.{statistics_in}
 use Rattle.store_tables.specs.Tables.{values, keyed_values}
 
 -- the tables in their order, and the trees that they get; those between are indexes of their keys
@@ -40,12 +42,30 @@ used_values = refl
 
 -- the tables of an office are the first ones of an office, and so are those of one before there were bundles
 all_are_first : IsBegun office_schema
-unfolding office_schema
+unfolding office_schema analyzed_schema
 all_are_first = (refl, refl, refl)
 
 those_before_bundles_are_first : IsBegun schema_13
-unfolding office_schema schema_13
+unfolding analyzed_schema schema_13
 those_before_bundles_are_first = (refl, refl, refl)
+
+those_after_analyze_are_first : IsBegun analyzed_schema
+unfolding analyzed_schema
+those_after_analyze_are_first = (refl, refl, refl)
+
+-- an office has no table after its fourteen, and the statistics are one more
+none_after : (db : Trees) → statistics_in office_schema db ≡ []
+unfolding office_schema
+none_after db = refl
+
+one_after : (db : Trees) → statistics_in analyzed_schema db ≡ map values (db 29) ∷ []
+unfolding analyzed_schema
+one_after db = refl
+
+-- the text by which SQLite makes the statistics
+statistics_defined : table_defined_by (codes "CREATE TABLE sqlite_stat1(tbl,idx,stat)") ≡ Ok statistics
+unfolding everything
+statistics_defined = refl
 
 -- ---- texts of other tables than an office's
 

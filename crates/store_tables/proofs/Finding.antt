@@ -1,5 +1,5 @@
 -- What a SELECT from one table of the office shows, whatever its condition.
-use Rattle.std.proofs.Common.{◌≡◌, ℕ, List, [], map, Bool, false, Ok, Err, Result, subst}
+use Rattle.std.proofs.Common.{◌≡◌, ℕ, List, [], map, Bool, false, Ok, Err, Result, refl, subst}
 use Rattle.std.specs.Prelude.{IfOk}
 use Rattle.std.specs.declared.cmp.Ordering.{Ordering}
 use Rattle.sqlite.specs.declared.error.Error.{Error}
@@ -15,7 +15,9 @@ use Rattle.sqlite.specs.Listing.{understood, reads_listing}
 use Rattle.sqlite.specs.State.{State, Shown}
 use Rattle.sqlite.proofs.Callers.{IsPlain, command_of, reads_as}
 use Rattle.sqlite.specs.Schema.{Schema}
+use Rattle.store_tables.specs.Schema.{IsCurrentSchema}
 use Rattle.store_tables.specs.Selected.{IsSelected}
+use Rattle.store_tables.proofs.Current.{InEach, in_each}
 use Rattle.store_tables.proofs.Changing.{plain_trees}
 use Rattle.store_tables.proofs.Selecting.{query, answers, wanted, shown, keys, IsFound, selects}
 
@@ -57,3 +59,17 @@ module _ (schema : Schema) (sql : List ℕ) (t : ℕ) (tests project : List Term
       → IfOk r (λ x. IsSelected test show by (map values (old.now.trees t)) (rows_of x))
   finds rows_of old new (Err e) has h = tt
   finds rows_of old new (Ok x) has h = finds_these old new (rows_of x) has h
+
+-- the same under each schema that an office's tables have
+module _ (sql : List ℕ) (t : ℕ) (tests project : List Term) (order : List (Term × Key))
+    (names : List (List ℕ)) (params : Row)
+    (is_select : InEach (λ s. IsSelect s sql t tests project order names params))
+    (values : Row → Row) (test : Row → Bool) (show : Row → Row) (by : Row → Row → Ordering)
+    (means : Means values t tests project order params test show by) where
+  pub finds_now : {X : Type 0} (rows_of : X → List Row) (old new : State) (r : Result X Error)
+      → IsCurrentSchema old.now.schema
+      → IfOk r (λ x. Shown sql params old new (rows_of x))
+      → IfOk r (λ x. IsSelected test show by (map values (old.now.trees t)) (rows_of x))
+  finds_now rows_of old new r now =
+      finds old.now.schema sql t tests project order names params (in_each is_select old.now.schema now) values test
+      show by means rows_of old new r refl

@@ -14,7 +14,7 @@ use Rattle.sqlite.specs.Schema.{Schema}
 use Rattle.sqlite.specs.declared.transaction.Transaction.{Transaction}
 use Rattle.sqlite_trees.specs.declared.store.Store.{Ghosts}
 use Rattle.store_tables.specs.Frames.{ReadsOnly}
-use Rattle.store_tables.specs.Schema.{office_schema}
+use Rattle.store_tables.specs.Schema.{IsCurrentSchema}
 use Rattle.store_tables.specs.Statements.{ChangesNothing, LeavesNothing}
 use Rattle.sqlite.proofs.Callers.{IsPlain, never_commits}
 use Rattle.sqlite_resolve.specs.declared.compiled.Compiled.{Compiled}
@@ -78,7 +78,7 @@ query_inside_same rows_of sql params old new (Err e) plain h = tt
 -- a plain query on an office's tables only reads
 pub reads_only : {S X : Type 0} (g : Ghosts S) (old new : Transaction S) (rows_of : X → List Row) (sql : List ℕ)
     (params : Row) (r : Result X Error)
-    → ((s : Schema) → s ≡ office_schema → IsPlain (understood s sql)) → new.conn.ghost_name ≡ old.conn.ghost_name
+    → ((s : Schema) → IsCurrentSchema s → IsPlain (understood s sql)) → new.conn.ghost_name ≡ old.conn.ghost_name
     → (HasCleanDisk (state g new.conn.now)
     → IfOk r (λ rows. Shown sql params (state g old.conn.now) (state g new.conn.now) (rows_of rows)))
     → (HasCleanDisk (state g new.conn.now)
@@ -96,10 +96,6 @@ reads_only g old new rows_of sql params r plain name ok err left =
       kept = λ clean office. query_inside_keeps sql params before after r (same clean office) (err clean);
       survives = left;
     }
-
-pub plain_in : {schema : Schema} (sql : List ℕ) → IsPlain (understood schema sql) → (s : Schema) → s ≡ schema
-    → IsPlain (understood s sql)
-plain_in sql plain s has = subst (λ s. IsPlain (understood s sql)) (sym has) plain
 
 -- a query outside a transaction keeps the last commit, also where it fails
 pub query_alone_keeps : (sql : List ℕ) (params : Row) (old new : State) {X : Type 0} (r : Result X Error)

@@ -4,6 +4,7 @@ pub mod Deleting
 pub mod Selecting
 pub mod Keeping
 pub mod Columns
+pub mod Current
 pub mod Changing
 pub mod Finding
 pub mod TableIndices

@@ -167,37 +167,37 @@ empty_rows old made =
     let h = made.empty.empty in
     record {
       office = record {
-        schema = made.empty.schema_is;
-        trees =
-            record {
-              sound = made.sound;
-              numbered = (
-                rw h.0 (tt, tt),
+        schema = inl made.empty.schema_is;
+        listed = sym made.empty.schema_is;
+        trees = record {
+          schema = office_schema;
+          current = inl refl;
+          sound = made.sound;
+          numbered = (
+            rw h.0 (tt, tt),
+            (
+              rw h.1.0 (tt, tt),
+              (
+                rw h.1.1.0 (tt, tt),
                 (
-                  rw h.1.0 (tt, tt),
+                  rw h.1.1.1.0 (tt, tt),
                   (
-                    rw h.1.1.0 (tt, tt),
+                    rw h.1.1.1.1.0 (tt, tt),
                     (
-                      rw h.1.1.1.0 (tt, tt),
+                      rw h.1.1.1.1.1.0 (tt, tt),
                       (
-                        rw h.1.1.1.1.0 (tt, tt),
+                        rw h.1.1.1.1.1.1.0 (tt, tt),
                         (
-                          rw h.1.1.1.1.1.0 (tt, tt),
+                          rw h.1.1.1.1.1.1.1.0 (tt, tt),
                           (
-                            rw h.1.1.1.1.1.1.0 (tt, tt),
+                            rw h.1.1.1.1.1.1.1.1.0 (tt, tt),
                             (
-                              rw h.1.1.1.1.1.1.1.0 (tt, tt),
+                              rw h.1.1.1.1.1.1.1.1.1.0 (tt, tt),
                               (
-                                rw h.1.1.1.1.1.1.1.1.0 (tt, tt),
+                                rw h.1.1.1.1.1.1.1.1.1.1.0 (tt, tt),
                                 (
-                                  rw h.1.1.1.1.1.1.1.1.1.0 (tt, tt),
-                                  (
-                                    rw h.1.1.1.1.1.1.1.1.1.1.0 (tt, tt),
-                                    (
-                                      rw h.1.1.1.1.1.1.1.1.1.1.1.0 (tt, tt),
-                                      (rw h.1.1.1.1.1.1.1.1.1.1.1.1.0 (tt, tt), (rw h.1.1.1.1.1.1.1.1.1.1.1.1.1.0 (tt, tt), tt)),
-                                    ),
-                                  ),
+                                  rw h.1.1.1.1.1.1.1.1.1.1.1.0 (tt, tt),
+                                  (rw h.1.1.1.1.1.1.1.1.1.1.1.1.0 (tt, tt), (rw h.1.1.1.1.1.1.1.1.1.1.1.1.1.0 (tt, tt), tt)),
                                 ),
                               ),
                             ),
@@ -207,9 +207,12 @@ empty_rows old made =
                     ),
                   ),
                 ),
-              );
-            };
+              ),
+            ),
+          );
+        };
       };
+      schema_is = made.empty.schema_is;
       tables_are = rw (
         h.0,
         h.1.0,

@@ -15,8 +15,10 @@ use Rattle.sqlite.specs.Command.TheVariants.{Select}
 use Rattle.sqlite.specs.Listing.{understood, reads_listing}
 use Rattle.sqlite.specs.State.{State, Shown}
 use Rattle.sqlite.proofs.Callers.{IsPlain, command_of, reads_as}
-use Rattle.store_tables.specs.Schema.{office_schema}
+use Rattle.sqlite.specs.Schema.{Schema}
+use Rattle.store_tables.specs.Schema.{IsCurrentSchema}
 use Rattle.store_tables.specs.Selected.{IsFirstSelected}
+use Rattle.store_tables.proofs.Current.{InEach, in_each}
 use Rattle.store_tables.proofs.Changing.{plain_trees}
 use Rattle.store_tables.proofs.Finding.{Means}
 use Rattle.store_tables.proofs.Selecting.{IsFound, answers, query, selects}
@@ -42,23 +44,23 @@ module _ (t : ℕ) (tests project : List Term) (order : List (Term × Key)) (par
     shown = refl;
   }
 
--- what the text of such a SELECT means under the office's schema
-pub record IsTopSelect (sql : List ℕ) (t : ℕ) (tests project : List Term) (order : List (Term × Key))
+-- what the text of such a SELECT means under a schema
+pub record IsTopSelect (schema : Schema) (sql : List ℕ) (t : ℕ) (tests project : List Term) (order : List (Term × Key))
     (names : List (List ℕ)) (params : Row) : Type 0 where
-  pub command : command_of (understood office_schema sql)
+  pub command : command_of (understood schema sql)
       ≡ Select (record { lets = []; body = top_query t tests project order params }) names
-  pub listing : reads_listing office_schema sql ≡ false
-  pub plain : IsPlain (understood office_schema sql)
+  pub listing : reads_listing schema sql ≡ false
+  pub plain : IsPlain (understood schema sql)
 
 module _ (sql : List ℕ) (t : ℕ) (tests project : List Term) (order : List (Term × Key)) (names : List (List ℕ))
-    (params : Row) (is_select : IsTopSelect sql t tests project order names params)
+    (params : Row) (is_select : InEach (λ s. IsTopSelect s sql t tests project order names params))
     (values : Row → Row) (test : Row → Bool) (show : Row → Row) (by : Row → Row → Ordering)
     (means : Means values t tests project order params test show by) where
-  tops_these : (old new : State) (rows : List Row) → old.now.schema ≡ office_schema → Shown sql params old new rows
+  tops_these : (old new : State) (rows : List Row) → IsCurrentSchema old.now.schema → Shown sql params old new rows
       → IsFirstSelected test show by (map values (old.now.trees t)) rows
   tops_these old new rows has h =
-      let read = reads_as sql params old new office_schema has _ is_select.command is_select.plain is_select.listing
-      rows h in
+      let is = in_each is_select old.now.schema has in
+      let read = reads_as sql params old new old.now.schema refl _ is.command is.plain is.listing rows h in
       let a : IsAnswer (top_query t tests project order params) (overlay old.now.trees []) params rows =
       read.answer Null in
       let all = map (λ (o : Output). o.1) a.ordered in
@@ -73,7 +75,7 @@ module _ (sql : List ℕ) (t : ℕ) (tests project : List Term) (order : List (T
       }
 
   pub tops : {X : Type 0} (rows_of : X → List Row) (old new : State) (r : Result X Error)
-      → old.now.schema ≡ office_schema
+      → IsCurrentSchema old.now.schema
       → IfOk r (λ x. Shown sql params old new (rows_of x))
       → IfOk r (λ x. IsFirstSelected test show by (map values (old.now.trees t)) (rows_of x))
   tops rows_of old new (Err e) has h = tt

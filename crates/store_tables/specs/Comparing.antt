@@ -4,27 +4,28 @@ use Rattle.sqlite.specs.Schema.{Schema}
 use Rattle.sqlite.specs.Table.{Table}
 use Rattle.sqlite_schema.specs.declared.schema.Column.{Column}
 use Rattle.sqlite_schema.specs.declared.schema.Index.{Index}
-use Rattle.store_tables.specs.Schema.{ascending, column_of, keyed, office_schema}
+use Rattle.store_tables.specs.Schema.{analyzed_schema, ascending, column_of, keyed, untyped}
 use Rattle.store_tables.specs.Schema.{approval, block, frozen, held, message, msg, net, part, profile, receiver, reply}
-use Rattle.store_tables.specs.Schema.{sig, sigvalue, spn}
+use Rattle.store_tables.specs.Schema.{sig, sigvalue, spn, statistics}
 use Rattle.store_tables.specs.declared.office_column.OfficeColumn.{OfficeColumn}
-use Rattle.store_tables.specs.declared.office_column.OfficeColumn.TheVariants.{Key, Other}
+use Rattle.store_tables.specs.declared.office_column.OfficeColumn.TheVariants.{Key, Other, Untyped}
 use Rattle.store_tables.specs.declared.office_index.OfficeIndex.{OfficeIndex}
 use Rattle.store_tables.specs.declared.office_index.OfficeIndex.TheVariants as index
 use Rattle.store_tables.specs.declared.office_table.OfficeTable.{OfficeTable}
 use Rattle.store_tables.specs.declared.office_table.OfficeTable.TheVariants as office
 
--- the tables are the first ones of an office, and so are the indexes, as many as they are, and there is no view or
--- trigger
+-- the tables are the first ones of an office with statistics, and so are the indexes, as many as they are, and there is
+-- no view or trigger
 abbrev pub IsBegun : Schema → Type 0
-IsBegun s = (s.tables ≡ take (length s.tables) office_schema.tables)
-    × (s.indexes ≡ take (length s.indexes) office_schema.indexes) × (s.views ≡ [])
+IsBegun s = (s.tables ≡ take (length s.tables) analyzed_schema.tables)
+    × (s.indexes ≡ take (length s.indexes) analyzed_schema.indexes) × (s.views ≡ [])
 
 -- ---- an office's tables, one by one
 
 abbrev pub column_at : OfficeColumn → Column
 column_at (Key name kind) = keyed (column_of kind name.now)
 column_at (Other name kind) = column_of kind name.now
+column_at (Untyped name) = untyped name.now
 
 -- with the number of its tree
 abbrev numbered : Table → ℕ → Table
@@ -45,13 +46,15 @@ table_of office.Sig = numbered sig 20
 table_of office.Receiver = numbered receiver 23
 table_of office.SigValue = numbered sigvalue 25
 table_of office.Part = numbered part 27
+table_of office.Statistics = numbered statistics 29
 
--- the tables of an office, in the order in which they are made
+-- the tables of an office, in the order in which they are made, and the statistics
 abbrev pub every_table : List OfficeTable
 every_table =
     office.Profile ∷ office.Net ∷ office.Message ∷ office.Block ∷ office.Held ∷ office.Spn ∷ office.Approval
     ∷ office.Frozen ∷ office.Reply
-    ∷ office.Msg ∷ office.Sig ∷ office.Receiver ∷ office.SigValue ∷ office.Part ∷ []
+    ∷ office.Msg ∷ office.Sig ∷ office.Receiver ∷ office.SigValue ∷ office.Part
+    ∷ office.Statistics ∷ []
 
 -- no CHECK, no foreign key, no default that is computed, and no AUTOINCREMENT
 pub record HasNoRule (t : Table) : Type 0 where

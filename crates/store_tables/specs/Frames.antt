@@ -8,7 +8,8 @@ use Rattle.sqlite.specs.declared.transaction.Transaction.{Transaction}
 use Rattle.sqlite.specs.Tree.{Trees}
 use Rattle.sqlite_trees.specs.declared.store.Store.{Ghosts}
 use Rattle.store_tables.specs.Statements.{AddsNoCommit, ChangesNothing, CommitsNothing, EndsInside, Finds, FindsIn}
-use Rattle.store_tables.specs.Statements.{LeavesNothing, MakesTables, StaysInside, StaysOffice, StaysSame, Writes}
+use Rattle.store_tables.specs.Statements.{KeepsSchema, KeepsStatistics, LeavesNothing, MakesTables, StaysInside}
+use Rattle.store_tables.specs.Statements.{StaysOffice, StaysSame, Writes}
 use Rattle.store_tables.specs.Statements.{AreMade, Grows, HasNoTable, IsEmptyOffice, IsOfficeWith}
 use Rattle.store_tables.specs.Tables.{Tables}
 
@@ -37,6 +38,8 @@ pub record WritesAndStaysIn {S X E : Type 0} (g : Ghosts S) (old new : Transacti
   where
     pub same_reference : new.conn.ghost_name ≡ old.conn.ghost_name
     pub office : StaysOffice result (state g old.conn.now) (state g new.conn.now)
+    pub same_schema : KeepsSchema result (state g old.conn.now) (state g new.conn.now)
+    pub statistics : KeepsStatistics result (state g old.conn.now) (state g new.conn.now)
     pub inside : StaysInside result (state g old.conn.now) (state g new.conn.now)
     pub kept : AddsNoCommit (state g old.conn.now) (state g new.conn.now)
     pub survives : LeavesNothing (state g old.conn.now) (state g new.conn.now)
@@ -46,6 +49,8 @@ pub record WritesAndEndsIn {S X E : Type 0} (g : Ghosts S) (old new : Transactio
   where
     pub same_reference : new.conn.ghost_name ≡ old.conn.ghost_name
     pub office : StaysOffice result (state g old.conn.now) (state g new.conn.now)
+    pub same_schema : KeepsSchema result (state g old.conn.now) (state g new.conn.now)
+    pub statistics : KeepsStatistics result (state g old.conn.now) (state g new.conn.now)
     pub inside : EndsInside result (state g old.conn.now) (state g new.conn.now)
     pub kept : AddsNoCommit (state g old.conn.now) (state g new.conn.now)
     pub survives : LeavesNothing (state g old.conn.now) (state g new.conn.now)
@@ -54,6 +59,8 @@ pub record WritesAndEndsIn {S X E : Type 0} (g : Ghosts S) (old new : Transactio
 pub record StaysIn {S X E : Type 0} (g : Ghosts S) (old new : Transaction S) (result : Result X E) : Type 0 where
   pub same_reference : new.conn.ghost_name ≡ old.conn.ghost_name
   pub office : StaysOffice result (state g old.conn.now) (state g new.conn.now)
+  pub same_schema : KeepsSchema result (state g old.conn.now) (state g new.conn.now)
+  pub statistics : KeepsStatistics result (state g old.conn.now) (state g new.conn.now)
   pub inside : StaysInside result (state g old.conn.now) (state g new.conn.now)
   pub kept : CommitsNothing (state g old.conn.now) (state g new.conn.now)
   pub survives : LeavesNothing (state g old.conn.now) (state g new.conn.now)
@@ -62,6 +69,8 @@ pub record StaysIn {S X E : Type 0} (g : Ghosts S) (old new : Transaction S) (re
 pub record EndsIn {S X E : Type 0} (g : Ghosts S) (old new : Transaction S) (result : Result X E) : Type 0 where
   pub same_reference : new.conn.ghost_name ≡ old.conn.ghost_name
   pub office : StaysOffice result (state g old.conn.now) (state g new.conn.now)
+  pub same_schema : KeepsSchema result (state g old.conn.now) (state g new.conn.now)
+  pub statistics : KeepsStatistics result (state g old.conn.now) (state g new.conn.now)
   pub inside : EndsInside result (state g old.conn.now) (state g new.conn.now)
   pub kept : CommitsNothing (state g old.conn.now) (state g new.conn.now)
   pub survives : LeavesNothing (state g old.conn.now) (state g new.conn.now)

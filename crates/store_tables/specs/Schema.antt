@@ -7,7 +7,7 @@ use Rattle.sqlite.specs.Table.{Table}
 use Rattle.sqlite.specs.Schema.{Schema}
 use Rattle.sqlite.specs.Change.{created}
 use Rattle.sqlite.specs.Kind.{Kind}
-use Rattle.sqlite.specs.Kind.TheVariants.{Integer, Text, Blob}
+use Rattle.sqlite.specs.Kind.TheVariants.{Any, Integer, Text, Blob}
 use Rattle.sqlite_value.specs.declared.keys.Order.{Order}
 use Rattle.sqlite_schema.specs.declared.schema.Column.{Column}
 
@@ -33,6 +33,10 @@ text = column_of Text
 abbrev blob : List ℕ → Column
 blob = column_of Blob
 
+-- a column of whatever values, as those of SQLite's own tables are
+abbrev pub untyped : List ℕ → Column
+untyped name = record (column_of Any name) { is_strict = false }
+
 -- a column of the primary key, which takes no NULL
 abbrev pub keyed : Column → Column
 keyed column = record column { not_null = true }
@@ -43,10 +47,10 @@ keyed column = record column { not_null = true }
 abbrev pub ascending : Order
 ascending = record { digits = 0 }
 
--- a STRICT table with these columns, whose primary key is the columns of these numbers (the rowid is number 0), and
+-- a table with these columns, whose primary key is the columns of these numbers (the rowid is number 0), and
 -- with these lists of columns that are unique together
-abbrev strict_table : List ℕ → List Column → List ℕ → List (List ℕ) → List Order → Table
-strict_table name columns primary uniques orders = record {
+abbrev declared_table : List ℕ → List Column → List ℕ → List (List ℕ) → List Order → Table
+declared_table name columns primary uniques orders = record {
   name = name;
   tree = 0;
   columns = columns;
@@ -63,11 +67,11 @@ strict_table name columns primary uniques orders = record {
 
 -- a STRICT table with a key of the columns of these numbers
 abbrev keyed_table : List ℕ → List Column → List ℕ → Table
-keyed_table name columns key = strict_table name columns key (key ∷ []) (ascending ∷ [])
+keyed_table name columns key = declared_table name columns key (key ∷ []) (ascending ∷ [])
 
 -- a STRICT table whose first column is its INTEGER PRIMARY KEY, which is the rowid
 abbrev rowid_table : List ℕ → List Column → Table
-rowid_table name columns = record (strict_table name columns (0 ∷ []) [] []) { key = Some 0 }
+rowid_table name columns = record (declared_table name columns (0 ∷ []) [] []) { key = Some 0 }
 
 -- the profile of the tables: one row, 1 and the number of the profile
 abbrev pub profile : Table
@@ -82,7 +86,7 @@ net = keyed_table (codes "net")
 
 -- a live message of a network
 abbrev pub message : Table
-message = strict_table (codes "message")
+message = declared_table (codes "message")
     (keyed (text (codes "net")) ∷ keyed (integer (codes "number")) ∷ text (codes "name") ∷ text (codes "owner")
     ∷ blob (codes "body") ∷ [])
     (1 ∷ 2 ∷ []) ((1 ∷ 2 ∷ []) ∷ (1 ∷ 3 ∷ []) ∷ []) (ascending ∷ ascending ∷ [])
@@ -120,14 +124,14 @@ reply = keyed_table (codes "reply")
 
 -- a live message of a network, without its signals
 abbrev pub msg : Table
-msg = strict_table (codes "msg")
+msg = declared_table (codes "msg")
     (keyed (text (codes "net")) ∷ keyed (integer (codes "number")) ∷ text (codes "name") ∷ text (codes "owner")
     ∷ integer (codes "length") ∷ text (codes "sender") ∷ blob (codes "comment") ∷ [])
     (1 ∷ 2 ∷ []) ((1 ∷ 2 ∷ []) ∷ (1 ∷ 3 ∷ []) ∷ []) (ascending ∷ ascending ∷ [])
 
 -- a signal of a live message, without its receivers and value texts
 abbrev pub sig : Table
-sig = strict_table (codes "sig")
+sig = declared_table (codes "sig")
     (keyed (text (codes "net")) ∷ keyed (integer (codes "number")) ∷ keyed (integer (codes "place"))
     ∷ text (codes "name") ∷ integer (codes "start") ∷ integer (codes "size") ∷ integer (codes "motorola")
     ∷ integer (codes "signed") ∷ integer (codes "mux") ∷ text (codes "factor") ∷ text (codes "shift")
@@ -155,6 +159,11 @@ part = keyed_table (codes "part")
     (keyed (text (codes "team")) ∷ keyed (text (codes "key")) ∷ keyed (integer (codes "place")) ∷ integer (codes "kind")
     ∷ integer (codes "a") ∷ integer (codes "b") ∷ [])
     (1 ∷ 2 ∷ 3 ∷ [])
+
+-- the statistics that ANALYZE keeps, in a table that SQLite makes
+abbrev pub statistics : Table
+statistics = declared_table (codes "sqlite_stat1")
+    (untyped (codes "tbl") ∷ untyped (codes "idx") ∷ untyped (codes "stat") ∷ []) [] [] []
 
 -- ---- the schema, table by table
 
@@ -218,7 +227,16 @@ unfoldable pub office_schema : Schema
 unfolding schema_13
 office_schema = created schema_13 part
 
+-- and the statistics, once somebody ran ANALYZE on them
+unfoldable pub analyzed_schema : Schema
+unfolding office_schema
+analyzed_schema = created office_schema statistics
+
+-- all tables of an office, with statistics after them or not
+abbrev pub IsCurrentSchema : Schema → Type 0
+IsCurrentSchema schema = (schema ≡ office_schema) ⊎ (schema ≡ analyzed_schema)
+
 -- the tables that an office of some time has: those before messages had rows of their own, those before there were
 -- bundles, or all
 abbrev pub IsOfficeSchema : Schema → Type 0
-IsOfficeSchema schema = (schema ≡ schema_9) ⊎ (schema ≡ schema_13) ⊎ (schema ≡ office_schema)
+IsOfficeSchema schema = (schema ≡ schema_9) ⊎ (schema ≡ schema_13) ⊎ IsCurrentSchema schema

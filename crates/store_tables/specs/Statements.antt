@@ -1,5 +1,5 @@
 -- What a statement in a transaction makes of the tables, and words for what it does.
-use Rattle.std.specs.Prelude.{◌≡◌, List, [], map, IfOk, IsTrue, OnOk, Result}
+use Rattle.std.specs.Prelude.{◌≡◌, List, [], drop, map, IfOk, IsTrue, OnOk, Result}
 use Rattle.sqlite.specs.Change.{KeepsRows, created, next_tree}
 use Rattle.sqlite.specs.Effect.{Database}
 use Rattle.sqlite.specs.Schema.{Schema}
@@ -8,12 +8,25 @@ use Rattle.sqlite.specs.Tree.{Trees}
 use Rattle.sqlite.specs.State.{State, HasCleanDisk, IsUnchanged, KeepsCommit, Survives}
 use Rattle.sqlite_catalog.specs.Listing.{IsSound}
 use Rattle.sqlite.specs.Order.{Row}
-use Rattle.store_tables.specs.Schema.{no_schema}
+use Rattle.store_tables.specs.Schema.{no_schema, office_schema}
 use Rattle.store_tables.specs.Tables.{AreNumbered, Tables, named, row_by, tables_of, no_rows, IsOffice, IsEmptyWith}
 
--- the tables of the office before, changed in this way, are those after; nothing is committed
+-- the rows of each of these tables
+abbrev pub rows_in : List Table → Trees → List (List Row)
+rows_in tables db = map (λ t. map (row_by t.key) (db t.tree)) tables
+
+-- the rows of the tables after the fourteen of an office: those of the statistics, if they are there
+abbrev pub statistics_in : Schema → Trees → List (List Row)
+statistics_in schema db = rows_in (drop 14 schema.tables) db
+
+abbrev pub statistics_of : Database → List (List Row)
+statistics_of db = statistics_in db.schema db.trees
+
+-- the tables of the office before, changed in this way, are those after, and the statistics stay; nothing is committed
 pub record Makes (change : Tables → Tables) (old new : State) : Type 0 where
   pub office : IsOffice new.now
+  pub same_schema : new.now.schema ≡ old.now.schema
+  pub statistics : statistics_of new.now ≡ statistics_of old.now
   pub tables_are : tables_of new.now.trees ≡ change (tables_of old.now.trees)
   pub committed : new.committed ≡ old.committed
   pub inside : IsTrue new.in_transaction
@@ -26,9 +39,10 @@ pub record AreMade (schema : Schema) (new : State) : Type 0 where
   pub sound : IsSound schema new.now.trees
   pub inside : IsTrue new.in_transaction
 
--- inside a transaction, the tables of the office with no row
+-- inside a transaction, the tables of the office with no row, and no statistics
 pub record IsEmptyOffice (new : State) : Type 0 where
   pub office : IsOffice new.now
+  pub schema_is : new.now.schema ≡ office_schema
   pub tables_are : tables_of new.now.trees ≡ no_rows
   pub inside : IsTrue new.in_transaction
 
@@ -43,9 +57,6 @@ pub record IsTableAdded (schema : Schema) (table : Table) (old : Trees) (new : D
   pub sound : IsSound (created schema table) new.trees
 
 -- The tables of a schema that has the first of the office's tables: those that it lacks have no row.
-abbrev pub rows_in : List Table → Trees → List (List Row)
-rows_in tables db = map (λ t. map (row_by t.key) (db t.tree)) tables
-
 abbrev pub tables_in : Schema → Trees → Tables
 tables_in schema db = named (rows_in schema.tables db)
 
@@ -94,6 +105,15 @@ Writes result old new IsWritten = HasCleanDisk new → IsOffice old.now
 -- if it succeeds, the tables are the office's still
 abbrev pub StaysOffice : {X E : Type 0} → Result X E → State → State → Type 0
 StaysOffice result old new = HasCleanDisk new → IsOffice old.now → OnOk result (IsOffice new.now)
+
+-- if it succeeds, there are the same tables: statistics after the office's only if they were there
+abbrev pub KeepsSchema : {X E : Type 0} → Result X E → State → State → Type 0
+KeepsSchema result old new = HasCleanDisk new → IsOffice old.now → OnOk result (new.now.schema ≡ old.now.schema)
+
+-- and the rows of the statistics are as they were
+abbrev pub KeepsStatistics : {X E : Type 0} → Result X E → State → State → Type 0
+KeepsStatistics result old new = HasCleanDisk new → IsOffice old.now
+    → OnOk result (statistics_of new.now ≡ statistics_of old.now)
 
 -- if it succeeds, the transaction goes on
 abbrev pub StaysInside : {X E : Type 0} → Result X E → State → State → Type 0

@@ -8,7 +8,7 @@ use Rattle.sqlite.specs.Effect.{Database}
 use Rattle.sqlite_trees.specs.View.{IsShaped}
 use Rattle.sqlite_trees.specs.declared.store.Shape.TheVariants as shape
 use Rattle.sqlite_catalog.specs.Listing.{IsSound}
-use Rattle.store_tables.specs.Schema.{office_schema}
+use Rattle.store_tables.specs.Schema.{IsCurrentSchema}
 
 -- A tree keeps a row as its rowid and then its columns. The values of its columns:
 abbrev pub values : Row → Row
@@ -100,15 +100,18 @@ no_rows = record {
 abbrev pub AreNumbered : Schema → Trees → Type 0
 AreNumbered schema db = AllByRecursion (λ t. IsShaped shape.Table (db t.tree)) schema.tables
 
--- the trees list the office's tables and keep to them
+-- the trees list the office's tables, with statistics after them or not, and keep to them
 pub record AreOffice (db : Trees) : Type 0 where
-  pub sound : IsSound office_schema db
-  pub numbered : AreNumbered office_schema db
+  pub schema : Schema
+  pub current : IsCurrentSchema schema
+  pub sound : IsSound schema db
+  pub numbered : AreNumbered schema db
 
 -- the same of a database as a connection shows it
 pub record IsOffice (db : Database) : Type 0 where
-  pub schema : db.schema ≡ office_schema
+  pub schema : IsCurrentSchema db.schema
   pub trees : AreOffice db.trees
+  pub listed : trees.schema ≡ db.schema
 
 -- a database with the tables of a schema and no row in any of them
 pub record IsEmptyWith (schema : Schema) (db : Database) : Type 0 where

@@ -7,7 +7,7 @@ ghost use Rattle.store_tables.specs.Schema.{ascending};
 use crate::office_column::OfficeColumn;
 use crate::office_index::{INDEXES, OfficeIndex};
 use crate::office_table::{OfficeTable, TABLES};
-use sqlite_schema::schema::{Column, Index, Schema, Table};
+use sqlite_schema::schema::{Column, Index, Kind, Schema, Table};
 use sqlite_value::keys::{Collation, Order};
 use sqlite_value::value::Value;
 
@@ -15,13 +15,14 @@ use sqlite_value::value::Value;
 fn is_column(column: &Column, office: OfficeColumn) -> bool
     ensures { (result ≡ true) ↔ (column.now ≡ column_at office) }
 {
-    let (name, kind, is_key) = match office {
-        OfficeColumn::Key(name, kind) => (name, kind, true),
-        OfficeColumn::Other(name, kind) => (name, kind, false),
+    let (name, kind, is_key, is_strict) = match office {
+        OfficeColumn::Key(name, kind) => (name, kind, true, true),
+        OfficeColumn::Other(name, kind) => (name, kind, false, true),
+        OfficeColumn::Untyped(name) => (name, Kind::Any, false, false),
     };
     column.name.as_slice() == name
         && column.kind == kind
-        && column.is_strict
+        && column.is_strict == is_strict
         && column.not_null == is_key
         && matches!(column.default, Value::Null)
         && column.collation == Collation::Binary
@@ -113,7 +114,7 @@ fn is_table(table: &Table, office: OfficeTable) -> bool
         && has_no_rule(table)
 }
 
-/// Whether the tables are the first ones of an office, as many as they are.
+/// Whether the tables are the first ones of an office with statistics, as many as they are.
 fn are_tables(tables: &[Table]) -> bool
     ensures { (result ≡ true) ↔ (tables.now ≡ take (length tables.now) (map table_of every_table)) }
 {
@@ -156,8 +157,8 @@ fn are_indexes(indexes: &[Index]) -> bool
     true
 }
 
-/// Whether the tables and the indexes are the first ones of an office, as many as they are, and there is no view or
-/// trigger. All that the schema says of them is compared.
+/// Whether the tables and the indexes are the first ones of an office with statistics, as many as they are, and there
+/// is no view or trigger. All that the schema says of them is compared.
 pub fn is_begun(schema: &Schema) -> bool
     ensures { (result ≡ true) ↔ IsBegun schema.now }
 {

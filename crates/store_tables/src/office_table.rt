@@ -1,7 +1,7 @@
 //! The tables of an office, as those of a database are compared with them.
 
 use crate::office_column::OfficeColumn;
-use crate::office_column::OfficeColumn::{Key, Other};
+use crate::office_column::OfficeColumn::{Key, Other, Untyped};
 use sqlite_schema::schema::Kind::{Blob, Integer, Text};
 
 /// A table of an office.
@@ -35,10 +35,12 @@ pub(crate) enum OfficeTable {
     SigValue,
     /// The replies to the parts of bundles.
     Part,
+    /// The statistics of ANALYZE, if somebody ran it.
+    Statistics,
 }
 
-/// The tables in the order in which they are made.
-pub(crate) const TABLES: [OfficeTable; 14] = [
+/// The tables in the order in which they are made, and the statistics.
+pub(crate) const TABLES: [OfficeTable; 15] = [
     OfficeTable::Profile,
     OfficeTable::Net,
     OfficeTable::Message,
@@ -53,6 +55,7 @@ pub(crate) const TABLES: [OfficeTable; 14] = [
     OfficeTable::Receiver,
     OfficeTable::SigValue,
     OfficeTable::Part,
+    OfficeTable::Statistics,
 ];
 
 const PROFILE: [OfficeColumn; 2] = [Other(b"one", Integer), Other(b"number", Integer)];
@@ -160,6 +163,8 @@ const PART: [OfficeColumn; 6] = [
     Other(b"b", Integer),
 ];
 
+const STATISTICS: [OfficeColumn; 3] = [Untyped(b"tbl"), Untyped(b"idx"), Untyped(b"stat")];
+
 impl OfficeTable {
     ghost use Rattle.std.specs.Prelude.{◌≡◌, map};
     ghost use Rattle.store_tables.specs.Comparing.{column_at, table_of};
@@ -184,6 +189,7 @@ impl OfficeTable {
             OfficeTable::Receiver => b"receiver",
             OfficeTable::SigValue => b"sigvalue",
             OfficeTable::Part => b"part",
+            OfficeTable::Statistics => b"sqlite_stat1",
         }
     }
 
@@ -206,6 +212,7 @@ impl OfficeTable {
             OfficeTable::Receiver => 23,
             OfficeTable::SigValue => 25,
             OfficeTable::Part => 27,
+            OfficeTable::Statistics => 29,
         }
     }
 
@@ -228,6 +235,7 @@ impl OfficeTable {
             OfficeTable::Receiver => &RECEIVER,
             OfficeTable::SigValue => &SIG_VALUE,
             OfficeTable::Part => &PART,
+            OfficeTable::Statistics => &STATISTICS,
         }
     }
 
@@ -241,7 +249,7 @@ impl OfficeTable {
         }
     }
 
-    /// The columns of its primary key, counted from 1; the rowid is 0.
+    /// The columns of its primary key, counted from 1; the rowid is 0. The statistics have no key.
     pub(crate) fn primary(self) -> &'static [usize]
         ensures { result.now ≡ (table_of self).primary }
     {
@@ -250,6 +258,7 @@ impl OfficeTable {
             OfficeTable::Net => &[1],
             OfficeTable::Block | OfficeTable::Sig | OfficeTable::Part => &[1, 2, 3],
             OfficeTable::Receiver | OfficeTable::SigValue => &[1, 2, 3, 4],
+            OfficeTable::Statistics => &[],
             _ => &[1, 2],
         }
     }
@@ -260,7 +269,7 @@ impl OfficeTable {
         ensures orders { map (λ _. ascending) result.now ≡ (table_of self).orders }
     {
         match self {
-            OfficeTable::Profile | OfficeTable::Spn => &[],
+            OfficeTable::Profile | OfficeTable::Spn | OfficeTable::Statistics => &[],
             OfficeTable::Net => &[&[1]],
             OfficeTable::Held | OfficeTable::Approval | OfficeTable::Frozen | OfficeTable::Reply =>
                 &[&[1, 2]],

@@ -1,6 +1,7 @@
 //! What a connection that was just opened shows of the tables.
 ghost use Rattle.std.specs.Prelude.{◌≡◌, ◌↔◌, [], IsTrue};
-ghost use Rattle.store_tables.specs.Schema.{no_schema, office_schema};
+ghost use Rattle.store_tables.specs.Schema.{no_schema};
+ghost use Rattle.store_tables.specs.Tables.{AreOffice, IsOffice};
 ghost use Rattle.sqlite.specs.Schema.{Schema as Tables};
 ghost use Rattle.sqlite_catalog.specs.Listing.{IsSound};
 ghost use Rattle.sqlite_trees.specs.Objects.{catalog_tree};
@@ -17,11 +18,11 @@ pub fn is_new<S: Alter>(conn: &Connection<S>) -> bool
 }
 
 /// Does nothing. Its contract is a law: where the trees list the office's tables and keep to them, the connection has
-/// the office's schema, since no other has the same list.
+/// these tables, since no other schema has the same list.
 pub fn knows_schema<S: Alter>(conn: &Connection<S>)
     ensures { IsTrue (state S.Store conn.now).is_open
-        → IsSound office_schema (state S.Store conn.now).now.trees
-        → (state S.Store conn.now).now.schema ≡ office_schema }
+        → AreOffice (state S.Store conn.now).now.trees
+        → IsOffice (state S.Store conn.now).now }
 {
     let _schema = conn.schema();
 }

@@ -5,7 +5,8 @@ ghost use Rattle.sqlite.specs.Steps.{over_memory};
 ghost use Rattle.office_history.specs.History.{Answered};
 ghost use Rattle.store.specs.Holding.{Holding};
 ghost use Rattle.store.specs.Opening.{HasNone, HoldingInSomeForm};
-ghost use Rattle.canoffice_cli.specs.Databases.{known_of};
+ghost use Rattle.store_tables.specs.Statements.{statistics_of};
+ghost use Rattle.canoffice_cli.specs.Databases.{Statistics, known_of};
 
 use super::Databases;
 use crate::answering::{Answers, answer_on, nothing_answered};
@@ -55,6 +56,9 @@ impl MemoryDatabase {
             → HoldingInSomeForm h (state over_memory conn)) }
         ensures none { IfOk result (λ conn. (path : List ℕ) → (known_of self.old.conn).is_new path
             → HasNone (state over_memory conn)) }
+        ensures statistics { IfOk result (λ conn. (path : List ℕ) (rows : Statistics)
+            → (known_of self.old.conn).has_statistics path rows
+            → statistics_of (state over_memory conn).now ≡ rows) }
         ensures err { OnErr result (self.new ≡ self.old) }
     {
         match &self.conn {

@@ -1,11 +1,12 @@
-use Rattle.std.proofs.Common.{◌≡◌, ◌+◌, ◌<◌, ◌++◌, ◌∷◌, [], length, take, ap, ◌∙◌, subst, arith, length-append}
+use Rattle.std.proofs.Common.{◌≡◌, ◌+◌, ◌<◌, ◌++◌, ◌∷◌, [], length, take, ap, ◌∙◌, refl, subst, arith, length-append}
 use Rattle.std.proofs.lemmas.List.{take_more}
 use Rattle.std.specs.List.{list_any}
 use Rattle.office_echo.specs.Lines.{is_refused}
-use Rattle.canoffice_cli.proofs.Stopping.{still_none}
+use Rattle.canoffice_cli.proofs.Stopping.{ends_here, far_at_refusal, still_none}
 use Rattle.sqlite.specs.Held.{state}
 use Rattle.sqlite.specs.State.{HasCleanDisk}
 use Rattle.store.specs.Holding.{Holding}
+use Rattle.store.proofs.Same.{held_tables}
 use Rattle.office_history.specs.History.{IsLegalHistory}
 use Rattle.canoffice_cli.proofs.Reported.{held_is_legal, history_at_first, history_so_far, reported_next}
 use Rattle.canoffice_cli.proofs.answering.answer_all.Goals as goal
@@ -23,6 +24,7 @@ loop-arrival-init g c =
       held = λ clean h holding. subst (λ k. Holding k old)
           (history_at_first h (take 0 c.args.arrivals.now) c.in_ok-answers.answers.items c.in_ok-answers.ensures.items)
           holding;
+      statistics = λ clean h holding. refl;
     }
 
 pub push_reserved-requires : goal.push_reserved-requires
@@ -56,6 +58,11 @@ loop-arrival-preserved g c =
           let early : HasCleanDisk mid = omega (arith, arrive.call.clean, clean) in
           reported_next (λ k. Holding k now) h arrivals at items _ item c.in-Ok.answer within next i.each
           c.push_reserved.ensures.items (arrive.answered clean _ (i.held early h holding)).0;
+      statistics = λ clean h holding.
+          let early : HasCleanDisk mid = omega (arith, arrive.call.clean, clean) in
+          let held = i.held early h holding in
+          (arrive.statistics clean (held_tables _ mid held) (arrive.answered clean _ held).0.is_open).statistics
+          ∙ i.statistics early h holding;
     }
 
 pub returns-in-Err-clause-held : goal.returns-in-Err-clause-held
@@ -83,6 +90,21 @@ pub returns-clause-legal : goal.returns-clause-legal
 returns-clause-legal g c clean h holding =
     let i = c.loop-arrival.invariant in
     subst IsLegalHistory (history_so_far h c.args.arrivals.now _ _ i.each) (held_is_legal _ _ (i.held clean h holding))
+
+pub returns-then-stops-clause-far : goal.returns-then-stops-clause-far
+returns-then-stops-clause-far g c =
+    let i = c.loop-arrival.invariant in
+    let items = c.loop-arrival.answers.items in
+    let all = c.push_reserved.new.self.items in
+    let arrivals = c.args.arrivals.now in
+    let within : c.loop-arrival.arrival-index < length arrivals = c.loop-arrival-test.true in
+    let before = i.each in
+    let one = length-append items (c.in-Ok.answer ∷ []) in
+    let each : length all ≡ c.loop-arrival.arrival-index + 1 =
+    ap length c.push_reserved.ensures.items ∙ omega (arith, before, one) in
+    far_at_refusal c.args.strict arrivals all (omega (arith, within, each))
+    (ends_here c.args.strict c.stops_at-stops.result items all c.in-Ok.answer i.none c.stops_at-stops.ensures
+    c.if-stops.true c.push_reserved.ensures.items)
 
 pub returns-then-stops-clause-held : goal.returns-then-stops-clause-held
 returns-then-stops-clause-held g c clean h holding is_open =
@@ -125,3 +147,24 @@ returns-then-stops-clause-legal g c clean h holding =
     let held = reported_next (λ k. Holding k now) h arrivals at items all item c.in-Ok.answer within next i.each
     c.push_reserved.ensures.items (arrive.answered clean _ (i.held early h holding)).0 in
     subst IsLegalHistory (history_so_far h arrivals all (at + 1) each) (held_is_legal _ _ held)
+
+pub returns-in-Err-clause-statistics : goal.returns-in-Err-clause-statistics
+returns-in-Err-clause-statistics g c clean h holding is_open =
+    let i = c.loop-arrival.invariant in
+    let arrive = c.in-Err.ensures in
+    let mid = state g.S.Store c.loop-arrival.office.conn in
+    let early : HasCleanDisk mid = omega (arith, arrive.call.clean, clean) in
+    (arrive.statistics clean (held_tables _ mid (i.held early h holding)) is_open).statistics
+    ∙ i.statistics early h holding
+
+pub returns-clause-statistics : goal.returns-clause-statistics
+returns-clause-statistics g c clean h holding is_open = c.loop-arrival.invariant.statistics clean h holding
+
+pub returns-then-stops-clause-statistics : goal.returns-then-stops-clause-statistics
+returns-then-stops-clause-statistics g c clean h holding is_open =
+    let i = c.loop-arrival.invariant in
+    let arrive = c.in-Ok.ensures in
+    let mid = state g.S.Store c.loop-arrival.office.conn in
+    let early : HasCleanDisk mid = omega (arith, arrive.call.clean, clean) in
+    (arrive.statistics clean (held_tables _ mid (i.held early h holding)) is_open).statistics
+    ∙ i.statistics early h holding

@@ -3,6 +3,7 @@ use Rattle.std.specs.Vec.{vec_capacity, vec_len}
 use Rattle.sqlite.specs.Held.{state}
 use Rattle.sqlite.specs.State.{HasCleanDisk}
 use Rattle.sqlite_trees.specs.View.{doubt}
+use Rattle.store_tables.specs.Statements.{statistics_of}
 use Rattle.office_history.specs.History.{Answered}
 use Rattle.store.specs.Holding.{Holding}
 use Rattle.std.specs.Prelude.{IsTrue}
@@ -23,4 +24,6 @@ invariant-loop-arrival g l =
       clean : doubt old.is_clean ≤ doubt now.is_clean;
       held : HasCleanDisk now → (h : List Answered) → Holding h old
           → Holding (h ++ answered_with (take l.arrival-index l.arrivals) l.answers.items) now;
+      statistics : HasCleanDisk now → (h : List Answered) → Holding h old
+          → statistics_of now.now ≡ statistics_of old.now;
     }

@@ -1,4 +1,4 @@
-use Rattle.std.proofs.Common.{◌≡◌, inl, subst, arith}
+use Rattle.std.proofs.Common.{◌≡◌, ◌∙◌, inl, subst, arith}
 use Rattle.sqlite.specs.Held.{state}
 use Rattle.sqlite.specs.State.{HasCleanDisk}
 use Rattle.store.specs.Holding.{Holding}
@@ -42,3 +42,13 @@ pub returns-in-Err-clause-legal : goal.returns-in-Err-clause-legal
 returns-in-Err-clause-legal g c clean h begins =
     subst IsLegalHistory (history_at_first h c.args.arrivals.now _ c.nothing_answered.ensures.answers)
     (begun_is_legal c.histories_grow.ensures h _ begins)
+
+pub returns-in-Ok-clause-statistics : goal.returns-in-Ok-clause-statistics
+returns-in-Ok-clause-statistics g c clean h begins is_open =
+    let reported = c.answer_all-reported.ensures in
+    let same : c.close.result ≡ c.answer_all-reported.new.office.conn = c.close.ensures.same in
+    let clean_now : HasCleanDisk (state g.S.Store c.answer_all-reported.new.office.conn) = rw (← same) clean in
+    let early : HasCleanDisk (state g.S.Store c.in-Ok.office.conn) = omega (arith, reported.clean, clean_now) in
+    let begun = c.in-Ok.ensures.begun early h begins in
+    rw same (reported.statistics clean_now h begun (rw (← same) is_open)
+    ∙ c.in-Ok.ensures.statistics early h begins begun.is_open)

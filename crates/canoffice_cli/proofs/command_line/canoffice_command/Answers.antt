@@ -9,7 +9,9 @@ returns-clause-app c =
     c.in_ok-chart_command.ensures.app in
     let with_check = one_more _ _ _ _ _ c.in_ok-with_check.ensures c.in_ok-check_command.ensures.local with_chart
     c.in_ok-check_command.ensures.app in
-    let with_export = one_more _ _ _ _ _ c.in_ok-with_export.ensures c.in_ok-export_command.ensures.local with_check
+    let with_compare = one_more _ _ _ _ _ c.in_ok-with_compare.ensures c.in_ok-compare_command.ensures.local with_check
+    c.in_ok-compare_command.ensures.app in
+    let with_export = one_more _ _ _ _ _ c.in_ok-with_export.ensures c.in_ok-export_command.ensures.local with_compare
     c.in_ok-export_command.ensures.app in
     let with_format = one_more _ _ _ _ _ c.in_ok-with_format.ensures c.in_ok-format_command.ensures.local with_export
     c.in_ok-format_command.ensures.app in
@@ -32,7 +34,9 @@ returns-clause-local c =
     c.in_ok-apply_command.ensures.local in
     let with_chart = one_more_local _ _ _ c.in_ok-with_chart.ensures with_apply c.in_ok-chart_command.ensures.local in
     let with_check = one_more_local _ _ _ c.in_ok-with_check.ensures with_chart c.in_ok-check_command.ensures.local in
-    let with_export = one_more_local _ _ _ c.in_ok-with_export.ensures with_check
+    let with_compare = one_more_local _ _ _ c.in_ok-with_compare.ensures with_check
+    c.in_ok-compare_command.ensures.local in
+    let with_export = one_more_local _ _ _ c.in_ok-with_export.ensures with_compare
     c.in_ok-export_command.ensures.local in
     let with_format = one_more_local _ _ _ c.in_ok-with_format.ensures with_export
     c.in_ok-format_command.ensures.local in

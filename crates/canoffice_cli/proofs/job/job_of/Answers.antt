@@ -1,7 +1,8 @@
 use Rattle.std.proofs.Common.{map}
 use Rattle.clap.specs.Words.{app_of, kind_of}
-use Rattle.canoffice_cli.proofs.CommandLine.{line_fault_by, wrong_look_of, wrong_number_of}
-use Rattle.canoffice_cli.proofs.EnteredLine.{job_of_read, line_is_read, wrong_look_read, wrong_number_read}
+use Rattle.canoffice_cli.proofs.CommandLine.{line_fault_by, unknown_remark_of, wrong_look_of, wrong_number_of}
+use Rattle.canoffice_cli.proofs.EnteredLine.{job_of_read, line_is_read, unknown_remark_read, wrong_look_read}
+use Rattle.canoffice_cli.proofs.EnteredLine.{wrong_number_read}
 use Rattle.canoffice_cli.proofs.job.job_of.Goals as goal
 
 pub job_in-requires : goal.job_in-requires
@@ -48,6 +49,17 @@ returns-in-Err-WrongWhat-clause-fault c =
     wrong_look_of words c.wrong_what.result
     (wrong_look_read words found.matches read
     (rw c.in-Err-WrongWhat.field-0-is at c.in-Err-WrongWhat.ensures.fault)) c.wrong_what.ensures
+
+pub returns-in-Err-UnknownRemark-clause-fault : goal.returns-in-Err-UnknownRemark-clause-fault
+returns-in-Err-UnknownRemark-clause-fault c =
+    let found = c.in-Ok-try_get_matches_from in
+    let words = map (λ s. s.now) c.args.words.now in
+    let read = line_is_read (app_of c.in-Ok.command) words found.matches c.in-Ok.ensures.app found.ensures.kinds
+    found.ensures.matches in
+    let word = c.in-Err-UnknownRemark.word.now in
+    unknown_remark_of words word c.unknown_remark.result
+    (unknown_remark_read words found.matches word read
+    (rw c.in-Err-UnknownRemark.field-0-is at c.in-Err-UnknownRemark.ensures.fault)) c.unknown_remark.ensures
 
 pub returns-clause-fault : goal.returns-clause-fault
 returns-clause-fault c =

@@ -1,7 +1,8 @@
-use Rattle.std.proofs.Common.{◌≡◌, ◌∙◌, inl, not, ap}
+use Rattle.std.proofs.Common.{◌≡◌, ◌∙◌, [], inl, inr, not, ap}
 use Rattle.sqlite.specs.Held.{state}
+use Rattle.store.proofs.OpenedSo.{migrated_statistics}
 use Rattle.store.proofs.TablesInForm.{in_form}
-use Rattle.canoffice_cli.proofs.Reported.{still_held, still_in_form}
+use Rattle.canoffice_cli.proofs.Reported.{still_held, still_in_form, still_rows}
 use Rattle.canoffice_cli.proofs.migrating.migrate_on.Goals as goal
 
 pub returns-in-Ok-clause-carried : goal.returns-in-Ok-clause-carried
@@ -35,3 +36,31 @@ returns-in-Err-clause-held g c clean h holding is_open =
     (c.is_autocommit-settled.ensures.settled
     (c.is_autocommit-settled.ensures.value ∙ ap not c.in-Err.ensures.opened.given_back.settled))
     (λ office. c.in-Err.ensures.opened.given_back.back clean (inl office)) is_open h holding
+
+pub returns-in-Ok-clause-statistics : goal.returns-in-Ok-clause-statistics
+returns-in-Ok-clause-statistics g c clean h holding is_open =
+    let same : c.close.result ≡ c.in-Ok.office.conn = c.close.ensures.same in
+    rw same (migrated_statistics g.S.Store c.args.conn c.in-Ok.office c.in-Ok.ensures.opened (rw (← same) clean) h
+    (inl holding))
+
+pub returns-in-Ok-clause-statistics_new : goal.returns-in-Ok-clause-statistics_new
+returns-in-Ok-clause-statistics_new g c clean none is_open =
+    let same : c.close.result ≡ c.in-Ok.office.conn = c.close.ensures.same in
+    rw same (migrated_statistics g.S.Store c.args.conn c.in-Ok.office c.in-Ok.ensures.opened (rw (← same) clean) []
+    (inr none))
+
+pub returns-in-Err-clause-statistics : goal.returns-in-Err-clause-statistics
+returns-in-Err-clause-statistics g c clean h holding is_open =
+    still_rows (state g.S.Store c.args.conn) (state g.S.Store c.in-Err.conn)
+    (c.is_autocommit-settled_before.ensures.settled (c.is_autocommit-settled_before.ensures.value ∙ ap not c.requires))
+    (c.is_autocommit-settled.ensures.settled
+    (c.is_autocommit-settled.ensures.value ∙ ap not c.in-Err.ensures.opened.given_back.settled))
+    (c.in-Err.ensures.opened.given_back.back clean) is_open h (inl holding)
+
+pub returns-in-Err-clause-statistics_new : goal.returns-in-Err-clause-statistics_new
+returns-in-Err-clause-statistics_new g c clean none is_open =
+    still_rows (state g.S.Store c.args.conn) (state g.S.Store c.in-Err.conn)
+    (c.is_autocommit-settled_before.ensures.settled (c.is_autocommit-settled_before.ensures.value ∙ ap not c.requires))
+    (c.is_autocommit-settled.ensures.settled
+    (c.is_autocommit-settled.ensures.value ∙ ap not c.in-Err.ensures.opened.given_back.settled))
+    (c.in-Err.ensures.opened.given_back.back clean) is_open [] (inr none)

@@ -1,5 +1,6 @@
 use Rattle.std.proofs.Common.{ℕ, Global, Vec, IfOk, OnErr, sym, subst}
 use Rattle.sqlite.specs.Held.{state}
+use Rattle.store.proofs.Statistics.{itself_keeps, itself_leaves}
 use Rattle.desk_call.specs.Call.{fails, seen}
 use Rattle.desk_call.specs.declared.call.Call.{Call}
 use Rattle.desk_reply.specs.Response.{problem_response}
@@ -45,3 +46,9 @@ returns-in-Fails-clause-err g c clean h holds =
     let s = state g.S.Store c.args.office.now.conn in
     on_err c.problem_response.result (MayHaveTaken h (seen c.args.call) s)
     (may_same h (seen c.args.call) s holds (left_now h s c.leaves_now.ensures holds))
+
+pub returns-in-Fails-clause-statistics : goal.returns-in-Fails-clause-statistics
+returns-in-Fails-clause-statistics g c = itself_keeps g.S.Store c.args.office.now.conn
+
+pub returns-in-Fails-clause-statistics_left : goal.returns-in-Fails-clause-statistics_left
+returns-in-Fails-clause-statistics_left g c = itself_leaves g.S.Store c.args.office.now.conn

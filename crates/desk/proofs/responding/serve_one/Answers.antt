@@ -2,6 +2,7 @@ use Rattle.std.proofs.Common.{◌∙◌, ℕ, List, ap, inl, inr, refl, sym, sub
 use Rattle.std.proofs.lemmas.Result.{err_from_is_err_and}
 use Rattle.std.specs.Io.KnownBytes.{Appends}
 use Rattle.sqlite.specs.Held.{state}
+use Rattle.store.proofs.Statistics.{itself_keeps, itself_leaves}
 use Rattle.desk_types.specs.Moved.{AppendsFront}
 use Rattle.desk_call.specs.Call.{seen}
 use Rattle.desk.specs.Responding.{Responds}
@@ -27,6 +28,12 @@ returns-in_err-call-clause-served g c clean h holds =
     let p = err_from_is_err_and c.from_residual.result c.from_residual.ensures.1 in
     let left = left_now h (state g.S.Store c.args.office.now.conn) c.leaves_now.ensures holds in
     rw p.1 (serves_unread Unit h _ p.0 _ _ _ _ p.2 holds left)
+
+pub returns-in_err-call-clause-statistics : goal.returns-in_err-call-clause-statistics
+returns-in_err-call-clause-statistics g c = itself_keeps g.S.Store c.args.office.now.conn
+
+pub returns-in_err-call-clause-statistics_left : goal.returns-in_err-call-clause-statistics_left
+returns-in_err-call-clause-statistics_left g c = itself_leaves g.S.Store c.args.office.now.conn
 
 -- ---- there is no memory for its response
 

@@ -2,6 +2,7 @@ use Rattle.std.proofs.Common.{◌<◌, [], ◌∷◌, ◌++◌, length, refl, sy
 use Rattle.sqlite.specs.Held.{state}
 use Rattle.sqlite.specs.State.{HasCleanDisk}
 use Rattle.std.specs.Prelude.{IsTrue}
+use Rattle.store.proofs.ListOfArrivals.{KeepThose, keep_at_first, keep_more}
 use Rattle.desk.specs.Serving.{HasServedAll, NoneWaits, SaysFailure}
 use Rattle.desk.proofs.Turns.{served_none, served_then, says_nothing, says_then, visits_none, visits_still, visits_then}
 use Rattle.desk.proofs.serving.serve.Goals as goal
@@ -16,6 +17,7 @@ loop-served-init g c = record {
     visits_none g.L.Listener c.args.listener.now c.args.office.now.failed,
     λ clean h holding. served_none h _ _ c.leaves_now.ensures holding,
   );
+  statistics = λ clean h holding. keep_at_first (state g.S.Store c.args.office.now.conn);
 }
 
 pub loop-served-preserved : goal.loop-served-preserved
@@ -47,6 +49,15 @@ loop-served-preserved g c =
               opened = a.open clean;
             }) (w.3 early h holding),
       );
+      statistics = λ clean h holding.
+          let early : HasCleanDisk mid = omega (arith, a.clean, clean) in
+          let served = w.3 early h holding in
+          keep_more g.S.Store (state g.S.Store c.args.office.now.conn) c.loop-served.office c.serve_next.new.office
+          a.refused
+          (λ working. record {
+            is_open = served.is_open working;
+            office = (served.held (served.is_open working)).keeps.office;
+          }) (i.statistics early h holding) (a.statistics clean) clean a.statistics_left;
     }
 
 pub returns-in-Err-clause-stated : goal.returns-in-Err-clause-stated
@@ -69,6 +80,16 @@ returns-in-Err-clause-served g c =
           let early = subst (λ o. HasCleanDisk (state g.S.Store o.conn)) a.kept clean in
           subst (λ o. HasServedAll h w.0 o.failed (state g.S.Store o.conn)) (sym a.kept) (w.3 early h holding),
     )
+
+pub returns-in-Err-clause-statistics : goal.returns-in-Err-clause-statistics
+returns-in-Err-clause-statistics g c clean h holding =
+    let a = c.in-Err.ensures in
+    let early = subst (λ o. HasCleanDisk (state g.S.Store o.conn)) a.kept clean in
+    subst (λ o. KeepThose (state g.S.Store c.args.office.now.conn) (state g.S.Store o.conn)) (sym a.kept)
+    (c.loop-served.invariant.statistics early h holding)
+
+pub returns-clause-statistics : goal.returns-clause-statistics
+returns-clause-statistics g c clean h holding = c.loop-served.invariant.statistics clean h holding
 
 pub returns-clause-served : goal.returns-clause-served
 returns-clause-served g c =

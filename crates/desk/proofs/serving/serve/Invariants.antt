@@ -1,6 +1,7 @@
 use Rattle.std.proofs.Common.{◌≡◌, List, length}
 use Rattle.sqlite.specs.Held.{state}
 use Rattle.store.specs.Calls.{KeepsDoubt, OnHistory}
+use Rattle.store.proofs.ListOfArrivals.{KeepThose}
 use Rattle.desk.specs.Serving.{HasServedAll, SaysFailure, Visit}
 use Rattle.desk.specs.Visits.{HasVisits}
 use Rattle.desk.proofs.serving.serve.Given as goal
@@ -17,4 +18,6 @@ invariant-loop-served g l =
           × HasVisits g.L.Listener l.fn.listener l.listener old.failed now.failed visits
           × OnHistory g.S.Store old.conn now.conn
           (λ h. HasServedAll h visits now.failed (state g.S.Store now.conn));
+      statistics : OnHistory g.S.Store old.conn now.conn
+          (λ h. KeepThose (state g.S.Store old.conn) (state g.S.Store now.conn));
     }

@@ -2,6 +2,7 @@ use Rattle.std.proofs.Common.{ℕ, List, [], ◌∷◌, Option, inl, refl, sym, 
 use Rattle.std.proofs.lemmas.List.Elements.{All-nil, All-push}
 use Rattle.std.specs.Prelude.{IsTrue}
 use Rattle.sqlite.specs.Held.{state}
+use Rattle.store.proofs.Statistics.{itself_keeps, itself_leaves}
 use Rattle.desk.specs.Serving.{AreAccepted, DeclinesBy, Ending, HasCause, HasGoneOn, IsClosed, IsDeclined, Visit}
 use Rattle.desk.specs.Serving.{fault_of}
 use Rattle.desk.proofs.Visits.{caused, declined, ending_reported, led, legal_of, one_came, one_ended, ranged_of}
@@ -62,3 +63,9 @@ returns-clause-served g c =
           (legal_of h _ holding) (ranged_of h _ holding) (one.served clean h holding)
           (λ is. ap reported (one.devices.unwritten is))),
     )
+
+pub returns-in_err-request-clause-statistics : goal.returns-in_err-request-clause-statistics
+returns-in_err-request-clause-statistics g c = itself_keeps g.S.Store c.args.office.now.conn
+
+pub returns-in_err-request-clause-statistics_left : goal.returns-in_err-request-clause-statistics_left
+returns-in_err-request-clause-statistics_left g c = itself_leaves g.S.Store c.args.office.now.conn

@@ -1,7 +1,9 @@
-use Rattle.std.proofs.Common.{◌∷◌, ◌++◌, [], refl, sym, subst, ◌∙◌}
+use Rattle.std.proofs.Common.{◌∷◌, ◌++◌, [], ap, refl, sym, subst, ◌∙◌}
+use Rattle.std.specs.Prelude.{IsTrue}
 use Rattle.sqlite.specs.Effect.{Database}
 use Rattle.sqlite.specs.Held.{state}
-use Rattle.store_tables.specs.Tables.{tables_of}
+use Rattle.store_tables.specs.Statements.{statistics_of}
+use Rattle.store_tables.specs.Tables.{IsOffice, tables_of}
 use Rattle.office_history.specs.History.{answer_again, first_of}
 use Rattle.office_history.specs.Answering.{answered}
 use Rattle.store.specs.Holds.{Holds}
@@ -20,3 +22,16 @@ returns-in-Some-clause-held g c clean office h holds =
     subst (λ (db : Database). Holds (h ++ a ∷ []) (tables_of db.trees)) (sym now)
     (again_holds h a it.0 (tables_of old.now.trees) holds (c.as_bytes.ensures.keeps, c.command_is_in_range.ensures)
     it.1 it.2)
+
+pub returns-in-Some-clause-frame : goal.returns-in-Some-clause-frame
+returns-in-Some-clause-frame g c =
+    let f = c.in_ok-answer.ensures.frame in
+    record {
+      same_reference = f.same_reference;
+      office = λ clean was. subst IsOffice (sym (f.same clean was).0.now_is) was;
+      same_schema = λ clean was. ap (λ (d : Database). d.schema) (f.same clean was).0.now_is;
+      statistics = λ clean was. ap statistics_of (f.same clean was).0.now_is;
+      inside = λ clean was mode. subst IsTrue (sym (f.same clean was).0.mode) mode;
+      kept = f.kept;
+      survives = f.survives;
+    }

@@ -1,19 +1,23 @@
 use Rattle.std.proofs.Common.{◌≡◌, ◌++◌, ◌∷◌, [], List, Option, ℕ, refl, sym, ap, subst, ◌∙◌, arith}
+use Rattle.std.specs.Prelude.{IsTrue}
 use Rattle.sqlite.specs.Effect.{Database}
 use Rattle.sqlite.specs.Held.{state}
 use Rattle.sqlite.specs.State.{HasCleanDisk}
+use Rattle.sqlite.proofs.InsideLemmas.{keeps_then}
 use Rattle.office_types.specs.Reply.{reply_parts}
 use Rattle.office_types.specs.declared.book.SpnBook.{SpnBook}
 use Rattle.office_types.specs.declared.change.Change.{Change}
 use Rattle.office_types.specs.declared.state.Net.{Net}
 use Rattle.office_rules.specs.Change.{HaveOwnBlocks, IsHeadFirst, all_applied}
 use Rattle.office_rules.specs.Step.{net_named}
+use Rattle.store_tables.specs.Statements.{statistics_of}
 use Rattle.store_tables.specs.Tables.{IsOffice, Tables, tables_of}
 use Rattle.office_history.specs.declared.arrival.Answer.TheVariants as answer
 use Rattle.store_net.specs.Kept.{kept_row, part_rows}
 use Rattle.store_rows.specs.Follows.{Follows}
 use Rattle.store_rows.specs.NetIn.{IsNetAt}
 use Rattle.store_net.specs.Writing.{IsNext}
+use Rattle.store_net.proofs.Whole.{nothing_left}
 use Rattle.office_history.specs.Answering.{answered}
 use Rattle.store.proofs.OneArrival.{AreFollowed, before_of, first_holds, net_of_office}
 use Rattle.store.proofs.arriving.first_arrival.Goals as goal
@@ -63,3 +67,36 @@ returns-clause-held g c clean office h holds new =
     first_holds c.histories_leave_offices.ensures h (answered team c.args.key.now c.args.request.now
     (answer.Reply d.reply)) d (tables_of s0.now.trees) (tables_of s2.now.trees) (tables_of s3.now.trees)
     holds refl (c.as_bytes.ensures.keeps, c.command_is_in_range.ensures) new refl decided.0 written kept
+
+pub returns-clause-frame : goal.returns-clause-frame
+returns-clause-frame g c =
+    let s0 = state g.S.Store c.args.tx.now.conn.now in
+    let s1 = state g.S.Store c.decide_on_tables.new.tx.conn.now in
+    let s2 = state g.S.Store c.write_changes.new.tx.conn.now in
+    let s3 = state g.S.Store c.keep_reply.new.tx.conn.now in
+    let d = c.in_ok-decision.ensures.frame in
+    let w = c.in_ok-write_changes.ensures.frame in
+    let k = c.in_ok-keep_reply.ensures.frame in
+    let early2 : HasCleanDisk s3 → HasCleanDisk s2 = λ clean. omega (arith, k.survives.clean, clean) in
+    let early1 : HasCleanDisk s3 → HasCleanDisk s1 = λ clean. omega (arith, w.survives.clean, early2 clean) in
+    let same1 : HasCleanDisk s3 → IsOffice s0.now → s1.now ≡ s0.now =
+    λ clean was. (d.same (early1 clean) was).0.now_is in
+    let office1 : HasCleanDisk s3 → IsOffice s0.now → IsOffice s1.now =
+    λ clean was. subst IsOffice (sym (same1 clean was)) was in
+    let office2 : HasCleanDisk s3 → IsOffice s0.now → IsOffice s2.now =
+    λ clean was. w.office (early2 clean) (office1 clean was) in
+    record {
+      same_reference = k.same_reference ∙ w.same_reference ∙ d.same_reference;
+      office = λ clean was. k.office clean (office2 clean was);
+      same_schema = λ clean was. k.same_schema clean (office2 clean was)
+          ∙ w.same_schema (early2 clean) (office1 clean was)
+          ∙ ap (λ (db : Database). db.schema) (same1 clean was);
+      statistics = λ clean was. k.statistics clean (office2 clean was) ∙ w.statistics (early2 clean) (office1 clean was)
+          ∙ ap statistics_of (same1 clean was);
+      inside = λ clean was mode. k.inside clean (office2 clean was)
+          (w.inside (early2 clean) (office1 clean was)
+          (subst IsTrue (sym (d.same (early1 clean) was).0.mode) mode));
+      kept = λ clean was. keeps_then s0 s1 s3 (d.kept (early1 clean) was)
+          (keeps_then s1 s2 s3 (w.kept (early2 clean) (office1 clean was)) (k.kept clean));
+      survives = nothing_left s0 s1 s3 d.survives (nothing_left s1 s2 s3 w.survives k.survives);
+    }

@@ -5,8 +5,11 @@ use Rattle.sqlite.specs.State.{HasCleanDisk}
 use Rattle.sqlite.specs.Tree.{Trees}
 use Rattle.sqlite.proofs.Callers.{survives_begin}
 use Rattle.store_tables.specs.Tables.{IsOffice}
+use Rattle.store.specs.Calls.{LeavesStatistics}
 use Rattle.store.specs.Holding.{Keeps, Leaves}
+use Rattle.store.specs.Opening.{HasTables, StatisticsStay}
 use Rattle.store.proofs.AfterCrash.{either_left}
+use Rattle.store.proofs.Statistics.{left_stay, stay_same}
 use Rattle.store.proofs.looking.look_alone.Goals as goal
 
 pub returns-in_err-done-clause-left : goal.returns-in_err-done-clause-left
@@ -23,10 +26,7 @@ returns-in_err-done-clause-left g c clean h holds =
     (rw begun at c.look_inside.ensures.frame.survives) in
     let settled : old.now ≡ old.committed = c.is_autocommit-settled.ensures.settled
     (c.is_autocommit-settled.ensures.value ∙ ap not c.requires) holds.is_open in
-    let office : IsOffice old.now = record {
-      schema = c.knows_schema.ensures holds.is_open holds.keeps.office.sound;
-      trees = holds.keeps.office;
-    } in
+    let office : IsOffice old.now = c.knows_schema.ensures holds.is_open holds.keeps.office in
     let unchanged = (rw begun at (c.in_ok-text.ensures.frame.same clean_last)) office in
     let keeps : Keeps h last.now.trees =
     subst (λ (d : Database). Keeps h d.trees) (sym unchanged.0.now_is) holds.keeps in
@@ -48,8 +48,39 @@ returns-clause-found g c clean h holds =
     subst (λ v. HasCleanDisk (state g.S.Store v)) (sym same) clean in
     let clean_last : HasCleanDisk last = omega (arith, c.commit-done.ensures.survives.clean, clean_end) in
     let begun = c.transaction-tx.ensures.begun in
-    let office : IsOffice old.now = record {
-      schema = c.knows_schema.ensures holds.is_open holds.keeps.office.sound;
-      trees = holds.keeps.office;
-    } in
+    let office : IsOffice old.now = c.knows_schema.ensures holds.is_open holds.keeps.office in
     (rw begun at (c.in_ok-text.ensures.found clean_last)) office h holds.keeps.holds
+
+pub returns-in_err-done-clause-statistics_left : goal.returns-in_err-done-clause-statistics_left
+returns-in_err-done-clause-statistics_left g c =
+    let old = state g.S.Store c.args.conn.now in
+    let last = state g.S.Store c.look_inside.new.tx.conn.now in
+    let end = c.commit-done.new.self.0 in
+    let same : end ≡ c.conn-2-1.given.0 = search rules in
+    let begun = c.transaction-tx.ensures.begun in
+    let inside = survives_begin g.S.Store c.args.conn.now last (λ _. ⊥)
+    (rw begun at c.look_inside.ensures.frame.survives) in
+    let stay = λ (clean : HasCleanDisk (state g.S.Store end)) (tables : HasTables old).
+    let clean_last : HasCleanDisk last = omega (arith, c.commit-done.ensures.survives.clean, clean) in
+    let office : IsOffice old.now = c.knows_schema.ensures tables.is_open tables.office in
+    let unchanged = (rw begun at (c.in_ok-text.ensures.frame.same clean_last)) office in
+    subst (λ (d : Database). StatisticsStay old.now d.trees) (sym unchanged.0.now_is) (stay_same old.now office) in
+    subst (λ v. LeavesStatistics g.S.Store c.args.conn.now v) same
+    (left_stay old last (state g.S.Store end) inside c.commit-done.ensures.survives stay)
+
+pub returns-clause-statistics_left : goal.returns-clause-statistics_left
+returns-clause-statistics_left g c =
+    let old = state g.S.Store c.args.conn.now in
+    let last = state g.S.Store c.look_inside.new.tx.conn.now in
+    let end = c.commit-done.new.self.0 in
+    let same : end ≡ c.conn-2-1.given.0 = search rules in
+    let begun = c.transaction-tx.ensures.begun in
+    let inside = survives_begin g.S.Store c.args.conn.now last (λ _. ⊥)
+    (rw begun at c.look_inside.ensures.frame.survives) in
+    let stay = λ (clean : HasCleanDisk (state g.S.Store end)) (tables : HasTables old).
+    let clean_last : HasCleanDisk last = omega (arith, c.commit-done.ensures.survives.clean, clean) in
+    let office : IsOffice old.now = c.knows_schema.ensures tables.is_open tables.office in
+    let unchanged = (rw begun at (c.in_ok-text.ensures.frame.same clean_last)) office in
+    subst (λ (d : Database). StatisticsStay old.now d.trees) (sym unchanged.0.now_is) (stay_same old.now office) in
+    subst (λ v. LeavesStatistics g.S.Store c.args.conn.now v) same
+    (left_stay old last (state g.S.Store end) inside c.commit-done.ensures.survives stay)

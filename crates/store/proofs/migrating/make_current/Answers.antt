@@ -1,9 +1,10 @@
 use Rattle.std.proofs.Common.{inl, inr, ap, sym, subst, ◌∙◌, arith, rules}
+use Rattle.std.proofs.lemmas.Result.{on_ok_weaker}
 use Rattle.sqlite.specs.Effect.{Database}
 use Rattle.sqlite.specs.Held.{state}
-use Rattle.sqlite.specs.State.{HasCleanDisk}
+use Rattle.sqlite.specs.State.{HasCleanDisk, IsUnchanged}
 use Rattle.sqlite.proofs.StateLemmas.{survives_then}
-use Rattle.store_tables.specs.Schema.{IsOfficeSchema}
+use Rattle.store_tables.specs.Schema.{IsCurrentSchema, IsOfficeSchema}
 use Rattle.store_tables.specs.Tables.{tables_of}
 use Rattle.store.specs.Opening.{MayCarry, MayGrow, MayMigrate}
 use Rattle.store.proofs.TablesInForm.{first_of_form, form_schema, older_marks, older_or_second, second_of_form}
@@ -19,9 +20,9 @@ returns-then-is_new-clause-current g c =
       taken = search rules;
       known = λ clean form known has. absurd (none_of_office _ no_table (form_schema form known _ has));
       made = search rules;
-      same = λ clean has second. absurd (apart (sym no_table ∙ has));
+      same = λ clean has second. absurd (apart _ no_table has);
       grown = λ clean has second. absurd (apart_13 (sym no_table ∙ has.schema_is));
-      carried = search rules;
+      carried = λ clean form known has first. absurd (none_of_office _ no_table (form_schema form known _ has.schema_is));
     }
 
 pub returns-then-is_new-clause-survives : goal.returns-then-is_new-clause-survives
@@ -104,7 +105,13 @@ returns-in-Second-clause-current g c =
           second_of_form form mid.now.schema (tables_of old.now.trees) c.complete.result known
           (ap (λ (db : Database). db.schema) same ∙ has) c.complete.ensures.completed.taken is_second;
       made = search rules;
-      same = search rules;
+      same = λ clean has second.
+          let clean_mid : HasCleanDisk mid = omega (arith, c.complete.ensures.survives.clean, clean) in
+          let unchanged = c.in_ok-older.ensures.frame.same clean_mid (inr (inr has)) in
+          on_ok_weaker c.complete.result
+          (λ stays. subst (λ v. IsUnchanged old (state g.S.Store v)) (sym stays) unchanged)
+          (c.complete.ensures.completed.same
+          (subst (λ (d : Database). IsCurrentSchema d.schema) (sym unchanged.0.now_is) has));
       grown = search rules;
       carried = search rules;
     }

@@ -19,6 +19,7 @@ returns-clause-made g c clean no_table =
     let second = c.in_ok-insert_profile-2.ensures.added clean first.office in (
       record {
         office = second.office;
+        schema_is = second.same_schema ∙ first.same_schema ∙ made.schema_is;
         tables_are =
             second.tables_are ∙ ap (λ (t : Tables). record t { profile = put_row (mark_row 2 2) t.profile })
             first.tables_are

@@ -1,6 +1,7 @@
 use Rattle.std.proofs.Common.{rules, ◌∙◌, sym}
 use Rattle.std.proofs.lemmas.Bool.{false≢true}
-use Rattle.store_migrate.proofs.Formed.{all_are, all_counted, begun, bodies_are, bodies_counted, counted, none_counted}
+use Rattle.store_migrate.proofs.Formed.{all_are, all_counted, analyzed_are, analyzed_counted, begun, bodies_are}
+use Rattle.store_migrate.proofs.Formed.{bodies_counted, counted, none_counted}
 use Rattle.store_migrate.proofs.Formed.{rows_are, rows_counted}
 use Rattle.store_migrate.proofs.forms.form_of.Goals as goal
 
@@ -45,26 +46,44 @@ returns-in-14-eq15-clause-exact g c _ =
     ∙ all_are c.schema-schema.result.now (c.is_begun.ensures.0 c.if-not-is_begun.false)
     (sym c.len.ensures ∙ c.in-14-eq15.is-0) (sym c.len-2.ensures ∙ c.in-14-eq15.is-1)
 
+pub returns-in-15-eq15-clause-known : goal.returns-in-15-eq15-clause-known
+returns-in-15-eq15-clause-known g c form other same =
+    analyzed_counted form c.len.result c.len-2.result c.in-15-eq15.is-0 other
+    (counted form c.schema-schema.result.now c.len.result c.len-2.result (c.schema-schema.ensures.value ∙ same)
+    c.len.ensures c.len-2.ensures)
+
+pub returns-in-15-eq15-clause-exact : goal.returns-in-15-eq15-clause-exact
+returns-in-15-eq15-clause-exact g c _ =
+    sym c.schema-schema.ensures.value
+    ∙ analyzed_are c.schema-schema.result.now (c.is_begun.ensures.0 c.if-not-is_begun.false)
+    (sym c.len.ensures ∙ c.in-15-eq15.is-0) (sym c.len-2.ensures ∙ c.in-15-eq15.is-1)
+
 pub returns-in_default-clause-known : goal.returns-in_default-clause-known
 returns-in_default-clause-known g c form other same =
-    none_counted form c.len.result c.len-2.result (search rules) (search rules) (search rules) other
+    none_counted form c.len.result c.len-2.result (search rules) (search rules) (search rules) (search rules) other
     (counted form c.schema-schema.result.now c.len.result c.len-2.result (c.schema-schema.ensures.value ∙ same)
     c.len.ensures c.len-2.ensures)
 
 pub returns-in_default-2-clause-known : goal.returns-in_default-2-clause-known
 returns-in_default-2-clause-known g c form other same =
-    none_counted form c.len.result c.len-2.result (search rules) (search rules) (search rules) other
+    none_counted form c.len.result c.len-2.result (search rules) (search rules) (search rules) (search rules) other
     (counted form c.schema-schema.result.now c.len.result c.len-2.result (c.schema-schema.ensures.value ∙ same)
     c.len.ensures c.len-2.ensures)
 
 pub returns-in_default-3-clause-known : goal.returns-in_default-3-clause-known
 returns-in_default-3-clause-known g c form other same =
-    none_counted form c.len.result c.len-2.result (search rules) (search rules) (search rules) other
+    none_counted form c.len.result c.len-2.result (search rules) (search rules) (search rules) (search rules) other
     (counted form c.schema-schema.result.now c.len.result c.len-2.result (c.schema-schema.ensures.value ∙ same)
     c.len.ensures c.len-2.ensures)
 
 pub returns-in_default-4-clause-known : goal.returns-in_default-4-clause-known
 returns-in_default-4-clause-known g c form other same =
-    none_counted form c.len.result c.len-2.result (search rules) (search rules) (search rules) other
+    none_counted form c.len.result c.len-2.result (search rules) (search rules) (search rules) (search rules) other
+    (counted form c.schema-schema.result.now c.len.result c.len-2.result (c.schema-schema.ensures.value ∙ same)
+    c.len.ensures c.len-2.ensures)
+
+pub returns-in_default-5-clause-known : goal.returns-in_default-5-clause-known
+returns-in_default-5-clause-known g c form other same =
+    none_counted form c.len.result c.len-2.result (search rules) (search rules) (search rules) (search rules) other
     (counted form c.schema-schema.result.now c.len.result c.len-2.result (c.schema-schema.ensures.value ∙ same)
     c.len.ensures c.len-2.ensures)

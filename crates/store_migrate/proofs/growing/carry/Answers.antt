@@ -1,8 +1,10 @@
-use Rattle.std.proofs.Common.{sym, subst}
+use Rattle.std.proofs.Common.{inl, inr, refl, sym, subst}
 use Rattle.std.proofs.lemmas.Result.{on_ok_weaker}
 use Rattle.sqlite.specs.Held.{state}
 use Rattle.office_rules.specs.Profile.{One}
+use Rattle.store_tables.specs.Schema.{analyzed_schema, office_schema}
 use Rattle.store_tables.proofs.Changing.{named_rows}
+use Rattle.store_migrate.proofs.Grown.{edited_office, named_analyzed, office_with}
 use Rattle.store_migrate.specs.Forms.{HoldsAsRows}
 use Rattle.store_migrate.proofs.growing.carry.Goals as goal
 
@@ -17,5 +19,21 @@ returns-in-First-All-clause-held g c clean =
     let trees = (state g.S.Store c.args.tx.now.conn.now).now.trees in
     rw c.in-First-All.is-1 (λ was. on_ok_weaker c.renew_profile.result
     (λ held h at. held h (subst (HoldsAsRows One h) (sym (named_rows trees)) at))
-    (c.renew_profile.ensures.held clean
-    (record { schema = was.schema_is; trees = record { sound = was.sound; numbered = was.numbered } })))
+    (c.renew_profile.ensures.held clean (office_with office_schema _ (inl refl) was)))
+
+pub returns-in-First-Analyzed-clause-held : goal.returns-in-First-Analyzed-clause-held
+returns-in-First-Analyzed-clause-held g c clean =
+    let trees = (state g.S.Store c.args.tx.now.conn.now).now.trees in
+    rw c.in-First-Analyzed.is-1 (λ was. on_ok_weaker c.renew_profile-in-First-Analyzed.result
+    (λ held h at. held h (subst (HoldsAsRows One h) (sym (named_analyzed trees)) at))
+    (c.renew_profile-in-First-Analyzed.ensures.held clean (office_with analyzed_schema _ (inr refl) was)))
+
+pub returns-in-First-All-clause-frame : goal.returns-in-First-All-clause-frame
+returns-in-First-All-clause-frame g c = rw c.in-First-All.is-1 (edited_office g.S.Store c.args.tx.now
+    c.renew_profile.new.tx c.renew_profile.result office_schema _ (inl refl) c.renew_profile.ensures.frame
+    c.renew_profile.ensures.renewed)
+
+pub returns-in-First-Analyzed-clause-frame : goal.returns-in-First-Analyzed-clause-frame
+returns-in-First-Analyzed-clause-frame g c = rw c.in-First-Analyzed.is-1 (edited_office g.S.Store c.args.tx.now
+    c.renew_profile-in-First-Analyzed.new.tx c.renew_profile-in-First-Analyzed.result analyzed_schema _ (inr refl)
+    c.renew_profile-in-First-Analyzed.ensures.frame c.renew_profile-in-First-Analyzed.ensures.renewed)

@@ -1,4 +1,4 @@
-use Rattle.std.proofs.Common.{sym, subst, arith, rules}
+use Rattle.std.proofs.Common.{◌∙◌, sym, subst, arith, rules}
 use Rattle.std.proofs.lemmas.Result.{on_ok_weaker}
 use Rattle.sqlite.specs.Held.{state}
 use Rattle.sqlite.specs.State.{HasCleanDisk}
@@ -6,7 +6,7 @@ use Rattle.sqlite.proofs.InsideLemmas.{keeps_then}
 use Rattle.office_rules.specs.Profile.{One}
 use Rattle.store_tables.specs.Schema.{schema_13}
 use Rattle.store_migrate.specs.Forms.{HoldsAsRows}
-use Rattle.store_migrate.proofs.Grown.{grown_office, grown_tables}
+use Rattle.store_migrate.proofs.Grown.{grown_office, grown_statistics, grown_tables, none_after_13}
 use Rattle.store_migrate.proofs.growing.carry_rows.Goals as goal
 
 pub returns-clause-held : goal.returns-clause-held
@@ -29,6 +29,21 @@ returns-clause-frame g c = record {
       on_ok_weaker c.renew_profile.result (λ made. made.office)
       (c.renew_profile.ensures.renewed clean
       (grown_office schema_13 s0 s1 (c.in_ok-create_part.ensures.grown clean1 was)));
+  schema_is = λ clean was.
+      let s0 = state g.S.Store c.args.tx.now.conn.now in
+      let s1 = state g.S.Store c.create_part.new.tx.conn.now in
+      let clean1 : HasCleanDisk s1 = omega (arith, c.renew_profile.ensures.frame.survives.clean, clean) in
+      let grown = c.in_ok-create_part.ensures.grown clean1 was in
+      on_ok_weaker c.renew_profile.result (λ made. made.same_schema ∙ grown.office.schema_is)
+      (c.renew_profile.ensures.renewed clean (grown_office schema_13 s0 s1 grown));
+  statistics = λ clean was.
+      let s0 = state g.S.Store c.args.tx.now.conn.now in
+      let s1 = state g.S.Store c.create_part.new.tx.conn.now in
+      let clean1 : HasCleanDisk s1 = omega (arith, c.renew_profile.ensures.frame.survives.clean, clean) in
+      let grown = c.in_ok-create_part.ensures.grown clean1 was in
+      on_ok_weaker c.renew_profile.result
+      (λ made. made.statistics ∙ grown_statistics schema_13 s0 s1 none_after_13 was grown)
+      (c.renew_profile.ensures.renewed clean (grown_office schema_13 s0 s1 grown));
   inside = λ clean was.
       let s0 = state g.S.Store c.args.tx.now.conn.now in
       let s1 = state g.S.Store c.create_part.new.tx.conn.now in

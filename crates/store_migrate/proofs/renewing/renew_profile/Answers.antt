@@ -19,6 +19,8 @@ returns-clause-renewed g c clean was =
     let m3 = c.in_ok-insert_profile-2.ensures.added clean m2.office in
     record {
       office = m3.office;
+      same_schema = m3.same_schema ∙ m2.same_schema ∙ m1.same_schema;
+      statistics = m3.statistics ∙ m2.statistics ∙ m1.statistics;
       tables_are =
           m3.tables_are ∙ ap (λ (t : Tables). record t { profile = put_row (mark_row 2 2) t.profile }) m2.tables_are
           ∙ ap (λ (t : Tables). record t { profile = put_row (mark_row 2 2) (put_row (mark_row 1 2) t.profile) })

@@ -1,5 +1,6 @@
 use Rattle.std.proofs.Common.{sym, subst}
 use Rattle.dbc_grammar.specs.Reads.{Reads}
+use Rattle.store_net.proofs.Frames.{edits_end}
 use Rattle.store_net.proofs.change_rows.write_release.Goals as goal
 
 pub returns-clause-written : goal.returns-clause-written
@@ -16,3 +17,7 @@ returns-clause-written g c clean office net next =
       },
       made.tables_are,
     )
+
+pub returns-clause-frame : goal.returns-clause-frame
+returns-clause-frame g c = edits_end g.S.Store c.args.tx.now c.insert_frozen.new.tx _ c.insert_frozen.ensures.frame
+    c.in_ok-insert_frozen.ensures.added

@@ -14,6 +14,7 @@ use Rattle.store_rows.specs.SignalShowing.{ShowsLive}
 use Rattle.store_net.specs.SignalParts.{live_in}
 use Rattle.store_net.proofs.EachMessage.{count_shown, shown_next}
 use Rattle.store_net.proofs.Whole.{nothing_left}
+use Rattle.store_net.proofs.Made.{on_any}
 use Rattle.store_net.proofs.live_list.each_with_signals.Goals as goal
 
 pub loop-row-preserved : goal.loop-row-preserved
@@ -61,3 +62,22 @@ returns-clause-found g c clean office live shown all =
     let ended : length rows ≤ at = c.loop-row-test.false in
     let over : length live ≤ at = subst (λ n. n ≤ at) (count_shown ShowsLive live rows shown) ended in
     c.loop-row.invariant.reported clean office live shown all ∙ ap (map (live_in c.args.detail)) (take_all at live over)
+
+pub returns-in_err-push-clause-frame : goal.returns-in_err-push-clause-frame
+returns-in_err-push-clause-frame g c =
+    let old = state g.S.Store c.args.tx.now.conn.now in
+    let mid = state g.S.Store c.loop-row.tx.conn.now in
+    let now = state g.S.Store c.with_signals.new.tx.conn.now in
+    let i = c.loop-row.invariant in
+    let w = c.in_ok-message.ensures in
+    let early : HasCleanDisk now → HasCleanDisk mid = λ clean. omega (arith, w.frame.survives.clean, clean) in
+    let office : HasCleanDisk now → IsOffice old.now → IsOffice mid.now =
+    λ clean was. subst IsOffice (sym (i.now_is (early clean) was)) was in
+    record {
+      same_reference = w.frame.same_reference ∙ i.same_reference;
+      same = λ clean was is_open. on_any c.from_residual-in_err-push.result
+          (unchanged_then old mid now (i.same (early clean) was is_open)
+          (w.frame.same clean (office clean was) (i.same (early clean) was is_open).0.is_open));
+      kept = λ clean was. keeps_then old mid now (i.kept (early clean) was) (w.frame.kept clean (office clean was));
+      survives = nothing_left old mid now i.survives w.frame.survives;
+    }

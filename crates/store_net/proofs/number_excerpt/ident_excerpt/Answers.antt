@@ -21,6 +21,7 @@ use Rattle.store_net.proofs.Excerpts.{none_more, one_more}
 use Rattle.store_net.proofs.NumberExcerpts.{of_ident, read_inside}
 use Rattle.store_net.proofs.Inside.{wanted_live}
 use Rattle.store_net.proofs.Whole.{nothing_left}
+use Rattle.store_net.proofs.Made.{reads_any, reads_then}
 use Rattle.store_net.proofs.number_excerpt.ident_excerpt.Goals as goal
 
 pub returns-in_default-clause-found : goal.returns-in_default-clause-found
@@ -121,3 +122,12 @@ returns-clause-frame g c = record {
       (nothing_left _ _ _ c.idents_inside_at-2.ensures.frame.survives
       (nothing_left _ _ _ c.want_taken_at.ensures.frame.survives c.want_taken_at-2.ensures.frame.survives)));
 }
+
+pub returns-in_err-numbers-clause-frame : goal.returns-in_err-numbers-clause-frame
+returns-in_err-numbers-clause-frame g c =
+    reads_any g.S.Store _ _ _ _
+    (reads_then g.S.Store _ _ _ _ _
+    (reads_then g.S.Store _ _ _ _ _
+    (reads_then g.S.Store _ _ _ _ _
+    (reads_then g.S.Store _ _ _ _ _ c.in_ok-excerpt.ensures.frame c.in_ok-live.ensures.frame)
+    c.in_ok-held.ensures.frame) c.in_ok-want_live.ensures.frame) c.in_ok-want_held.ensures.frame)

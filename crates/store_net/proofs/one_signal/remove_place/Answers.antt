@@ -22,6 +22,8 @@ returns-clause-removed g c clean was =
       tables_are =
           m3.tables_are ∙ ap (λ (t : Tables). record t { sigvalue = left t.sigvalue }) m2.tables_are
           ∙ ap (λ (t : Tables). record t { receiver = left t.receiver; sigvalue = left t.sigvalue }) m1.tables_are;
+      same_schema = m3.same_schema ∙ m2.same_schema ∙ m1.same_schema;
+      statistics = m3.statistics ∙ m2.statistics ∙ m1.statistics;
       committed = m3.committed ∙ m2.committed ∙ m1.committed;
       inside = m3.inside;
       was_open = m1.was_open;

@@ -15,6 +15,7 @@ use Rattle.store_rows.proofs.LiveRows.{named_sigs_are_shown, places_ascend}
 use Rattle.store_rows.proofs.NamedFollows.{its_signals}
 use Rattle.store_net.proofs.SetSignals.{spn_set}
 use Rattle.store_net.proofs.SignalPlaces.{there_if_numbered}
+use Rattle.store_net.proofs.Made.{stays_if_read}
 use Rattle.store_net.proofs.one_signal.set_signal_spn.Goals as goal
 
 pub returns-in_ok-rows-in-Some-clause-written : goal.returns-in_ok-rows-in-Some-clause-written
@@ -57,3 +58,7 @@ returns-in_ok-rows-in-Some-clause-written g c clean office =
           ∙ ap (λ (d : Database). with_spns name number n own (tables_of d.trees)) now2
           ∙ ap (λ k. with_spns name k n own t) (sym there.2);
     })) (rw (c.deref.ensures.value, c.as_bytes-net.ensures.bytes) at (c.set_shown_spn.ensures.written clean office2))
+
+pub returns-in-None-clause-frame : goal.returns-in-None-clause-frame
+returns-in-None-clause-frame g c = stays_if_read g.S.Store c.args.tx.now c.number_named.new.tx _
+    c.in_ok-number_named.ensures.frame

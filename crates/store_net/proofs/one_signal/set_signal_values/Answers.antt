@@ -19,6 +19,7 @@ use Rattle.store_rows.proofs.NamedFollows.{its_signals}
 use Rattle.store_net.proofs.OneByOne.{both_ok}
 use Rattle.store_net.proofs.SetSignals.{all_shown, texts_set}
 use Rattle.store_net.proofs.SignalPlaces.{there_if_numbered}
+use Rattle.store_net.proofs.Made.{stays_if_read}
 use Rattle.store_net.proofs.one_signal.set_signal_values.Goals as goal
 
 pub returns-in_ok-rows-in-Some-clause-written : goal.returns-in_ok-rows-in-Some-clause-written
@@ -66,3 +67,7 @@ returns-in_ok-rows-in-Some-clause-written g c clean office =
     })) (rw (c.deref.ensures.value, c.as_slice.ensures.entries) at c.set_shown_values.ensures.decimals)
     (rw (c.deref.ensures.value, c.as_bytes-net.ensures.bytes, c.as_slice.ensures.entries) at
     (c.set_shown_values.ensures.written clean office2))
+
+pub returns-in-None-clause-frame : goal.returns-in-None-clause-frame
+returns-in-None-clause-frame g c = stays_if_read g.S.Store c.args.tx.now c.number_named.new.tx _
+    c.in_ok-number_named.ensures.frame

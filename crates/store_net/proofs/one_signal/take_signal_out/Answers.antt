@@ -12,6 +12,7 @@ use Rattle.store_rows.specs.LiveWritten.{IsGone, without_places}
 use Rattle.store_rows.proofs.LiveRows.{named_sigs_are_shown, places_ascend}
 use Rattle.store_net.specs.Places.{places_shown}
 use Rattle.store_net.proofs.SignalPlaces.{its_places, taken_out, there_if_numbered}
+use Rattle.store_net.proofs.Made.{stays_if_read}
 use Rattle.store_net.proofs.one_signal.take_signal_out.Goals as goal
 
 pub returns-in_ok-rows-in-Some-clause-written : goal.returns-in_ok-rows-in-Some-clause-written
@@ -48,3 +49,7 @@ returns-in_ok-rows-in-Some-clause-written g c clean office =
           (places_ascend name number t signals placed);
       tables_are = made ∙ removed;
     }))) (rw (c.deref.ensures.value, c.as_bytes-net.ensures.bytes) at (c.remove_shown.ensures.removed clean office2))
+
+pub returns-in-None-clause-frame : goal.returns-in-None-clause-frame
+returns-in-None-clause-frame g c = stays_if_read g.S.Store c.args.tx.now c.number_named.new.tx _
+    c.in_ok-number_named.ensures.frame

@@ -12,6 +12,7 @@ use Rattle.store_tables.specs.Tables.{IsOffice, tables_of}
 use Rattle.store_net.specs.Numbers.{HasTaken, dbc_of, idents_between, idents_inside}
 use Rattle.store_net.proofs.Inside.{inside_more}
 use Rattle.store_net.proofs.Whole.{nothing_left}
+use Rattle.store_net.proofs.Made.{on_any}
 use Rattle.store_net.proofs.ranges.idents_inside_at.Goals as goal
 
 pub loop-block-preserved : goal.loop-block-preserved
@@ -59,3 +60,21 @@ returns-clause-found g c clean office idents has =
     c.loop-block.invariant.read clean office idents has
     ∙ ap (λ (l : List Block). idents_inside c.args.form l idents)
     (take_all c.loop-block.block-index c.args.blocks.now c.loop-block-test.false)
+
+pub returns-in_err-extend_from_slice-clause-frame : goal.returns-in_err-extend_from_slice-clause-frame
+returns-in_err-extend_from_slice-clause-frame g c =
+    let old = state g.S.Store c.args.tx.now.conn.now in
+    let mid = state g.S.Store c.loop-block.tx.conn.now in
+    let now = state g.S.Store c.idents_at.new.tx.conn.now in
+    let i = c.loop-block.invariant in
+    let w = c.in_ok-inside.ensures in
+    let early : HasCleanDisk now → HasCleanDisk mid = λ clean. omega (arith, w.frame.survives.clean, clean) in
+    let office : HasCleanDisk now → IsOffice old.now → IsOffice mid.now =
+    λ clean was. subst IsOffice (sym (i.now_is (early clean) was)) was in
+    record {
+      same_reference = w.frame.same_reference ∙ i.same_reference;
+      same = λ clean was is_open. on_any c.from_residual-in_err-extend_from_slice.result
+          (unchanged_then old mid now (i.same (early clean) was is_open) (w.frame.same clean (office clean was)));
+      kept = λ clean was. keeps_then old mid now (i.kept (early clean) was) (w.frame.kept clean (office clean was));
+      survives = nothing_left old mid now i.survives w.frame.survives;
+    }

@@ -6,6 +6,7 @@ use Rattle.store_tables.specs.Tables.{IsOffice, tables_of}
 use Rattle.office_types.specs.declared.state.Net.{Net}
 use Rattle.store_rows.specs.NetIn.{IsNetAt}
 use Rattle.store_net.proofs.Whole.{none_counted, with_as_many}
+use Rattle.store_net.proofs.Made.{reads_any, reads_then, while_open}
 use Rattle.store_net.proofs.reading.counted_net_at.Goals as goal
 
 pub returns-in_default-clause-found : goal.returns-in_default-clause-found
@@ -26,3 +27,15 @@ returns-clause-found g c clean office net at =
     with_as_many net c.in-Some.net c.in_ok-net-2.field-0 c.in_ok-count.count
     (sym c.in-Some.is ∙ c.in_ok-net.ensures.found clean1 office net at)
     c.in_ok-net-2.ensures (λ n is. c.in_ok-count.ensures.found clean office1 n (at1 n is))
+
+pub returns-in_err-net-2-clause-frame : goal.returns-in_err-net-2-clause-frame
+returns-in_err-net-2-clause-frame g c =
+    reads_any g.S.Store _ _ _ _
+    (reads_then g.S.Store _ _ _ _ _ c.in_ok-net.ensures.frame
+    (while_open g.S.Store _ _ _ c.in_ok-count.ensures.frame))
+
+pub returns-clause-frame : goal.returns-clause-frame
+returns-clause-frame g c =
+    reads_any g.S.Store _ _ _ _
+    (reads_then g.S.Store _ _ _ _ _ c.in_ok-net.ensures.frame
+    (while_open g.S.Store _ _ _ c.in_ok-count.ensures.frame))

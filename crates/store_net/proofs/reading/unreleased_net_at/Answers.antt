@@ -5,6 +5,7 @@ use Rattle.store_tables.specs.Tables.{IsOffice, tables_of}
 use Rattle.store_rows.specs.NetIn.{HasRows}
 use Rattle.store_net.specs.Parts.{HasApprovals, HasBlocks, HasHeld}
 use Rattle.store_net.proofs.Whole.{head_in, its_head, none_unreleased, nothing_left, read_before, unreleased_net}
+use Rattle.store_net.proofs.Made.{reads_any, reads_then, while_open}
 use Rattle.store_net.proofs.reading.unreleased_net_at.Goals as goal
 
 pub returns-in_default-clause-found : goal.returns-in_default-clause-found
@@ -60,3 +61,15 @@ returns-clause-frame g c = record {
       (nothing_left _ _ _ c.blocks_of.ensures.frame.survives
       (nothing_left _ _ _ c.held_of.ensures.frame.survives c.approvals_of.ensures.frame.survives)));
 }
+
+pub returns-in_err-duplicate-clause-frame : goal.returns-in_err-duplicate-clause-frame
+returns-in_err-duplicate-clause-frame g c =
+    reads_any g.S.Store _ _ _ _
+    (reads_then g.S.Store _ _ _ _ _
+    (reads_then g.S.Store _ _ _ _ _
+    (reads_then g.S.Store _ _ _ _ _
+    (reads_then g.S.Store _ _ _ _ _ c.in_ok-head.ensures.frame
+    (while_open g.S.Store _ _ _ c.in_ok-live.ensures.frame))
+    (while_open g.S.Store _ _ _ c.in_ok-blocks.ensures.frame))
+    (while_open g.S.Store _ _ _ c.in_ok-held.ensures.frame))
+    (while_open g.S.Store _ _ _ c.in_ok-approvals.ensures.frame))

@@ -1,6 +1,9 @@
-use Rattle.store_tables.specs.Schema.{office_schema}
+use Rattle.std.proofs.Common.{sym, subst}
+use Rattle.store_tables.specs.Schema.{IsCurrentSchema}
 use Rattle.store_tables.proofs.OneSchema.{sound_once}
 use Rattle.store_tables.proofs.opening.knows_schema.Goals as goal
 
 pub returns : goal.returns
-returns g c is_open sound = sound_once _ office_schema _ (c.schema-schema.ensures.live is_open).0 sound
+returns g c is_open office =
+    let same = sound_once _ office.schema _ (c.schema-schema.ensures.live is_open).0 office.sound in
+    record { schema = subst IsCurrentSchema (sym same) office.current; trees = office; listed = sym same }

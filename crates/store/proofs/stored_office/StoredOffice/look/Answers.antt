@@ -2,11 +2,13 @@ use Rattle.std.proofs.Common.{◌≡◌, inl, inr, refl, sym, subst, ◌∙◌, 
 use Rattle.sqlite.specs.Held.{state}
 use Rattle.sqlite.specs.State.{HasCleanDisk}
 use Rattle.office_types.specs.declared.state.Office.{Office}
+use Rattle.store.specs.Calls.{KeepsStatistics, LeavesStatistics}
 use Rattle.store.specs.Holding.{Holding}
 use Rattle.store.specs.Looking.{IsShown, bytes_of}
 use Rattle.store.specs.Office.{OfficeView}
 use Rattle.store.specs.Opening.{HasTables}
 use Rattle.store.proofs.Same.{held_tables, same_holds}
+use Rattle.store.proofs.Statistics.{keeps_asked, keeps_if_same, leaves_asked}
 use Rattle.store.proofs.stored_office.StoredOffice.look.Goals as goal
 
 pub returns-in-Ok-clause-shown : goal.returns-in-Ok-clause-shown
@@ -58,3 +60,27 @@ returns-in-Err-clause-lost_same g c clean tables is_open =
     subst (λ (o : OfficeView _). (now.now ≡ (state g.S.Store o.conn).now)
     × (now.committed ≡ (state g.S.Store o.conn).committed)) c.self.view_is
     (second.0 ∙ first.0, second.1 ∙ first.1)
+
+pub returns-in-Err-clause-statistics : goal.returns-in-Err-clause-statistics
+returns-in-Err-clause-statistics g c =
+    subst (λ (o : OfficeView _). KeepsStatistics g.S.Store o.conn c.loss_by-lost.new.conn) c.self.view_is
+    (keeps_asked g.S.Store c.self.inside.conn c.look_alone.new.conn c.loss_by-lost.new.conn
+    (keeps_if_same g.S.Store c.self.inside.conn c.look_alone.new.conn c.look_alone.result c.look_alone.ensures.same
+    c.look_alone.ensures.lost_same) c.loss_by-lost.ensures.frame)
+
+pub returns-in-Err-clause-statistics_left : goal.returns-in-Err-clause-statistics_left
+returns-in-Err-clause-statistics_left g c =
+    subst (λ (o : OfficeView _). LeavesStatistics g.S.Store o.conn c.loss_by-lost.new.conn) c.self.view_is
+    (leaves_asked g.S.Store c.self.inside.conn c.look_alone.new.conn c.loss_by-lost.new.conn c.in-Err.ensures.statistics_left
+    c.loss_by-lost.ensures.frame)
+
+pub returns-in-Ok-clause-statistics : goal.returns-in-Ok-clause-statistics
+returns-in-Ok-clause-statistics g c =
+    subst (λ (o : OfficeView _). KeepsStatistics g.S.Store o.conn c.look_alone.new.conn) c.self.view_is
+    (keeps_if_same g.S.Store c.self.inside.conn c.look_alone.new.conn c.look_alone.result c.look_alone.ensures.same
+    c.look_alone.ensures.lost_same)
+
+pub returns-in-Ok-clause-statistics_left : goal.returns-in-Ok-clause-statistics_left
+returns-in-Ok-clause-statistics_left g c =
+    subst (λ (o : OfficeView _). LeavesStatistics g.S.Store o.conn c.look_alone.new.conn) c.self.view_is
+    c.in-Ok.ensures.statistics_left

@@ -1,13 +1,13 @@
 use Rattle.std.proofs.Common.{[], inl, inr, not, refl, sym, ap, subst, ◌∙◌, rules}
 use Rattle.sqlite.specs.Effect.{Database}
 use Rattle.sqlite.specs.Held.{state}
-use Rattle.store_tables.specs.Schema.{schema_13}
+use Rattle.store_tables.specs.Schema.{IsCurrentSchema, schema_13}
 use Rattle.store_migrate.specs.FormSchema.{schema_of}
 use Rattle.store_migrate.specs.declared.forms.SchemaForm.TheVariants.{Rows}
 use Rattle.store.specs.Holding.{Keeps}
-use Rattle.store.specs.Opening.{HasOffice, MayMigrate}
+use Rattle.store.specs.Opening.{HasOffice, HasTables, MayMigrate}
 use Rattle.store.proofs.TablesInForm.{left_migrating, migrated, none_migrates, office_in_form, schema_in_form}
-use Rattle.store.proofs.TablesInForm.{with_form}
+use Rattle.store.proofs.TablesInForm.{statistics_migrated, with_form}
 use Rattle.store.proofs.AfterCrash.{survives_more}
 use Rattle.store.proofs.OpenedTables.{new_holding, new_keeps}
 use Rattle.store.proofs.stored_office.StoredOffice.migrate.Goals as goal
@@ -19,6 +19,9 @@ returns-in-Ok-clause-opened g c =
     let current = c.in-Ok.ensures.current in
     let schema_of_office = λ (office : HasOffice old).
     c.knows_tables.ensures office.is_open (schema_of office.form) office.sound in
+    let all = λ (tables : HasTables old).
+    subst IsCurrentSchema (sym (c.knows_tables.ensures tables.is_open tables.office.schema tables.office.sound))
+    tables.office.current in
     record {
       working = refl;
       taken = search rules;
@@ -31,7 +34,8 @@ returns-in-Ok-clause-opened g c =
                 subst (Keeps []) (sym (committed ∙ ap (λ (d : Database). d.trees) made.1))
                 (new_keeps now.now made.0),
           );
-      same = search rules;
+      new = λ clean no_table. current.made clean no_table.schema;
+      same = λ clean tables. current.same clean (all tables);
       grown = λ clean tables second.
           let schema = c.knows_tables.ensures tables.is_open schema_13 tables.sound in
           current.grown clean (with_form Rows old tables schema) second;
@@ -46,6 +50,9 @@ returns-in-Ok-clause-opened g c =
                 let committed = c.leaves_committed-in-Ok.ensures kept.0.is_open db left in
                 subst (Keeps h) (sym (committed ∙ ap (λ (d : Database). d.trees) kept.1)) kept.0.keeps,
           );
+      statistics = λ clean h holding.
+          statistics_migrated h old now holding (schema_of_office (office_in_form h old holding)) (current.same clean)
+          (current.grown clean) (current.carried clean);
     }
 
 pub returns-in-Err-clause-opened : goal.returns-in-Err-clause-opened
@@ -63,7 +70,7 @@ returns-in-Err-clause-opened g c =
             let made = c.make_current.ensures.new_survives no_table.schema in
             elim (made.crash clean db left) [
               | inl was ↦ inl (c.leaves_committed.ensures no_table.is_open db was)
-              | inr made ↦ inr (subst (Keeps []) (sym made.2) (new_keeps made.0 made.1))
+              | inr made ↦ inr (subst (Keeps []) (sym made.2) (new_keeps made.0 made.1), made)
             ];
         older = λ clean office older. absurd (lost.never_older older);
         newer = λ clean office. lost.newer clean (schema_in_form old office (schema_of_office office));

@@ -7,8 +7,8 @@ use Rattle.sqlite.specs.State.{HasCleanDisk}
 use Rattle.store.specs.Holding.{Keeps}
 use Rattle.store.specs.Headline.{HasRunOnTables}
 use Rattle.store.specs.Running.{FailsBy, IsNoProfile, answered_of}
-use Rattle.store.proofs.ListOfArrivals.{Repeats, fails_more, lost_more_same, named_more, repeated_more, run_more}
-use Rattle.store.proofs.ListOfArrivals.{run_none}
+use Rattle.store.proofs.ListOfArrivals.{Repeats, fails_more, keep_at_first, keep_more, lost_more_same, named_more}
+use Rattle.store.proofs.ListOfArrivals.{repeated_more, run_more, run_none}
 use Rattle.store.proofs.stored_office.StoredOffice.run.Goals as goal
 
 pub loop-arrival-preserved : goal.loop-arrival-preserved
@@ -52,6 +52,14 @@ loop-arrival-preserved g c =
           next
           (subst (λ l. All (Repeats h) (answered_of (take (at + 1) arrivals) l)) c.push_reserved.ensures.items
           repeats));
+      statistics = λ clean h holding.
+          let early : HasCleanDisk mid = omega (arith, arrive.call.clean, clean) in
+          let ran = i.ran early h holding in
+          keep_more g.S.Store old c.loop-arrival.self c.arrive-answered.new.self arrive.call.refused
+          (λ working. record {
+            is_open = ran.is_open working;
+            office = (ran.held (ran.is_open working)).keeps.office;
+          }) (i.statistics early h holding) (arrive.statistics clean) clean arrive.statistics_left;
       ran = λ clean h holding.
           let early : HasCleanDisk mid = omega (arith, arrive.call.clean, clean) in
           subst (λ l. HasRunOnTables h (take (at + 1) arrivals) l c.arrive-answered.new.self.failed now)
@@ -79,6 +87,12 @@ returns-clause-ran g c clean h holding =
     subst (λ l. HasRunOnTables h l c.loop-arrival.results.items c.loop-arrival.self.failed
     (state g.S.Store c.loop-arrival.self.conn)) all (c.loop-arrival.invariant.ran clean h holding)
 
+pub returns-in_err-results-clause-statistics : goal.returns-in_err-results-clause-statistics
+returns-in_err-results-clause-statistics g c clean h holding = keep_at_first (state g.S.Store c.args.self.now.conn)
+
+pub returns-clause-statistics : goal.returns-clause-statistics
+returns-clause-statistics g c clean h holding = c.loop-arrival.invariant.statistics clean h holding
+
 pub returns-clause-lost_same : goal.returns-clause-lost_same
 returns-clause-lost_same g c clean tables is_open lost =
     (c.loop-arrival.invariant.lost_same clean tables lost).1 is_open
@@ -104,6 +118,7 @@ loop-arrival-init g c =
       clean = omega arith;
       lost_same = λ clean tables lost. ((λ working. tables.is_open), λ is_open. (refl, refl));
       repeated = λ clean h holding repeats is_open. (refl, refl);
+      statistics = λ clean h holding. keep_at_first old;
       ran = λ clean h holding.
           subst (λ l. HasRunOnTables h [] l c.args.self.now.failed old) (sym c.in_ok-results.ensures.items)
           (run_none h c.args.self.now.failed old (λ _. holding.is_open) holding

@@ -9,7 +9,7 @@ use Rattle.store.specs.Holding.{Holding}
 use Rattle.store.specs.Headline.{HasRunOnTables}
 use Rattle.store.specs.Opening.{HasTables}
 use Rattle.store.specs.Running.{FailsBy, IsNoProfile, answered_of}
-use Rattle.store.proofs.ListOfArrivals.{IsAsBefore, IsSame, Repeats}
+use Rattle.store.proofs.ListOfArrivals.{IsAsBefore, IsSame, KeepThose, Repeats}
 use Rattle.store.proofs.stored_office.StoredOffice.run.Given as goal
 
 abbrev pub invariant-loop-arrival : goal.invariant-loop-arrival
@@ -27,6 +27,7 @@ invariant-loop-arrival g l =
       repeated : HasCleanDisk now → (h : List Answered) → Holding h old
           → All (Repeats h) (answered_of (take l.arrival-index l.arrivals) l.results.items) → IsTrue now.is_open
           → IsSame old now;
+      statistics : HasCleanDisk now → (h : List Answered) → Holding h old → KeepThose old now;
       ran : HasCleanDisk now → (h : List Answered) → Holding h old
           → HasRunOnTables h (take l.arrival-index l.arrivals) l.results.items l.self.failed now;
     }

@@ -25,11 +25,12 @@ returns-in-Ok-clause-goes_on g c =
     let ran = c.answer_on-reported.ensures in
     if_ok _ c.answer_on-reported.result.0 (λ reported was.
     reported_in (known_of c.args.self.now.conn) (known_of (Some end)) path _ _
-    (λ clean h holds. c.in-Ok.ensures.held path h holds) (λ clean new. c.in-Ok.ensures.none path new) ran.clean
-    (λ sound. (memory_is_clean end, refl)) (λ sound h holding. holding) (answered_with arrivals reported.answers.items)
-    reported.lost
+    (λ clean h holds. c.in-Ok.ensures.held path h holds) (λ clean new. c.in-Ok.ensures.none path new)
+    (λ clean rows has. c.in-Ok.ensures.statistics path rows has) ran.clean
+    (λ sound. (memory_is_clean end, refl)) (λ sound h holding. holding) (λ sound rows same. same)
+    (answered_with arrivals reported.answers.items) reported.lost
     (λ clean h holding is_open. ok_of _ _ reported was (ran.held clean h holding is_open))
     (λ clean h begins is_open. elim (ok_of _ _ reported was (ran.begun clean h begins is_open)) [
       | inl holding ↦ inl holding
       | inr none ↦ inr (none.0, ap (answered_with arrivals) none.1 ∙ reported_none arrivals)
-    ]))
+    ]) ran.statistics)

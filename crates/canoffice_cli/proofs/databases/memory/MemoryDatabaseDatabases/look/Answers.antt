@@ -12,7 +12,8 @@ returns c =
     let look = c.look_on-shown.ensures in
     looked (known_of c.args.self.now.conn) (known_of (Some end)) path _ _
     (λ clean h holds. c.in_ok-conn.ensures.held path h holds) (λ clean new. c.in_ok-conn.ensures.none path new)
-    look.clean
-    (λ sound. (memory_is_clean end, refl)) (λ sound h holding. holding) bytes_of c.args.look.now
+    (λ clean rows has. c.in_ok-conn.ensures.statistics path rows has) look.clean
+    (λ sound. (memory_is_clean end, refl)) (λ sound h holding. holding) (λ sound rows same. same) bytes_of
+    c.args.look.now
     c.look_on-shown.result.0 (λ new. absurd (true≢false (sym (c.is_new.ensures.yes path new) ∙ c.if-is_new.false)))
-    look.shown look.held
+    look.shown look.held look.statistics

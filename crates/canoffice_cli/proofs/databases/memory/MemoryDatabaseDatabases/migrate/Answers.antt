@@ -11,7 +11,8 @@ returns g c =
     let migrated = c.migrate_on-done.ensures in
     migrated_at (known_of c.args.self.now.conn) (known_of (Some end)) path _ _
     (λ clean h holds. c.in_ok-conn.ensures.held path h holds) (λ clean new. c.in_ok-conn.ensures.none path new)
-    migrated.clean
-    (λ sound. (memory_is_clean end, refl)) (λ sound h holding. holding)
+    (λ clean rows has. c.in_ok-conn.ensures.statistics path rows has) migrated.clean
+    (λ sound. (memory_is_clean end, refl)) (λ sound h holding. holding) (λ sound rows same. same)
     (λ clean h holds. c.in_ok-conn.ensures.in_form path h holds) (λ sound h holding. holding)
-    c.migrate_on-done.result.0 migrated.carried migrated.left migrated.held migrated.made
+    c.migrate_on-done.result.0 migrated.carried migrated.left migrated.held migrated.made migrated.statistics
+    migrated.statistics_new

@@ -7,5 +7,6 @@ returns c = record {
   goes_on = λ h holds sound.
       ([], zero-le, subst ((known_of c.args.self.now.conn).holds c.args._path.now) (sym (append-nil h)) holds);
   made = λ new sound. inr new;
+  statistics = λ begun sound rows has. has;
   unheard = λ is h holds sound. holds;
 }

@@ -1,0 +1,82 @@
+-- The outcome of comparing two DBC texts, or two releases of a network.
+use Rattle.std.specs.Prelude.{◌≡◌, ◌⊎◌, ◌↔◌, ◌++◌, ◌==◌, ℕ, Bool, false, List, [], ◌∷◌, Option, IsTrue, codes, decimal}
+use Rattle.std.specs.Prelude.{if◌then◌else◌}
+use Rattle.std.specs.Option.{option_map}
+use Rattle.canoffice_desks.specs.Desks.{Desks}
+use Rattle.dbc_advice.specs.ShownPath.{shown_path}
+use Rattle.dbc_compare.specs.Lines.{compare_text}
+use Rattle.dbc_grammar.specs.Reads.{Reads}
+use Rattle.dbc_lex.specs.Fault as reading
+use Rattle.dbc_lex.specs.declared.fault.ReadFault.{ReadFault}
+use Rattle.dbc_read.specs.Reading.{IsReadFault}
+use Rattle.dbc_sheet.specs.declared.sheet.Sheet.{Sheet}
+use Rattle.office_fields.specs.Value.{plain_name_of}
+use Rattle.office_types.specs.declared.look.Look.{Look}
+use Rattle.office_types.specs.declared.look.Look.TheVariants as look
+use Rattle.office_types.specs.declared.look.NetLook.TheVariants as of_net
+use Rattle.canoffice_cli.specs.Databases.{Databases}
+use Rattle.canoffice_cli.specs.Formatted.{fault_errors}
+use Rattle.canoffice_cli.specs.Looked.{IsLookOutcome}
+use Rattle.canoffice_cli.specs.Outcome.{Outcome}
+use Rattle.canoffice_cli.specs.declared.place.Place.{Place}
+use Rattle.canoffice_cli.specs.declared.report.Status.{Status}
+use Rattle.canoffice_cli.specs.declared.report.Status.TheVariants.{FaultFound, Success}
+
+-- 0 where both are equal, and else 1
+abbrev pub status_by : Bool → Status
+status_by are_equal = if are_equal then Success else FaultFound
+
+-- ---- two texts
+
+-- `fault CODE NAME AT FILE`: the fault, its offset, and the file
+abbrev pub fault_in : List ℕ → ReadFault → List ℕ
+fault_in path fault =
+    codes "fault " ++ (decimal (reading.code_number fault.code)
+    ++ (codes " " ++ (reading.code_name fault.code
+    ++ (codes " " ++ (decimal fault.at ++ (codes " " ++ (shown_path path ++ codes "\n")))))))
+
+-- the text at the path reads as no sheet, and the line is that of the fault of `read`
+abbrev pub IsUnread : List ℕ → List ℕ → Outcome → Type 0
+IsUnread path bytes o = (fault : ReadFault) × IsReadFault bytes fault × (o ≡ fault_errors (fault_in path fault))
+
+abbrev pub comparison : List ℕ → Bool → Outcome
+comparison text are_equal = record { output = text; errors = []; status = status_by are_equal }
+
+-- the differences of the sheets are printed, and the status says whether the sheets are equal
+abbrev pub IsComparison : Sheet → Sheet → Outcome → Type 0
+IsComparison old new o =
+    (are_equal : Bool) × (IsTrue are_equal ↔ (old ≡ new)) × (o ≡ comparison (compare_text old new) are_equal)
+
+-- the sheet is compared with that of the text at the path, if this reads as one
+abbrev pub IsComparedWith : Sheet → List ℕ → List ℕ → Outcome → Type 0
+IsComparedWith old path bytes o = ((s : Sheet) × Reads bytes s × IsComparison old s o) ⊎ IsUnread path bytes o
+
+-- so is the sheet of the text at the first path, if this reads as one
+abbrev pub IsCompareOutcome : List ℕ → List ℕ → List ℕ → List ℕ → Outcome → Type 0
+IsCompareOutcome old_path new_path old new o =
+    ((s : Sheet) × Reads old s × IsComparedWith s new_path new o) ⊎ IsUnread old_path old o
+
+-- ---- two releases
+
+-- two releases of the network that a word names, by their numbers, 0 for the live sheet
+abbrev pub compare_look : List ℕ → ℕ → ℕ → Option Look
+compare_look word old new = option_map (λ net. look.Net net (of_net.Compare old new)) (plain_name_of word)
+
+-- A text of differences that has none begins with its last line, `differences`. A line of a difference begins with `!`
+-- or a point.
+abbrev pub has_no_difference : List ℕ → Bool
+has_no_difference [] = false
+has_no_difference (b ∷ text) = b == 100
+
+-- a text was found: the status says whether it has no difference
+abbrev pub judged_by : Status → Outcome → Outcome
+judged_by Success o = record o { status = status_by (has_no_difference o.output) }
+judged_by status o = o
+
+abbrev pub judged : Outcome → Outcome
+judged o = judged_by o.status o
+
+-- what the office at the place shows is printed, with that status
+abbrev pub IsReleasesOutcome : Desks → Databases → Databases → Place → List ℕ → ℕ → ℕ → Outcome → Type 0
+IsReleasesOutcome desks before after place net old new o =
+    (shown : Outcome) × IsLookOutcome desks before after place (compare_look net old new) shown × (o ≡ judged shown)

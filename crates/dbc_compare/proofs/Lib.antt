@@ -1,0 +1,11 @@
+pub mod Members
+pub mod ValueTests
+pub mod ChangeLists
+pub mod FieldsTold
+pub mod ThingLists
+pub mod PartnersBack
+pub mod MessageLists
+pub mod ToldSheets
+pub mod SwappedSheets
+pub mod MessageWalk
+mod Rows

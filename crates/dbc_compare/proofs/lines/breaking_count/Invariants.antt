@@ -1,0 +1,10 @@
+use Rattle.std.proofs.Common.{◌≡◌, ◌≤◌, take}
+use Rattle.std.specs.Prelude.{count_by}
+use Rattle.dbc_compare.specs.Lines.{breaks}
+use Rattle.dbc_compare.proofs.lines.breaking_count.Given as goal
+
+abbrev pub invariant-loop-difference : goal.invariant-loop-difference
+invariant-loop-difference l = record {
+  counted : l.count ≡ count_by breaks (take l.difference-index l.found);
+  few : l.count ≤ l.difference-index;
+}

@@ -1,0 +1,122 @@
+-- The differences of two sheets: whole lists, and in which order.
+use Rattle.std.specs.Prelude.{ℕ, Bool, not, nat_lt, List, [], ◌∷◌, ◌++◌, map, filter, take, drop, Option, Some, None}
+use Rattle.std.specs.Prelude.{if◌then◌else◌}
+use Rattle.std.specs.List.{flat_map, prefix_len}
+use Rattle.dbc_words.specs.Named.{has_name, thing_named}
+use Rattle.dbc_sheet.specs.Messages.{number_of}
+use Rattle.dbc_sheet.specs.Sheet.{node_name, table_name}
+use Rattle.dbc_sheet.specs.Signals.{signal_name}
+use Rattle.dbc_sheet.specs.declared.message.Message.{Message}
+use Rattle.dbc_sheet.specs.declared.sheet.Sheet.{Sheet}
+use Rattle.dbc_pairs.specs.Pairs.{partner}
+use Rattle.dbc_compare.specs.Fields.{Valued, message_fields, node_fields, sheet_fields, signal_fields, table_fields}
+use Rattle.dbc_compare.specs.Value.{Value, same_names, same_value, value_text}
+use Rattle.dbc_compare.specs.declared.difference.Change.{Change}
+use Rattle.dbc_compare.specs.declared.difference.Change.TheVariants as change
+use Rattle.dbc_compare.specs.declared.difference.Difference.{Difference}
+use Rattle.dbc_compare.specs.declared.field.Field.{Field}
+use Rattle.dbc_compare.specs.declared.place.Place.{Place}
+use Rattle.dbc_compare.specs.declared.place.Place.TheVariants as place
+
+-- ---- the changes of fields
+
+unfoldable pub field_changes : Field → Value → Value → List Change
+field_changes f old new =
+    if same_value old new then [] else change.Changed f (value_text old) (value_text new) ∷ []
+
+-- of each field in which the two differ
+abbrev pub changes_between : List Valued → List Valued → List Change
+changes_between [] new = []
+changes_between (o ∷ old) [] = []
+changes_between (o ∷ old) (n ∷ new) = field_changes o.0 o.1 n.1 ++ changes_between old new
+
+-- ---- differences in one place
+
+unfoldable pub differences_about : Place → Option (List ℕ) → List Change → List Difference
+differences_about here name changes = map (λ c. record { place = here; name = name; change = c }) changes
+
+-- a change that is there under a condition
+abbrev pub change_if : Bool → Change → List Change
+change_if b c = if b then c ∷ [] else []
+
+-- ---- things that are known by name: nodes, value tables, the signals of a message
+
+-- of a thing of the new list, since it was the one that was found
+abbrev pub changes_since : {A : Type 0} → (A → List Valued) → Option A → A → List Change
+changes_since fields None x = change.Added ∷ []
+changes_since fields (Some old) x = changes_between (fields old) (fields x)
+
+-- the names of those that the other list has too, in order
+abbrev pub kept_names : {A : Type 0} → (A → List ℕ) → List A → List A → List (List ℕ)
+kept_names name things others = filter (has_name name others) (map name things)
+
+abbrev pub are_reordered : {A : Type 0} → (A → List ℕ) → List A → List A → Bool
+are_reordered name old new = not (same_names (kept_names name old new) (kept_names name new old))
+
+abbrev pub shown_thing : {A : Type 0} → Place → (A → List ℕ) → (A → List Valued) → List A → A → List Difference
+shown_thing here name fields old x =
+    differences_about here (Some (name x)) (changes_since fields (thing_named name old (name x)) x)
+
+abbrev pub gone_thing : {A : Type 0} → Place → (A → List ℕ) → List A → A → List Difference
+gone_thing here name new x =
+    differences_about here (Some (name x)) (change_if (not (has_name name new (name x))) change.Removed)
+
+-- those of the new list in its order, then those that are gone, then the order of those in both
+unfoldable pub thing_differences : {A : Type 0} → Place → (A → List ℕ) → (A → List Valued) → List A → List A
+    → List Difference
+thing_differences here name fields old new =
+    flat_map (shown_thing here name fields old) new
+    ++ (flat_map (gone_thing here name new) old
+    ++ differences_about here None (change_if (are_reordered name old new) change.Reordered))
+
+-- ---- messages
+
+-- a message as it was and as it is
+abbrev pub between : Message → Message → Place
+between old new =
+    place.Message (record { ident = old.ident; name = old.name }) (record { ident = new.ident; name = new.name })
+
+-- of a message and its partner
+unfoldable pub pair_differences : Message → Message → List Difference
+pair_differences old new =
+    differences_about (between old new) None (changes_between (message_fields old) (message_fields new))
+    ++ thing_differences (between old new) signal_name signal_fields old.signals new.signals
+
+-- of a message of the new sheet
+abbrev pub shown_message : Option Message → Message → List Difference
+shown_message None m = differences_about (between m m) None (change.Added ∷ [])
+shown_message (Some old) m = pair_differences old m
+
+-- of a message of the old sheet
+abbrev pub gone_message : Option Message → Message → List Difference
+gone_message None m = differences_about (between m m) None (change.Removed ∷ [])
+gone_message (Some new) m = []
+
+-- how many of the first messages have numbers below this one
+abbrev pub below : ℕ → List Message → ℕ
+below n messages = prefix_len (λ m. nat_lt (number_of m) n) messages
+
+-- by number: before each message of the new sheet those of the old one whose numbers are below it
+abbrev pub by_numbers : (Message → List Difference) → (Message → List Difference) → List Message → List Message
+    → List Difference
+by_numbers gone shown old [] = flat_map gone old
+by_numbers gone shown old (m ∷ new) =
+    flat_map gone (take (below (number_of m) old) old)
+    ++ (shown m ++ by_numbers gone shown (drop (below (number_of m) old) old) new)
+
+abbrev pub message_differences : List Message → List Message → List Difference
+message_differences old new =
+    by_numbers (λ m. gone_message (partner new old m) m) (λ m. shown_message (partner old new m) m) old new
+
+-- ---- the whole: the sheet itself, nodes, value tables, messages
+
+abbrev pub sheet_differences : Sheet → Sheet → List Difference
+sheet_differences old new =
+    differences_about place.Sheet None (changes_between (sheet_fields old) (sheet_fields new))
+
+abbrev pub differences : Sheet → Sheet → List Difference
+differences old new =
+    sheet_differences old new
+    ++ (thing_differences place.Nodes node_name node_fields old.nodes new.nodes
+    ++ (thing_differences place.Tables table_name table_fields old.tables new.tables
+    ++ message_differences old.messages new.messages))

@@ -1,0 +1,33 @@
+-- Laws of differences.
+use Rattle.std.specs.Prelude.{◌≡◌, ◌↔◌, List, [], Contains}
+use Rattle.dbc_sheet.specs.declared.sheet.Sheet.{Sheet}
+use Rattle.dbc_compare.specs.Differences.{differences}
+use Rattle.dbc_compare.specs.declared.difference.Change.{Change}
+use Rattle.dbc_compare.specs.declared.difference.Change.TheVariants as change
+use Rattle.dbc_compare.specs.declared.difference.Difference.{Difference}
+use Rattle.dbc_compare.specs.declared.place.Place.{Place}
+use Rattle.dbc_compare.specs.declared.place.Place.TheVariants as place
+
+-- there is no difference if and only if the sheets are equal
+abbrev pub TellsApart : Sheet → Sheet → Type 0
+TellsApart old new = (differences old new ≡ []) ↔ (old ≡ new)
+
+-- ---- the other way round
+
+abbrev pub swapped_place : Place → Place
+swapped_place (place.Message old new) = place.Message new old
+swapped_place here = here
+
+abbrev pub swapped_change : Change → Change
+swapped_change change.Added = change.Removed
+swapped_change change.Removed = change.Added
+swapped_change change.Reordered = change.Reordered
+swapped_change (change.Changed f old new) = change.Changed f new old
+
+-- added for removed, old for new
+abbrev pub swapped : Difference → Difference
+swapped d = record { place = swapped_place d.place; name = d.name; change = swapped_change d.change }
+
+-- each difference has its opposite the other way round
+abbrev pub IsSwapped : Sheet → Sheet → Type 0
+IsSwapped old new = (d : Difference) → Contains (differences old new) d ↔ Contains (differences new old) (swapped d)

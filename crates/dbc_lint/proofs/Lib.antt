@@ -1,0 +1,6 @@
+pub mod EachSignal
+pub mod LongMessages
+pub mod LongNumbers
+pub mod NumberSets
+pub mod UsedNames
+pub mod Rows

@@ -1,0 +1,10 @@
+use Rattle.std.proofs.Common.{◌≡◌, drop}
+use Rattle.std.specs.Prelude.{find}
+use Rattle.std.specs.Str.{bytes_eq}
+use Rattle.dbc_lint.specs.Kind.{kind_name, kind_of}
+use Rattle.dbc_lint.proofs.kind.Kind.of.Given as goal
+
+-- the one that is looked for is among those that are left
+abbrev pub invariant-loop-kind : goal.invariant-loop-kind
+invariant-loop-kind l = kind_of l.name
+    ≡ find (λ k. bytes_eq (kind_name k) l.name) (drop l.kind-index l.kind-items)

@@ -1,0 +1,24 @@
+use Rattle.std.proofs.Common.{◌∙◌, ap, List, ℕ, Bor}
+use Rattle.std.specs.Prelude.{count_by}
+use Rattle.dbc_words.specs.Named.{has_name}
+use Rattle.dbc_sheet.specs.Sheet.{node_name}
+use Rattle.dbc_sheet.specs.declared.message.Message.{Message}
+use Rattle.dbc_sheet.specs.declared.node.Node.{Node}
+use Rattle.dbc_lint.specs.OfMessage.{is_over_8}
+use Rattle.dbc_lint.specs.OfNode.{has_text, names_used}
+use Rattle.dbc_lint.specs.Whole.{text_of}
+use Rattle.dbc_lint.proofs.UsedNames.{has_borrowed}
+use Rattle.dbc_lint.proofs.whole.Whole.of.Goals as goal
+
+pub invariant_of-result : goal.invariant_of-result
+invariant_of-result c = record {
+  nodes = λ n. c.in_ok-names_of_nodes.ensures n
+      ∙ ap (λ (nodes : List Node). has_name node_name nodes n) c.nodes.ensures.nodes;
+  used = λ n. c.in_ok-set_of.ensures n
+      ∙ ap (λ (names : List (Bor (List ℕ))). has_name text_of names n) c.deref.ensures.value
+      ∙ has_borrowed c.in_ok-used.used.items n
+      ∙ ap (λ (names : List (List ℕ)). has_text names n)
+      (c.in_ok-used.ensures ∙ ap names_used c.messages.ensures.messages);
+  over_8 = c.count_over_8.ensures
+      ∙ ap (λ (messages : List Message). count_by is_over_8 messages) c.messages-2.ensures.messages;
+}

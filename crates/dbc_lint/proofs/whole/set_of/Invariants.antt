@@ -1,0 +1,7 @@
+use Rattle.std.proofs.Common.{take}
+use Rattle.dbc_words.specs.Named.{HasNamesOf}
+use Rattle.dbc_lint.specs.Whole.{text_of}
+use Rattle.dbc_lint.proofs.whole.set_of.Given as goal
+
+abbrev pub invariant-loop-name : goal.invariant-loop-name
+invariant-loop-name l = HasNamesOf text_of (take l.name-index l.names) l.set

@@ -1,0 +1,13 @@
+pub mod Kind
+pub mod Remark
+pub mod Numbers
+pub mod OfSignal
+pub mod OfMessage
+pub mod OfNode
+pub mod OfTable
+pub mod Tokens
+pub mod OfFile
+pub mod Lines
+pub mod NumberSet
+pub mod Whole
+pub mod Reached

@@ -1,0 +1,19 @@
+-- What of a whole sheet is looked up for its remarks.
+use Rattle.std.specs.Prelude.{◌≡◌, ℕ, List, count_by}
+use Rattle.std.specs.Borrow.{Bor}
+use Rattle.dbc_words.specs.Named.{HasNamesOf, holds_name}
+use Rattle.dbc_words.specs.declared.name_set.NameSet.{NameSet}
+use Rattle.dbc_sheet.specs.Sheet.{node_name}
+use Rattle.dbc_sheet.specs.declared.sheet.Sheet.{Sheet}
+use Rattle.dbc_lint.specs.OfMessage.{is_over_8}
+use Rattle.dbc_lint.specs.OfNode.{has_text, names_used}
+
+-- the bytes of a name
+abbrev pub text_of : Bor (List ℕ) → List ℕ
+text_of name = name.now
+
+-- the names of its nodes, those of nodes that send or receive, and how many messages have more than 8 bytes
+pub record IsOfSheet (sheet : Sheet) (named met : NameSet) (count : ℕ) : Type 0 where
+  pub nodes : HasNamesOf node_name sheet.nodes named
+  pub used : (n : List ℕ) → holds_name met n ≡ has_text (names_used sheet.messages) n
+  pub over_8 : count ≡ count_by is_over_8 sheet.messages

@@ -93,6 +93,25 @@ class Applying(Printing):
         return lines == self.script.replies[:len(lines)]
 
 
+class Explaining(Applying):
+    """A script on an office in memory with --explain: what is reported of its refusals may be left out."""
+
+    def __init__(self, script, reasons):
+        super().__init__(script, ["apply", "--explain", "script.txt"])
+        self.plain, self.reasons = self.answer, reasons
+        self.answer = Answer(self.plain.output, b"".join(reasons))
+
+    def kind_of(self, answer, fault):
+        lines = answer.errors.splitlines(keepends=True)
+        shown = [line for line in lines if line in self.reasons]
+        if shown != [reason for reason in self.reasons if reason in shown]:
+            return None
+        without = Answer(answer.output, b"".join(line for line in lines if line not in shown), answer.status)
+        if without == self.plain:
+            return "whole" if shown == self.reasons else "left out"
+        return super().kind_of(without, fault)
+
+
 class Keeping(Applying):
     """A script on an office in a database, which has answered so many of its lines before."""
 
@@ -359,6 +378,16 @@ differences 2 breaking 1 added 1 removed 0 changed 1
 """
 EQUAL = b"differences 0 breaking 0 added 0 removed 0 changed 0\n"
 SENT = {"sent.txt": b"a1 engine take_ident net=truck form=std name=EngineSpeed length=8\n"}
+REFUSED = Script("""
+- office open_net net=truck kind=can reviews=0 -> done
+- office grant net=truck team=engine form=std first=256 last=258 -> done
+- engine take_ident net=truck form=std name=EngineSpeed length=8 -> number 256
+- brake take_ident net=truck form=std name=BrakeState length=8 -> refused 47 NoBlock
+- engine take_ident net=truck form=std name=EngineSpeed length=8 -> refused 50 NameTaken
+""")
+REASONS = [
+    b"script.txt:4:1: refused 47 NoBlock: team brake has no std block on truck; there are 256 to 258 of engine\n",
+    b"script.txt:5:1: refused 50 NameTaken: truck has a live message EngineSpeed already: std 256 (0x100) of team engine\n"]
 TOO_LONG = b"wrong.txt:1:57: bad line: found 'length=1786', but length is a whole number from 0 to 1785\n"
 CHART = b"""   0 # # # # # # # #
    1 # # # # # # # #
@@ -389,6 +418,7 @@ COMMANDS = {
     "apply": Applying(FREED_AND_HELD),
     "apply_lines": Applying(UNDER_LINES),
     "apply_bundles": Applying(EVERY_TABLE),
+    "apply_refused": Explaining(REFUSED, REASONS),
     "apply_db": Keeping(FREED_AND_HELD),
     "apply_db_begun": Keeping(FREED_AND_HELD, had=6),
     "apply_db_repeated": Keeping(FREED_AND_HELD, had=11),

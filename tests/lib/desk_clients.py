@@ -20,7 +20,7 @@ class Serve:
     """`canoffice serve` on a database and a free port, or on this one, from when it listens. If a file size is given, no file
     may grow beyond it: a write there fails, as on a disk that is full. If a count of files is given, no more may be open."""
 
-    def __init__(self, count, file_size=None, database="office.db", files=None, port=None):
+    def __init__(self, count, file_size=None, database="office.db", files=None, port=None, options=()):
         self.port = port or free_port()
 
         def limit():
@@ -30,7 +30,7 @@ class Serve:
             if files is not None:
                 resource.setrlimit(resource.RLIMIT_NOFILE, (files, files))
 
-        words = [PROGRAM, "serve", "--db", database, "--port", str(self.port), "--count", str(count)]
+        words = [PROGRAM, "serve", "--db", database, "--port", str(self.port), "--count", str(count), *options]
         self.process = subprocess.Popen(
             words, stdin=subprocess.DEVNULL, stdout=subprocess.PIPE, stderr=subprocess.PIPE, text=True, preexec_fn=limit)
         atexit.register(self.process.kill)

@@ -1,12 +1,13 @@
 """Runs the commands that a document shows, those over HTTP too."""
 import re, shutil, subprocess
+from pathlib import Path
 
 from desk_clients import Serve
 from documents import shows
 
 SHOWN_PORT = "127.0.0.1:8089"
 SENDS = "./canoffice send "
-START = re.compile(r"\./canoffice serve --db (\S+) --count ([0-9]+) &")
+START = re.compile(r"\./canoffice serve --db (\S+) --count ([0-9]+)(?: --explain 2>(\S+))? &")
 
 
 class Shell:
@@ -15,7 +16,7 @@ class Shell:
     """
 
     def __init__(self, report):
-        self.report, self.serve = report, None
+        self.report, self.serve, self.log = report, None, None
         self.has_tables = shutil.which("sqlite3")
 
     def run(self, command):
@@ -25,7 +26,7 @@ class Shell:
             self.report(command.number, f"there is no rule for running {word}")
         elif start := START.fullmatch(command.text):
             self.end_serve()
-            written = self.start_serve(start[1], int(start[2]))
+            written = self.start_serve(start[1], int(start[2]), start[3])
             self.compare(command, written)
         elif word == "wait":
             self.end_serve()
@@ -34,16 +35,20 @@ class Shell:
                 self.end_serve()
             self.compare(command, self.written_by(command.text))
 
-    def start_serve(self, database, count):
-        self.serve = Serve(count, database=database)
-        return f"listening on {SHOWN_PORT}"
+    def start_serve(self, database, count, log):
+        self.serve, self.log = Serve(count, database=database, options=["--explain"] if log else []), log
+        return "" if log else f"listening on {SHOWN_PORT}"
 
     def end_serve(self):
         """`serve` has answered as many connections as were shown, so it has ended."""
         serve, self.serve = self.serve, None
         if serve:
             try:
-                serve.end(0, "")
+                if self.log:
+                    serve.process.wait(60)
+                    Path(self.log).write_text(f"listening on {SHOWN_PORT}\n{serve.process.stderr.read()}")
+                else:
+                    serve.end(0, "")
             except subprocess.TimeoutExpired:
                 self.report(0, "`serve` waits for more connections than are shown")
 

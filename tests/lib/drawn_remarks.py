@@ -5,6 +5,9 @@
 import random
 import sys
 
+# The upper 21 bits of identifiers: one parameter group in two priorities, and one to two destinations (SAE J1939-21).
+GROUPS = 0x0CF004, 0x18F004, 0x18EF03, 0x18EF04
+
 
 def drawn_file(seed):
     draw = random.Random(seed)
@@ -27,7 +30,7 @@ def drawn_file(seed):
 
     def message(index):
         number = draw.randrange(0, 2048) if draw.randrange(2) else (
-            1 << 31 | draw.randrange(1 << 21) << 8 | draw.choice((0, 5, 5, 254, 254, 7)))
+            1 << 31 | draw.choice((draw.randrange(1 << 21), *GROUPS)) << 8 | draw.choice((0, 5, 5, 254, 254, 7)))
         if number in numbers:
             return
         numbers.add(number)

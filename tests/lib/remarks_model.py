@@ -223,9 +223,36 @@ def range_is_outside(signal):
     return not all(ends[0] <= number <= ends[1] for number in (signal.least, signal.most))
 
 
+def spn_of(file, message, signal):
+    return file.spns.get((message.number, signal.name), 0)
+
+
+def parameter_group(message):
+    """Its PGN (SAE J1939-21), and none for 11 bits."""
+    if message.number < EXTENDED:
+        return None
+    group, specific = message.number >> 16 & 0x3FF, message.number >> 8 & 0xFF
+    return group << 8 | (specific if group & 0xFF >= 240 else 0)
+
+
+def earlier_with_spn(file, message, signal):
+    """The message and the signal that had the SPN of the signal before: the first one of the same message, or else the
+    first one of the file where it is of another parameter group. None if there is none."""
+    spn = spn_of(file, message, signal)
+    if not spn:
+        return None
+    first = next(other for other in message.signals if spn_of(file, message, other) == spn)
+    if first is not signal:
+        return message, first
+    there, first = next((each, other) for each in file.messages for other in each.signals
+                        if spn_of(file, each, other) == spn)
+    is_one_group = parameter_group(there) is not None and parameter_group(there) == parameter_group(message)
+    return None if there is message or is_one_group else (there, first)
+
+
 def of_signal(file, message, signal):
     key = message.number, signal.name
-    kind, spn, values = file.kinds.get(key, 0), file.spns.get(key, 0), file.values.get(key, [])
+    kind, values = file.kinds.get(key, 0), file.values.get(key, [])
     multiplexor = next((other for other in message.signals if other.mux == "M"), None)
     words = message.name + b" " + signal.name
     least, most = raw_values(signal)
@@ -237,9 +264,11 @@ def of_signal(file, message, signal):
         "FloatSize": kind and signal.size != 32 * kind,
         "MuxOutside": multiplexor and isinstance(signal.mux, int) and signal.mux >> multiplexor.size,
         "MuxUnused": signal.mux == "M" and not any(isinstance(other.mux, int) for other in message.signals),
-        "SpnTwice": spn and [file.spns.get((message.number, other.name), 0) for other in message.signals].count(spn) > 1,
     }
     yield from ((name, words) for name, holds in tests.items() if holds)
+    earlier = earlier_with_spn(file, message, signal)
+    if earlier:
+        yield "SpnTwice", b" ".join([words, earlier[0].name, earlier[1].name])
     for value in values:
         if not kind and not (value.denominator == 1 and least <= value <= most):
             yield "ValueOutside", words + b" " + decimal_text(value)

@@ -3,10 +3,11 @@ ghost use Rattle.std.specs.Prelude.{◌≡◌, Err, IfOk, IsFalse, IsOk, IsTrue,
 ghost use Rattle.sqlite.specs.Files.{file_state};
 
 use canoffice_cli::{
-    Answers, Databases, Progress, ServeEnd, answer_on, answers_when_closed, look_on, migrate_on,
-    nothing_answered,
+    Answers, Databases, Progress, Reasons, ServeEnd, answer_on, answers_when_closed, look_on,
+    migrate_on, nothing_answered,
 };
 use desk::{Routes, ServeFault, listen, serve};
+use desk_advice::NoteLines;
 use office_history::Arrival;
 use sqlite::{Connection, File, FileStore};
 use std::alloc::{AllocError, Global};
@@ -50,16 +51,24 @@ fn close(conn: Connection<FileStore<File>>) -> Result<(), Lost> {
     }
 }
 
+/// How connections are served.
+#[derive(Clone, Copy)]
+struct Serving {
+    port: u16,
+    count: u32,
+    explain: bool,
+}
+
 /// Serves connections of the port by the office. Standard error says when it listens, and when the office fails; or
-/// that too few file descriptors are left for a connection: then none is accepted.
+/// that too few file descriptors are left for a connection: then none is accepted. Where it is requested, standard error
+/// also says of each answer other than 200 why.
 fn serve_at(
     rt: &HostRuntime,
     routes: &Routes,
     office: &mut StoredOffice<FileStore<File>>,
-    port: u16,
-    count: u32,
+    serving: Serving,
 ) -> Result<(), ServeFault> {
-    let mut listener = listen(rt, port)?;
+    let mut listener = listen(rt, serving.port)?;
     let Ok(address) = listener.address() else {
         return Err(ServeFault::Listen);
     };
@@ -72,13 +81,22 @@ fn serve_at(
         return Err(ServeFault::Accept);
     }
     let _reported = writeln!(errors, "listening on {address}");
+    let mut notes = NoteLines {
+        routes,
+        to: if serving.explain {
+            Some(rt.stderr())
+        } else {
+            None
+        },
+    };
     serve(
         rt.alloc(),
         routes,
         office,
         &mut listener,
         &mut errors,
-        count,
+        &mut notes,
+        serving.count,
     )
 }
 
@@ -102,8 +120,7 @@ fn end_of(served: Result<(), ServeFault>, failed: bool) -> Result<(), ServeEnd>
 fn serve_on(
     rt: &HostRuntime,
     conn: Connection<FileStore<File>>,
-    port: u16,
-    count: u32,
+    serving: Serving,
 ) -> (Result<(), ServeEnd>, Connection<FileStore<File>>)
     requires { (file_state conn).in_transaction ≡ false }
 {
@@ -112,7 +129,7 @@ fn serve_on(
     };
     match StoredOffice::open(conn) {
         Ok(mut office) => {
-            let served = serve_at(rt, &routes, &mut office, port, count);
+            let served = serve_at(rt, &routes, &mut office, serving);
             let end = end_of(served, office.is_failed());
             (end, office.close())
         }
@@ -132,11 +149,14 @@ impl Databases for HostDatabases<'_> {
         script: &[u8],
         arrivals: &[Arrival],
         strict: bool,
+        reasons: &mut Reasons,
         progress: &mut Progress<W>,
     ) -> Result<Answers, AllocError> {
         match open(self.rt, path) {
             Ok(conn) => {
-                let (reported, conn) = answer_on(alloc, conn, script, arrivals, strict, progress);
+                let (reported, conn) = answer_on(
+                    alloc, conn, script, arrivals, strict, reasons, progress,
+                );
                 let closed = close(conn);
                 Ok(answers_when_closed(reported?, closed))
             }
@@ -169,12 +189,24 @@ impl Databases for HostDatabases<'_> {
         closed
     }
 
-    fn serve(&mut self, _alloc: Global, path: &str, port: u16, count: u32) -> Result<(), ServeEnd> {
+    fn serve(
+        &mut self,
+        _alloc: Global,
+        path: &str,
+        port: u16,
+        count: u32,
+        explain: bool,
+    ) -> Result<(), ServeEnd> {
         let conn = match open(self.rt, path) {
             Ok(conn) => conn,
             Err(lost) => return Err(ServeEnd::IsLost(lost)),
         };
-        let (served, conn) = serve_on(self.rt, conn, port, count);
+        let serving = Serving {
+            port,
+            count,
+            explain,
+        };
+        let (served, conn) = serve_on(self.rt, conn, serving);
         let closed = close(conn);
         served?;
         match closed {

@@ -15,7 +15,7 @@ use Rattle.store.specs.declared.lost.Lost.{Lost}
 use Rattle.canoffice_cli.specs.Answered.{IsFarEnough, answered_with, answers_outcome}
 use Rattle.canoffice_cli.specs.Applied.{IsScriptOutcome, Reports}
 use Rattle.canoffice_cli.specs.Outcome.{outcome_of}
-use Rattle.canoffice_cli.specs.declared.manner.Manner.{Manner}
+use Rattle.canoffice_jobs.specs.declared.manner.Manner.{Manner}
 use Rattle.canoffice_cli.specs.declared.report.Report.{Report}
 
 module _ (files : Files) (dash : Dash) (manner : Manner) (GoesOn : List Answered → Option Lost → Type 0) (NothingDone : Type 0)

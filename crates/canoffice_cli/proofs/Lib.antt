@@ -1,20 +1,13 @@
-pub mod CommandLine
-pub mod LineExamples
 pub mod Writes
 pub mod Performed
 pub mod WrongWords
-pub mod Commands
 pub mod FileJobs
 pub mod StatedMore
+pub mod ReasonLines
+pub mod StillOffice
 mod Stopping
 pub mod Canonical
 pub mod PassedLines
-pub mod NoFault
-pub mod FilledRows
-pub mod FilledWalk
-pub mod GivenValues
-pub mod EnteredSubcommand
-pub mod EnteredLine
 pub mod Reported
 pub mod CanAnswer
 pub mod LongestLines

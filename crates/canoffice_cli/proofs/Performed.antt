@@ -1,5 +1,5 @@
 -- A run that was answered, or ran out of memory.
-use Rattle.std.proofs.Common.{List, ℕ, refl, inl, inr, Result, Ok, Err}
+use Rattle.std.proofs.Common.{Bool, List, ℕ, refl, inl, inr, Result, Ok, Err}
 use Rattle.std.specs.Prelude.{IfOk}
 use Rattle.std.specs.declared.alloc.AllocError.{AllocError}
 use Rattle.canoffice_cli.specs.declared.report.Report.{Report}
@@ -11,12 +11,12 @@ use Rattle.canoffice_cli.specs.Databases.{Databases}
 use Rattle.canoffice_desks.specs.Desks.{Desks}
 use Rattle.canoffice_cli.specs.Performance.{IsAnswered, IsPerformed}
 
-pub performed : (words : List (List ℕ)) (files : Files) (input : Holding) (desks : Desks) (before after : Databases)
+pub performed : (words : List (List ℕ)) (files : Files) (input : Holding) (terminal : Bool) (desks : Desks) (before after : Databases)
     (output errors : Writing) (status : Status) (answer : Result Report AllocError)
-    → IfOk answer (λ report. IsAnswered words files input desks before after (outcome_of report))
+    → IfOk answer (λ report. IsAnswered words files input terminal desks before after (outcome_of report))
     → IsDelivered (final_outcome answer) output errors status
-    → IsPerformed words files input desks before after output errors status
-performed words files input desks before after output errors status (Ok report) answered delivered =
+    → IsPerformed words files input terminal desks before after output errors status
+performed words files input terminal desks before after output errors status (Ok report) answered delivered =
     (outcome_of report, inr answered, delivered)
-performed words files input desks before after output errors status (Err lost) answered delivered =
+performed words files input terminal desks before after output errors status (Err lost) answered delivered =
     (memory_lost, inl refl, delivered)

@@ -23,7 +23,7 @@ use Rattle.canoffice_cli.specs.Applied.{Reports}
 use Rattle.canoffice_cli.specs.Outcome.{outcome_of, wrong_line}
 use Rattle.canoffice_cli.specs.Sent.{AreSent, HaveCome, IsSendOutcome, comes_of, lost_by, requesting_line}
 use Rattle.canoffice_cli.specs.declared.report.Report.{Report}
-use Rattle.canoffice_cli.specs.declared.sending.Sending.{Sending}
+use Rattle.canoffice_jobs.specs.declared.manner.Sending.{Sending}
 use Rattle.canoffice_cli.proofs.Requesting.{line_is_there}
 
 -- ---- what has come so far

@@ -1,5 +1,5 @@
 -- The outcome of a job, with what is printed after it or without.
-use Rattle.std.proofs.Common.{◌≡◌, ℕ, Bool, true, false, List, map, inl, inr, refl, subst, sym, Result, Ok, Err}
+use Rattle.std.proofs.Common.{◌≡◌, ◌⊎◌, ℕ, List, map, inl, inr, refl, subst, sym, Result, Ok, Err}
 use Rattle.std.specs.Prelude.{IfOk}
 use Rattle.std.specs.declared.alloc.AllocError.{AllocError}
 use Rattle.dbc_grammar.specs.Reads.{ReadsAs}
@@ -9,31 +9,66 @@ use Rattle.dbc_advice.specs.LeftOut.{left_out}
 use Rattle.dbc_read.specs.Passed.{start_and_keyword}
 use Rattle.dbc_read.specs.Reading.{ReadsAsNothing}
 use Rattle.dbc_read.specs.declared.passed.Passed.{Passed}
-use Rattle.canoffice_cli.specs.Explaining.{IsStatedOfFormat, MayExplain}
+use Rattle.canoffice_cli.specs.Explaining.{IsExplainedBy, IsStatedOfFormat, IsWithAdvice, MayBeStatedBy, MayState}
 use Rattle.canoffice_cli.specs.Outcome.{Outcome, and_errors, outcome_of}
+use Rattle.canoffice_cli.specs.declared.explaining.Advice.{Advice}
+use Rattle.canoffice_cli.specs.declared.explaining.Advice.TheVariants.{Everything, Nothing, WrongLine}
 use Rattle.canoffice_cli.specs.declared.report.Report.{Report}
 
-module _ (explain : Bool) (IsOf : Outcome → Type 0) (IsStated : List ℕ → Type 0) where
-  pub with_more : (r : Result Report AllocError) (report : Report) (stated : List ℕ) → explain ≡ true
+-- with something after the errors
+module _ (IsOf : Outcome → Type 0) (IsStated : List ℕ → Type 0) where
+  pub with_more : (r : Result Report AllocError) (report : Report) (stated : List ℕ)
       → IsOf (outcome_of report) → IsStated stated
       → IfOk r (λ more. outcome_of more ≡ and_errors (outcome_of report) stated)
-      → IfOk r (λ more. (plain : Outcome) × IsOf plain × MayExplain explain IsStated plain (outcome_of more))
-  with_more (Err lost) report stated requested is is_stated whole = tt
-  with_more (Ok more) report stated requested is is_stated whole = (
-    outcome_of report,
-    is,
-    subst (λ b. MayExplain b IsStated (outcome_of report) (outcome_of more)) (sym requested)
-        (record { stated = stated; is = is_stated; whole = whole }),
+      → IfOk r (λ more. IsExplainedBy IsOf IsStated (outcome_of more))
+  with_more (Err lost) report stated is is_stated whole = tt
+  with_more (Ok more) report stated is is_stated whole =
+      (outcome_of report, is, record { stated = stated; is = is_stated; whole = whole })
+
+  pub more_by : (IsMore : List ℕ → Type 0) (r : Result Report AllocError)
+      → ((stated : List ℕ) → IsStated stated → IsMore stated)
+      → IfOk r (λ report. IsExplainedBy IsOf IsStated (outcome_of report))
+      → IfOk r (λ report. IsExplainedBy IsOf IsMore (outcome_of report))
+  more_by IsMore (Err lost) more is = tt
+  more_by IsMore (Ok report) more is = (
+    is.0,
+    is.1,
+    record { stated = is.2.stated; is = more is.2.stated is.2.is; whole = is.2.whole },
   )
 
-  pub without_more : (r : Result Report AllocError) → explain ≡ false → IfOk r (λ report. IsOf (outcome_of report))
-      → IfOk r (λ report. (plain : Outcome) × IsOf plain × MayExplain explain IsStated plain (outcome_of report))
-  without_more (Err lost) unrequested is = tt
-  without_more (Ok report) unrequested is = (
+-- a text that is added to errors, or isn't
+pub may_state : (IsStated : List ℕ → Type 0) (plain o : Outcome) (stated : List ℕ) → IsStated stated
+    → (o ≡ and_errors plain stated) ⊎ (o ≡ plain) → MayState IsStated plain o
+may_state IsStated plain o stated is (inl more) = inr (record { stated = stated; is = is; whole = more })
+may_state IsStated plain o stated is (inr same) = inl same
+
+-- by how much is stated
+module _ (advice : Advice) (IsOf : Outcome → Type 0) (IsStated IsWhole : List ℕ → Type 0) where
+  pub everything : (r : Result Report AllocError) → advice ≡ Everything
+      → IfOk r (λ report. IsExplainedBy IsOf IsWhole (outcome_of report))
+      → IfOk r (λ report. (plain : Outcome) × IsOf plain
+      × IsWithAdvice advice IsStated IsWhole plain (outcome_of report))
+  everything (Err lost) requested is = tt
+  everything (Ok report) requested is =
+      (is.0, is.1, subst (λ a. IsWithAdvice a IsStated IsWhole is.0 (outcome_of report)) (sym requested) is.2)
+
+  pub wrong_line : (r : Result Report AllocError) → advice ≡ WrongLine
+      → IfOk r (λ report. MayBeStatedBy IsOf IsStated (outcome_of report))
+      → IfOk r (λ report. (plain : Outcome) × IsOf plain
+      × IsWithAdvice advice IsStated IsWhole plain (outcome_of report))
+  wrong_line (Err lost) requested is = tt
+  wrong_line (Ok report) requested is =
+      (is.0, is.1, subst (λ a. IsWithAdvice a IsStated IsWhole is.0 (outcome_of report)) (sym requested) is.2)
+
+  pub nothing : (r : Result Report AllocError) → advice ≡ Nothing → IfOk r (λ report. IsOf (outcome_of report))
+      → IfOk r (λ report. (plain : Outcome) × IsOf plain
+      × IsWithAdvice advice IsStated IsWhole plain (outcome_of report))
+  nothing (Err lost) requested is = tt
+  nothing (Ok report) requested is = (
     outcome_of report,
     is,
-    subst (λ b. MayExplain b IsStated (outcome_of report) (outcome_of report))
-        (sym unrequested) refl,
+    subst (λ a. IsWithAdvice a IsStated IsWhole (outcome_of report) (outcome_of report))
+        (sym requested) refl,
   )
 
 -- what is stated of a text whose canonical text is printed: of one that reads, and of one that reads as no sheet

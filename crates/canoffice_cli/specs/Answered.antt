@@ -11,7 +11,7 @@ use Rattle.store.specs.Lost.{lost_text}
 use Rattle.store.specs.Running.{answered_of}
 use Rattle.canoffice_cli.specs.Databases.{Databases, HasBegun, StatisticsStay}
 use Rattle.canoffice_cli.specs.Outcome.{Outcome, failure}
-use Rattle.canoffice_cli.specs.declared.manner.Manner.{Manner}
+use Rattle.canoffice_jobs.specs.declared.manner.Manner.{Manner}
 use Rattle.canoffice_cli.specs.declared.report.Status.{Status}
 use Rattle.canoffice_cli.specs.declared.report.Status.TheVariants.{Failed, FaultFound, Success}
 

@@ -13,7 +13,7 @@ use Rattle.store.specs.declared.lost.Lost.{Lost}
 use Rattle.canoffice_cli.specs.Answered.{AreAnswered, InDatabase, InMemory}
 use Rattle.canoffice_cli.specs.Databases.{AreKept, Databases}
 use Rattle.canoffice_cli.specs.Outcome.{Outcome, unreadable, wrong_line}
-use Rattle.canoffice_cli.specs.declared.manner.Manner.{Manner}
+use Rattle.canoffice_jobs.specs.declared.manner.Manner.{Manner}
 
 -- At the first line at which something is amiss the line is wrong, and its number is printed, or the file that it names
 -- can't be read, and its path is printed.

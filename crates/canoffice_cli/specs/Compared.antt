@@ -18,7 +18,7 @@ use Rattle.canoffice_cli.specs.Databases.{Databases}
 use Rattle.canoffice_cli.specs.Formatted.{fault_errors}
 use Rattle.canoffice_cli.specs.Looked.{IsLookOutcome}
 use Rattle.canoffice_cli.specs.Outcome.{Outcome}
-use Rattle.canoffice_cli.specs.declared.place.Place.{Place}
+use Rattle.canoffice_jobs.specs.declared.place.Place.{Place}
 use Rattle.canoffice_cli.specs.declared.report.Status.{Status}
 use Rattle.canoffice_cli.specs.declared.report.Status.TheVariants.{FaultFound, Success}
 

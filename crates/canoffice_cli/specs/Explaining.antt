@@ -1,4 +1,4 @@
--- What `--explain` adds to the outcome of a job on the bytes of a file.
+-- What is stated of a file, beside the outcome of a job on its bytes.
 use Rattle.std.specs.Prelude.{◌≡◌, ◌⊎◌, ℕ, Bool, true, false, List, [], Option, Some, None, map}
 use Rattle.std.specs.Borrow.{Bor}
 use Rattle.dbc_grammar.specs.Reads.{ReadsAs}
@@ -14,6 +14,9 @@ use Rattle.office_script.specs.declared.keys.Dash.{Dash}
 use Rattle.office_script.specs.declared.keys.Dash.TheVariants.{LineNumber, Wrong}
 use Rattle.office_advice.specs.Explained.{IsStatedOf}
 use Rattle.canoffice_cli.specs.Outcome.{Outcome, and_errors}
+use Rattle.canoffice_cli.specs.Reasons.{HasReasons}
+use Rattle.canoffice_cli.specs.declared.explaining.Advice.{Advice}
+use Rattle.canoffice_cli.specs.declared.explaining.Advice.TheVariants.{Everything, Nothing, WrongLine}
 use Rattle.canoffice_cli.specs.declared.file_jobs.FileTask.{FileTask}
 use Rattle.canoffice_cli.specs.declared.file_jobs.FileTask.TheVariants as task
 
@@ -30,8 +33,8 @@ abbrev pub dash_of : Option (Bor (List ℕ)) → Dash
 dash_of None = LineNumber
 dash_of (Some path) = Wrong
 
--- What is stated of the file of this name with these bytes. Of a script that is its first wrong line, whatever can't be
--- read before it, or the first wrong line of a bundle's file.
+-- What is stated of the file of this name with these bytes before anything is done with them. Of a script that is its
+-- first wrong line, whatever can't be read before it, or the first wrong line of a bundle's file.
 abbrev pub IsStated : Files → FileTask → List ℕ → List ℕ → List ℕ → Type 0
 IsStated files (task.Apply database manner) name bytes stated =
     IsStatedOf files name (dash_of database) 1 (lines_of bytes) stated
@@ -39,13 +42,47 @@ IsStated files (task.Check lint) name bytes stated = IsExplained name bytes stat
 IsStated files task.Format name bytes stated = IsStatedOfFormat name bytes stated
 IsStated files task.Table name bytes stated = stated ≡ []
 
+-- the whole of what is stated: of a script also why its commands were refused
+abbrev pub IsExplanation : Files → FileTask → List ℕ → List ℕ → List ℕ → Type 0
+IsExplanation files (task.Apply database manner) name bytes text =
+    (stated : List ℕ) × IsStated files (task.Apply database manner) name bytes stated × HasReasons name stated text
+IsExplanation files (task.Check lint) name bytes text = IsStated files (task.Check lint) name bytes text
+IsExplanation files task.Format name bytes text = IsStated files task.Format name bytes text
+IsExplanation files task.Table name bytes text = IsStated files task.Table name bytes text
+
 -- the output and the status are the plain ones, and something is printed after the plain errors
 pub record Explains (IsStated : List ℕ → Type 0) (plain o : Outcome) : Type 0 where
   pub stated : List ℕ
   pub is : IsStated stated
   pub whole : o ≡ and_errors plain stated
 
--- the same with `--explain` or without
-abbrev pub MayExplain : Bool → (List ℕ → Type 0) → Outcome → Outcome → Type 0
-MayExplain true IsStated plain o = Explains IsStated plain o
-MayExplain false IsStated plain o = o ≡ plain
+-- the outcome is one of these, with something printed after its errors
+abbrev pub IsExplainedBy : (Outcome → Type 0) → (List ℕ → Type 0) → Outcome → Type 0
+IsExplainedBy IsPlain IsStated o = (plain : Outcome) × IsPlain plain × Explains IsStated plain o
+
+-- the outcome stays, or something is printed after its errors
+abbrev pub MayState : (List ℕ → Type 0) → Outcome → Outcome → Type 0
+MayState IsStated plain o = (o ≡ plain) ⊎ Explains IsStated plain o
+
+-- the outcome is one of these, or it is with something printed after its errors
+abbrev pub MayBeStatedBy : (Outcome → Type 0) → (List ℕ → Type 0) → Outcome → Type 0
+MayBeStatedBy IsPlain IsStated o = (plain : Outcome) × IsPlain plain × MayState IsStated plain o
+
+-- ---- how much is stated
+
+-- with `--explain` or without it
+abbrev pub requested : Bool → Advice
+requested true = Everything
+requested false = Nothing
+
+-- the same of a script: where standard error is a terminal, its first wrong line in any case
+abbrev pub of_script : Bool → Bool → Advice
+of_script true terminal = Everything
+of_script false true = WrongLine
+of_script false false = Nothing
+
+-- what is printed for it after the plain errors: what is stated first, where there is memory for it, or the whole
+abbrev pub IsWithAdvice : Advice → (List ℕ → Type 0) → (List ℕ → Type 0) → Outcome → Outcome → Type 0
+IsWithAdvice Nothing IsStated IsWhole plain o = o ≡ plain
+IsWithAdvice WrongLine IsStated IsWhole plain o = MayState IsStated plain o
+IsWithAdvice Everything IsStated IsWhole plain o = Explains IsWhole plain o

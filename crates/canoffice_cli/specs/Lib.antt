@@ -1,7 +1,4 @@
-pub mod Numbers
 pub mod Outcome
-pub mod Place
-pub mod CommandLine
 pub mod Holding
 pub mod Databases
 pub mod Answered
@@ -20,6 +17,7 @@ pub mod Linted
 pub mod Formatted
 pub mod Compared
 pub mod Tabled
+pub mod Reasons
 pub mod Explaining
 pub mod Delivery
 pub mod Performance

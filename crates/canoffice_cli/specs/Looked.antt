@@ -13,8 +13,8 @@ use Rattle.canoffice_cli.specs.Answered.{lost_outcome}
 use Rattle.canoffice_cli.specs.Databases.{AreKept, Databases, HasBegun, StatisticsStay}
 use Rattle.canoffice_cli.specs.Desks.{asked_outcome}
 use Rattle.canoffice_cli.specs.Outcome.{Outcome, not_found, success}
-use Rattle.canoffice_cli.specs.declared.place.Place.{Place}
-use Rattle.canoffice_cli.specs.declared.place.Place.TheVariants.{Database, Desk}
+use Rattle.canoffice_jobs.specs.declared.place.Place.{Place}
+use Rattle.canoffice_jobs.specs.declared.place.Place.TheVariants.{Database, Desk}
 
 -- the text is printed, or that nothing was found, or why the call was lost
 abbrev pub shown_outcome : Result (Option (List ℕ)) Lost → Outcome

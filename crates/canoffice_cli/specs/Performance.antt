@@ -1,10 +1,11 @@
 -- The outcome of the program, from its words and from what is known of files, standard input, desks and databases.
-use Rattle.std.specs.Prelude.{◌≡◌, ◌⊎◌, ⊤, ℕ, false, List, map, option_map, Result, Ok, Err, string_bytes}
+use Rattle.std.specs.Prelude.{◌≡◌, ◌⊎◌, ⊤, ℕ, Bool, false, List, map, option_map, Result, Ok, Err, string_bytes}
 use Rattle.canoffice_desks.specs.Desks.{Desks}
 use Rattle.dbc_advice.specs.ShownPath.{shown_path}
 use Rattle.office_script.specs.Files.{Files, Holding, unknown, absent, holding}
-use Rattle.canoffice_cli.specs.CommandLine.{IsLine, entered}
-use Rattle.canoffice_cli.specs.Explaining.{IsStated, MayExplain}
+use Rattle.canoffice_jobs.specs.CommandLine.{IsLine, entered}
+use Rattle.canoffice_cli.specs.Explaining.{IsExplanation, IsStated, IsWithAdvice, of_script, requested}
+use Rattle.canoffice_jobs.specs.Meant.{words_meant}
 use Rattle.canoffice_cli.specs.Holding.{source_at}
 use Rattle.canoffice_cli.specs.Outcome.{Outcome, memory_lost, success, wrong_input, unreadable}
 use Rattle.canoffice_cli.specs.Databases.{AreKept, Databases}
@@ -24,11 +25,11 @@ use Rattle.canoffice_cli.specs.declared.report.Status.{Status}
 use Rattle.canoffice_cli.specs.declared.file_jobs.FileJob.{FileJob}
 use Rattle.canoffice_cli.specs.declared.file_jobs.FileTask.{FileTask}
 use Rattle.canoffice_cli.specs.declared.file_jobs.FileTask.TheVariants as task
-use Rattle.canoffice_cli.specs.declared.job.Job.{Job}
-use Rattle.canoffice_cli.specs.declared.job.Job.TheVariants.{Apply, Chart, Check, Compare, CompareReleases, Export}
-use Rattle.canoffice_cli.specs.declared.job.Job.TheVariants.{Format, Migrate, Requests, Send, Serve, Show, Table}
-use Rattle.canoffice_cli.specs.declared.job.JobFault.{JobFault}
-use Rattle.canoffice_cli.specs.declared.job.JobFault.TheVariants.{Help, Usage, Memory}
+use Rattle.canoffice_jobs.specs.declared.job.Job.{Job}
+use Rattle.canoffice_jobs.specs.declared.job.Job.TheVariants.{Apply, Chart, Check, Compare, CompareReleases, Export}
+use Rattle.canoffice_jobs.specs.declared.job.Job.TheVariants.{Format, Migrate, Requests, Send, Serve, Show, Table}
+use Rattle.canoffice_jobs.specs.declared.job.JobFault.{JobFault}
+use Rattle.canoffice_jobs.specs.declared.job.JobFault.TheVariants.{Help, Usage, Memory}
 
 -- the outcome of a job whose file is at the path: that of its bytes, or that it can't be read; nothing is done then
 abbrev pub IsOfFile : Type 0 → (List ℕ → Outcome → Type 0) → List ℕ → Holding → Outcome → Type 0
@@ -51,46 +52,47 @@ IsTaskOutcome files before after (task.Check lint) bytes o =
 IsTaskOutcome files before after task.Format bytes o = IsFormatOutcome bytes o × AreKept before after
 IsTaskOutcome files before after task.Table bytes o = IsTableOutcome bytes o × AreKept before after
 
--- the same for a job, which may explain
+-- the same for a job, of whose file something may be stated
 abbrev pub IsOfBytes : Files → Databases → Databases → FileJob → List ℕ → Outcome → Type 0
 IsOfBytes files before after job bytes o =
     (plain : Outcome) × IsTaskOutcome files before after job.task bytes plain
-    × MayExplain job.explain (IsStated files job.task (shown_path job.path.now) bytes) plain o
+    × IsWithAdvice job.advice (IsStated files job.task (shown_path job.path.now) bytes)
+    (IsExplanation files job.task (shown_path job.path.now) bytes) plain o
 
 abbrev pub IsFileOutcome : Files → Holding → Databases → Databases → FileJob → Outcome → Type 0
 IsFileOutcome files input before after job o =
     IsOfFile (AreKept before after) (IsOfBytes files before after job) job.path.now (source_at files input job.path.now)
     o
 
--- the outcome of the job, and what is known of databases before and after
-abbrev pub IsDone : Files → Holding → Desks → Databases → Databases → Job → Outcome → Type 0
-IsDone files input desks before after (Apply database script explain manner) o =
+-- the outcome of the job, by whether standard error is a terminal, and what is known of databases before and after
+abbrev pub IsDone : Files → Holding → Bool → Desks → Databases → Databases → Job → Outcome → Type 0
+IsDone files input terminal desks before after (Apply database script explain manner) o =
     IsFileOutcome files input before after
-    (record { task = task.Apply database manner; path = script; explain = explain }) o
-IsDone files input desks before after (Chart length signals) o =
+    (record { task = task.Apply database manner; path = script; advice = of_script explain terminal }) o
+IsDone files input terminal desks before after (Chart length signals) o =
     IsChartOutcome length (map (λ s. s.now) signals.items) o × AreKept before after
-IsDone files input desks before after (Check file explain lint) o =
-    IsFileOutcome files input before after (record { task = task.Check lint; path = file; explain = explain }) o
-IsDone files input desks before after (Compare old new) o =
+IsDone files input terminal desks before after (Check file explain lint) o =
+    IsFileOutcome files input before after (record { task = task.Check lint; path = file; advice = requested explain }) o
+IsDone files input terminal desks before after (Compare old new) o =
     IsOfTwoFiles (IsCompareOutcome old.now new.now) files input old.now new.now o × AreKept before after
-IsDone files input desks before after (CompareReleases place net old new) o =
+IsDone files input terminal desks before after (CompareReleases place net old new) o =
     IsReleasesOutcome desks before after place net.now old new o
-IsDone files input desks before after (Export database net number) o =
+IsDone files input terminal desks before after (Export database net number) o =
     IsExportOutcome before after database.now net.now number o
-IsDone files input desks before after (Format file explain) o =
-    IsFileOutcome files input before after (record { task = task.Format; path = file; explain = explain }) o
-IsDone files input desks before after (Migrate database) o = IsMigrateOutcome before after database.now o
-IsDone files input desks before after (Requests place team) o =
+IsDone files input terminal desks before after (Format file explain) o =
+    IsFileOutcome files input before after (record { task = task.Format; path = file; advice = requested explain }) o
+IsDone files input terminal desks before after (Migrate database) o = IsMigrateOutcome before after database.now o
+IsDone files input terminal desks before after (Requests place team) o =
     IsRequestsOutcome desks before after place team.now o
-IsDone files input desks before after (Send sending script) o =
+IsDone files input terminal desks before after (Send sending script) o =
     IsOfFile ⊤ (IsSendOutcome files desks sending) script.now (source_at files input script.now) o
     × AreKept before after
-IsDone files input desks before after (Serve database port count) o = IsServeOutcome before after database.now count o
-IsDone files input desks before after (Show place net what name) o =
+IsDone files input terminal desks before after (Serve database port count explain) o = IsServeOutcome before after database.now count o
+IsDone files input terminal desks before after (Show place net what name) o =
     IsShowOutcome desks before after place (option_map (λ word. word.now) net) what
     (option_map (λ word. word.now) name) o
-IsDone files input desks before after (Table file) o =
-    IsFileOutcome files input before after (record { task = task.Table; path = file; explain = false }) o
+IsDone files input terminal desks before after (Table file) o =
+    IsFileOutcome files input before after (record { task = task.Table; path = file; advice = requested false }) o
 
 -- the outcome of words that request no job: the text of their fault
 abbrev pub IsFaultAnswer : JobFault → Outcome → Type 0
@@ -99,22 +101,23 @@ IsFaultAnswer (Usage text) o = o ≡ wrong_input (string_bytes text)
 IsFaultAnswer Memory o = o ≡ memory_lost
 
 -- the outcome of a command line
-abbrev pub IsAnswer : Files → Holding → Desks → Databases → Databases → Result Job JobFault → Outcome → Type 0
-IsAnswer files input desks before after (Ok job) o = IsDone files input desks before after job o
-IsAnswer files input desks before after (Err fault) o = IsFaultAnswer fault o × AreKept before after
+abbrev pub IsAnswer : Files → Holding → Bool → Desks → Databases → Databases → Result Job JobFault → Outcome → Type 0
+IsAnswer files input terminal desks before after (Ok job) o = IsDone files input terminal desks before after job o
+IsAnswer files input terminal desks before after (Err fault) o = IsFaultAnswer fault o × AreKept before after
 
 -- the outcome of the words that clap is given
-abbrev pub IsEnteredAnswer : List (List ℕ) → Files → Holding → Desks → Databases → Databases → Outcome → Type 0
-IsEnteredAnswer words files input desks before after o = (line : Result Job JobFault) × IsLine words line
-    × IsAnswer files input desks before after line o
+abbrev pub IsEnteredAnswer : List (List ℕ) → Files → Holding → Bool → Desks → Databases → Databases → Outcome → Type 0
+IsEnteredAnswer words files input terminal desks before after o = (line : Result Job JobFault) × IsLine words line
+    × IsAnswer files input terminal desks before after line o
 
 -- the outcome of the program's words, unless memory runs out before there is one
-abbrev pub IsAnswered : List (List ℕ) → Files → Holding → Desks → Databases → Databases → Outcome → Type 0
-IsAnswered words files input desks before after o = IsEnteredAnswer (entered words) files input desks before after o
+abbrev pub IsAnswered : List (List ℕ) → Files → Holding → Bool → Desks → Databases → Databases → Outcome → Type 0
+IsAnswered words files input terminal desks before after o =
+    IsEnteredAnswer (entered (words_meant words)) files input terminal desks before after o
 
 -- a run of the program: the outcome of its words is delivered, or that memory ran out
-abbrev pub IsPerformed : List (List ℕ) → Files → Holding → Desks → Databases → Databases → Writing → Writing → Status
+abbrev pub IsPerformed : List (List ℕ) → Files → Holding → Bool → Desks → Databases → Databases → Writing → Writing → Status
     → Type 0
-IsPerformed words files input desks before after output errors status =
-    (o : Outcome) × ((o ≡ memory_lost) ⊎ IsAnswered words files input desks before after o)
+IsPerformed words files input terminal desks before after output errors status =
+    (o : Outcome) × ((o ≡ memory_lost) ⊎ IsAnswered words files input terminal desks before after o)
     × IsDelivered o output errors status

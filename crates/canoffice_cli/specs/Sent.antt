@@ -19,7 +19,7 @@ use Rattle.store.specs.declared.lost.Lost.TheVariants.{Memory, Store}
 use Rattle.canoffice_cli.specs.Answered.{IsFarEnough, answers_outcome}
 use Rattle.canoffice_cli.specs.Applied.{IsAmiss}
 use Rattle.canoffice_cli.specs.Outcome.{Outcome, wrong_line}
-use Rattle.canoffice_cli.specs.declared.sending.Sending.{Sending}
+use Rattle.canoffice_jobs.specs.declared.manner.Sending.{Sending}
 
 -- ---- what comes of requests
 

@@ -15,10 +15,11 @@ ghost use Rattle.canoffice_cli.specs.Databases.{OnBeginning, ShowsStatisticsIfOp
 ghost use Rattle.canoffice_cli.specs.Outcome.{outcome_of};
 
 use crate::lines::{PrintedLine, add_lines};
-use crate::manner::Manner;
 use crate::progress::{Progress, RequestLines};
+use crate::reasons::Reasons;
 use crate::report::{Report, Status};
 use crate::room::Room;
+use canoffice_jobs::Manner;
 use office_echo::{add_answer, add_echoes, is_refused};
 use office_history::{Answer, Arrival, histories_grow};
 use office_keyed::KeyedOffice;
@@ -84,6 +85,7 @@ fn answer_all<S: Alter, W: Write>(
     script: &[u8],
     arrivals: &[Arrival],
     strict: bool,
+    reasons: &mut Reasons,
     progress: &mut Progress<W>,
 ) -> Result<Answers, AllocError>
     ensures clean { KeepsDoubt S.Store office.old.conn office.new.conn }
@@ -104,9 +106,18 @@ fn answer_all<S: Alter, W: Write>(
     let mut answers = Vec::with_capacity(alloc, arrivals.len())?;
     let mut lines = RequestLines::of(script);
     for arrival in arrivals {
-        progress.show_line(lines.next_number());
+        // It may have failed after the last answer, while it was read why that was a refusal.
+        if office.is_failed() {
+            return Ok(Answers {
+                answers,
+                lost: Some(Lost::Store),
+            });
+        }
+        let number = lines.next_number();
+        progress.show_line(number);
         match office.arrive(alloc, &arrival.team, &arrival.key, &arrival.request) {
             Ok(answer) => {
+                reasons.add_in_tables(alloc, office, number, arrival, &answer);
                 let stops = stops_at(strict, &answer);
                 answers.push_reserved(answer);
                 if stops {
@@ -132,14 +143,16 @@ fn answer_all<S: Alter, W: Write>(
 
 /// Answers the arrivals in turn by the office on the connection, up to the first that is lost, and where it is strict,
 /// up to the first that is refused, and gives the connection back. A new office is made where the connection has no
-/// table. It is shown how far the script of the arrivals is. The error is out of memory for the answers: then nothing
-/// arrived.
+/// table. It is shown how far the script of the arrivals is, and why arrivals are refused is added to the reasons: where
+/// the office fails while that is read, the answer stands, and the next arrival is lost. The error is out of memory for
+/// the answers: then nothing arrived.
 pub fn answer_on<S: Alter + Drop, W: Write>(
     alloc: Global,
     conn: Connection<S>,
     script: &[u8],
     arrivals: &[Arrival],
     strict: bool,
+    reasons: &mut Reasons,
     progress: &mut Progress<W>,
 ) -> (Result<Answers, AllocError>, Connection<S>)
     requires { IsSettled S.Store conn }
@@ -163,7 +176,15 @@ pub fn answer_on<S: Alter + Drop, W: Write>(
     histories_grow();
     match office_on(conn) {
         Ok(mut office) => {
-            let reported = answer_all(alloc, &mut office, script, arrivals, strict, progress);
+            let reported = answer_all(
+                alloc,
+                &mut office,
+                script,
+                arrivals,
+                strict,
+                reasons,
+                progress,
+            );
             (reported, office.close())
         }
         Err((lost, conn)) => (Ok(nothing_answered(alloc, lost)), conn),
@@ -171,12 +192,14 @@ pub fn answer_on<S: Alter + Drop, W: Write>(
 }
 
 /// Answers the arrivals in turn by a new office in memory, up to one for which memory runs out, which is lost, and where
-/// it is strict, up to the first that is refused. The error is out of memory for the answers.
+/// it is strict, up to the first that is refused. Why arrivals are refused is added to the reasons. The error is out of
+/// memory for the answers.
 pub(crate) fn answer_in_memory<W: Write>(
     alloc: Global,
     script: &[u8],
     arrivals: &[Arrival],
     strict: bool,
+    reasons: &mut Reasons,
     progress: &mut Progress<W>,
 ) -> Result<Answers, AllocError>
     ensures far { IfOk result
@@ -188,9 +211,11 @@ pub(crate) fn answer_in_memory<W: Write>(
     let mut office = KeyedOffice::new(alloc);
     let mut lines = RequestLines::of(script);
     for arrival in arrivals {
-        progress.show_line(lines.next_number());
+        let number = lines.next_number();
+        progress.show_line(number);
         match office.arrive(alloc, &arrival.team, &arrival.key, &arrival.request) {
             Ok(answer) => {
+                reasons.add_in_memory(alloc, office.office(), number, arrival, &answer);
                 let stops = stops_at(strict, &answer);
                 answers.push_reserved(answer);
                 if stops {

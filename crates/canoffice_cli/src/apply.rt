@@ -8,10 +8,11 @@ ghost use Rattle.canoffice_cli.specs.Outcome.{outcome_of};
 use crate::answering::answer_in_memory;
 use crate::databases::Databases;
 use crate::files::FileSource;
-use crate::manner::Manner;
 use crate::progress::Progress;
+use crate::reasons::Reasons;
 use crate::report::{Report, bad_line, cannot_read};
 use crate::room::Room;
+use canoffice_jobs::Manner;
 use office_script::{Dash, ScriptFault, arrivals_of};
 use std::alloc::{AllocError, Global};
 use std::io::Write;
@@ -33,6 +34,7 @@ fn apply_in_memory<F: FileSource, W: Write>(
     script: &[u8],
     files: &F,
     manner: Manner,
+    reasons: &mut Reasons,
     progress: &mut Progress<W>,
 ) -> Result<Report, AllocError>
     ensures { IfOk result (λ report. IsScriptOutcome (F.held files.now) Dash.LineNumber manner
@@ -42,7 +44,8 @@ fn apply_in_memory<F: FileSource, W: Write>(
         Ok(arrivals) => {
             // Room first, so that no answer is lost because memory for its line runs out.
             let room = Room::for_answers(alloc, &arrivals, manner.echo)?;
-            let reported = answer_in_memory(alloc, script, &arrivals, manner.strict, progress);
+            let strict = manner.strict;
+            let reported = answer_in_memory(alloc, script, &arrivals, strict, reasons, progress);
             progress.clear();
             reported?.report(alloc, &arrivals, manner, room)
         }
@@ -58,6 +61,7 @@ fn apply_in_database<F: FileSource, D: Databases, W: Write>(
     manner: Manner,
     databases: &mut D,
     path: &str,
+    reasons: &mut Reasons,
     progress: &mut Progress<W>,
 ) -> Result<Report, AllocError>
     ensures { IfOk result (λ report. IsScriptOutcome (F.held files.now) Dash.Wrong manner
@@ -74,6 +78,7 @@ fn apply_in_database<F: FileSource, D: Databases, W: Write>(
                 script,
                 &arrivals,
                 manner.strict,
+                reasons,
                 progress,
             );
             progress.clear();
@@ -91,7 +96,7 @@ fn apply_in_database<F: FileSource, D: Databases, W: Write>(
 /// and the answers are printed, with `echo` each after what was requested. The status is `Success` whatever was refused,
 /// but `FaultFound` where the strict manner stopped; after the last one `lost` and its number if one was lost, with the
 /// status `Failed`. The error is out of memory for the report. Room for the lines of all answers is taken before the
-/// first arrival.
+/// first arrival. Why requests are refused is added to the reasons.
 pub fn apply_script<F: FileSource, D: Databases, W: Write>(
     alloc: Global,
     script: &[u8],
@@ -99,6 +104,7 @@ pub fn apply_script<F: FileSource, D: Databases, W: Write>(
     database: Option<&str>,
     manner: Manner,
     databases: &mut D,
+    reasons: &mut Reasons,
     progress: &mut Progress<W>,
 ) -> Result<Report, AllocError>
     ensures { IfOk result (λ report. IsApplyOutcome (F.held files.now)
@@ -106,7 +112,9 @@ pub fn apply_script<F: FileSource, D: Databases, W: Write>(
         (D.known databases.old) (D.known databases.new) script.now (outcome_of report)) }
 {
     match database {
-        None => apply_in_memory(alloc, script, files, manner, progress),
-        Some(path) => apply_in_database(alloc, script, files, manner, databases, path, progress),
+        None => apply_in_memory(alloc, script, files, manner, reasons, progress),
+        Some(path) => apply_in_database(
+            alloc, script, files, manner, databases, path, reasons, progress,
+        ),
     }
 }

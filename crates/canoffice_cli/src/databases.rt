@@ -12,6 +12,7 @@ mod memory;
 
 use crate::answering::Answers;
 use crate::progress::Progress;
+use crate::reasons::Reasons;
 use crate::serving::ServeEnd;
 pub use memory::MemoryDatabase;
 use office_history::Arrival;
@@ -27,9 +28,9 @@ pub trait Databases {
     ghost known: { Self → Known };
 
     /// Answers the arrivals in turn by the office in the database at the path, up to the first that is lost, and where
-    /// it is strict, up to the first that is refused. It is shown how far the script of the arrivals is. Opening the
-    /// database, or closing it after the last answer, may be lost too. The error is out of memory for the answers: then
-    /// nothing arrived.
+    /// it is strict, up to the first that is refused. It is shown how far the script of the arrivals is, and why arrivals
+    /// are refused is added to the reasons. Opening the database, or closing it after the last answer, may be lost too.
+    /// The error is out of memory for the answers: then nothing arrived.
     fn answer<W: Write>(
         &mut self,
         alloc: Global,
@@ -37,6 +38,7 @@ pub trait Databases {
         script: &[u8],
         arrivals: &[Arrival],
         strict: bool,
+        reasons: &mut Reasons,
         progress: &mut Progress<W>,
     ) -> Result<Answers, AllocError>
         ensures far { IfOk result
@@ -62,8 +64,15 @@ pub trait Databases {
         ensures { IsMigrated (known self.old) (known self.new) path.now result };
 
     /// Serves `count` connections of the port of this machine by the office in the database at the path, and shows on
-    /// the machine's standard error when it listens, and when the office fails. The error is why it ended before that,
-    /// or that the office has failed.
-    fn serve(&mut self, alloc: Global, path: &str, port: u16, count: u32) -> Result<(), ServeEnd>
+    /// the machine's standard error when it listens, when the office fails, and where `explain` says so each answer
+    /// other than 200 and why. The error is why it ended before that, or that the office has failed.
+    fn serve(
+        &mut self,
+        alloc: Global,
+        path: &str,
+        port: u16,
+        count: u32,
+        explain: bool,
+    ) -> Result<(), ServeEnd>
         ensures { IsServed (known self.old) (known self.new) path.now count result };
 }

@@ -1,6 +1,6 @@
-//! What `--explain` prints on standard error, after what is printed there without it.
+//! What is stated on standard error of the file of a job, after what is printed there without it.
 ghost use Rattle.std.specs.Prelude.{◌≡◌, IfOk};
-ghost use Rattle.canoffice_cli.specs.Explaining.{IsStated, IsStatedOfFormat, dash_of};
+ghost use Rattle.canoffice_cli.specs.Explaining.{IsStated, IsStatedOfFormat, dash_of, of_script, requested};
 
 use crate::file_jobs::FileTask;
 use crate::files::FileSource;
@@ -8,6 +8,43 @@ use dbc_advice::{Source, explained, left_out};
 use dbc_read::{ReadCode, read};
 use office_script::Dash;
 use std::alloc::{AllocError, Global};
+
+/// How much is stated of a file.
+#[derive(Clone, Copy)]
+pub(crate) enum Advice {
+    /// Nothing.
+    Nothing,
+    /// The first wrong line of a script, where there is memory for that: what a terminal shows.
+    WrongLine,
+    /// All that `--explain` requests.
+    Everything,
+}
+
+impl Advice {
+    /// How much is stated with `--explain` or without it.
+    pub(crate) fn requested(explain: bool) -> Advice
+        ensures { result ≡ requested explain }
+    {
+        if explain {
+            Advice::Everything
+        } else {
+            Advice::Nothing
+        }
+    }
+
+    /// The same of a script. Where standard error is a terminal, its first wrong line is shown in any case.
+    pub(crate) fn of_script(explain: bool, terminal: bool) -> Advice
+        ensures { result ≡ of_script explain terminal }
+    {
+        if explain {
+            Advice::Everything
+        } else if terminal {
+            Advice::WrongLine
+        } else {
+            Advice::Nothing
+        }
+    }
+}
 
 /// What is stated of a DBC text whose canonical text is printed: what this leaves out, or why it reads as no sheet.
 fn stated_of_format(alloc: Global, source: Source) -> Result<Vec<u8>, AllocError>

@@ -1,19 +1,24 @@
 //! Jobs on the bytes of one file, or of standard input.
-ghost use Rattle.std.specs.Prelude.{◌≡◌, IfOk};
+ghost use Rattle.std.specs.Prelude.{◌≡◌, IfOk, option_map};
 ghost use Rattle.office_script.specs.declared.files.PathFault.TheVariants.{Unreadable};
+ghost use Rattle.canoffice_cli.specs.Applied.{IsApplyOutcome};
+ghost use Rattle.canoffice_cli.specs.Explaining.{IsExplainedBy, IsExplanation, IsStated, MayBeStatedBy, MayState};
 ghost use Rattle.canoffice_cli.specs.Outcome.{outcome_of, unreadable};
 ghost use Rattle.canoffice_cli.specs.Performance.{IsTaskOutcome, IsFileOutcome, IsOfBytes};
+ghost use Rattle.canoffice_cli.specs.Reasons.{HasReasons};
+ghost use Rattle.dbc_advice.specs.ShownPath.{shown_path};
 
 use crate::apply::apply_script;
 use crate::databases::Databases;
-use crate::explaining::stated;
+use crate::explaining::{Advice, stated};
 use crate::files::{FileSource, PathFault, StandardInput, bytes_at};
 use crate::formatting::format_report;
 use crate::linting::checked;
-use crate::manner::Manner;
 use crate::progress::Progress;
-use crate::report::{Report, cannot_read};
+use crate::reasons::Reasons;
+use crate::report::{Report, Status, cannot_read};
 use crate::tabling::table_report;
+use canoffice_jobs::Manner;
 use dbc_advice::{Source, shown_path};
 use std::alloc::{AllocError, Global};
 use std::io::Write;
@@ -38,20 +43,16 @@ pub(crate) struct FileJob<'a> {
     pub task: FileTask<'a>,
     /// Its path, or `-` for standard input. Messages name it so, as [`shown_path`] shows it.
     pub path: &'a str,
-    /// Whether more is stated of it on standard error.
-    pub explain: bool,
+    /// How much is stated of it on standard error.
+    pub advice: Advice,
 }
 
 impl<'a> FileJob<'a> {
     /// The job of this task on the file of this path.
-    pub fn new(task: FileTask<'a>, path: &'a str, explain: bool) -> FileJob<'a>
-        ensures { result ≡ record { task = task.entry; path = path.entry; explain = explain } }
+    pub fn new(task: FileTask<'a>, path: &'a str, advice: Advice) -> FileJob<'a>
+        ensures { result ≡ record { task = task.entry; path = path.entry; advice = advice } }
     {
-        FileJob {
-            task,
-            path,
-            explain,
-        }
+        FileJob { task, path, advice }
     }
 }
 
@@ -88,6 +89,147 @@ pub(crate) fn file_report<F: FileSource + StandardInput, D: Databases, W: Write>
     }
 }
 
+/// The report on the script of these bytes, with this and then why its commands are refused on standard error.
+fn script_report<F: FileSource, D: Databases, W: Write>(
+    alloc: Global,
+    source: Source,
+    stated: &[u8],
+    files: &F,
+    database: Option<&str>,
+    manner: Manner,
+    databases: &mut D,
+    progress: &mut Progress<W>,
+) -> Result<Report, AllocError>
+    ensures { IfOk result (λ report. IsExplainedBy
+        (IsApplyOutcome (F.held files.now) (option_map (λ path. path.now) database.entry) manner
+        (D.known databases.old) (D.known databases.new) source.entry.text.now)
+        (HasReasons source.entry.name.now stated.now) (outcome_of report)) }
+{
+    let mut reasons = Reasons::new(alloc, true);
+    let report = apply_script(
+        alloc,
+        source.text,
+        files,
+        database,
+        manner,
+        databases,
+        &mut reasons,
+        progress,
+    )?;
+    let report = report.and_errors(stated)?;
+    let advice = reasons.advice(alloc, source.name);
+    Ok(report.and_advice(&advice))
+}
+
+/// The report of the task on the bytes, with what is stated of them on standard error.
+fn explained_report<F: FileSource, D: Databases, W: Write>(
+    alloc: Global,
+    task: FileTask<'_>,
+    source: Source,
+    files: &F,
+    databases: &mut D,
+    progress: &mut Progress<W>,
+) -> Result<Report, AllocError>
+    ensures { IfOk result (λ report. IsExplainedBy
+        (IsTaskOutcome (F.held files.now) (D.known databases.old) (D.known databases.new)
+        task.entry source.entry.text.now)
+        (IsExplanation (F.held files.now) task.entry source.entry.name.now source.entry.text.now)
+        (outcome_of report)) }
+{
+    // First of all, so that memory for this can't run out after a database has answered.
+    let stated = stated(alloc, task, source, files)?;
+    match task {
+        FileTask::Apply(database, manner) => script_report(
+            alloc, source, &stated, files, database, manner, databases, progress,
+        ),
+        _ => {
+            let report = task_report(alloc, task, source.text, files, databases, progress)?;
+            report.and_errors(&stated)
+        }
+    }
+}
+
+/// The report of the job's task on the bytes, with what is stated of them on standard error.
+fn full_report<F: FileSource, D: Databases, W: Write>(
+    alloc: Global,
+    job: FileJob<'_>,
+    bytes: &[u8],
+    files: &F,
+    databases: &mut D,
+    progress: &mut Progress<W>,
+) -> Result<Report, AllocError>
+    ensures { IfOk result (λ report. IsExplainedBy
+        (IsTaskOutcome (F.held files.now) (D.known databases.old) (D.known databases.new)
+        job.entry.task bytes.now)
+        (IsExplanation (F.held files.now) job.entry.task (shown_path job.entry.path.now) bytes.now)
+        (outcome_of report)) }
+{
+    let shown = shown_path(alloc, job.path)?;
+    let source = Source {
+        name: shown.as_bytes(),
+        text: bytes,
+    };
+    explained_report(alloc, job.task, source, files, databases, progress)
+}
+
+/// What is stated of the job's file. The error is out of memory.
+fn stated_of_job<F: FileSource>(
+    alloc: Global,
+    job: FileJob<'_>,
+    bytes: &[u8],
+    files: &F,
+) -> Result<Vec<u8>, AllocError>
+    ensures { IfOk result (λ stated. IsStated (F.held files.now) job.entry.task
+        (shown_path job.entry.path.now) bytes.now stated.items) }
+{
+    let shown = shown_path(alloc, job.path)?;
+    let source = Source {
+        name: shown.as_bytes(),
+        text: bytes,
+    };
+    stated(alloc, job.task, source, files)
+}
+
+/// The report, with what is stated of the job's file on standard error, unless memory runs out for that.
+fn with_stated<F: FileSource>(
+    alloc: Global,
+    report: Report,
+    job: FileJob<'_>,
+    bytes: &[u8],
+    files: &F,
+) -> Report
+    ensures { MayState (IsStated (F.held files.now) job.entry.task
+        (shown_path job.entry.path.now) bytes.now) (outcome_of report) (outcome_of result) }
+{
+    match stated_of_job(alloc, job, bytes, files) {
+        Ok(stated) => report.and_advice(&stated),
+        Err(AllocError) => report,
+    }
+}
+
+/// The report of the job's task on the bytes; where a line is wrong, with what is stated of it, unless memory runs out
+/// for that.
+fn report_at_terminal<F: FileSource, D: Databases, W: Write>(
+    alloc: Global,
+    job: FileJob<'_>,
+    bytes: &[u8],
+    files: &F,
+    databases: &mut D,
+    progress: &mut Progress<W>,
+) -> Result<Report, AllocError>
+    ensures { IfOk result (λ report. MayBeStatedBy
+        (IsTaskOutcome (F.held files.now) (D.known databases.old) (D.known databases.new)
+        job.entry.task bytes.now)
+        (IsStated (F.held files.now) job.entry.task (shown_path job.entry.path.now) bytes.now)
+        (outcome_of report)) }
+{
+    let report = task_report(alloc, job.task, bytes, files, databases, progress)?;
+    match report.status {
+        Status::WrongInput => Ok(with_stated(alloc, report, job, bytes, files)),
+        _ => Ok(report),
+    }
+}
+
 /// The report on the bytes of the job's file.
 fn bytes_report<F: FileSource, D: Databases, W: Write>(
     alloc: Global,
@@ -100,18 +242,10 @@ fn bytes_report<F: FileSource, D: Databases, W: Write>(
     ensures { IfOk result (λ report. IsOfBytes (F.held files.now) (D.known databases.old)
         (D.known databases.new) job.entry bytes.now (outcome_of report)) }
 {
-    if job.explain {
-        let shown = shown_path(alloc, job.path)?;
-        let source = Source {
-            name: shown.as_bytes(),
-            text: bytes,
-        };
-        // First of all, so that memory for this can't run out after a database has answered.
-        let stated = stated(alloc, job.task, source, files)?;
-        let report = task_report(alloc, job.task, bytes, files, databases, progress)?;
-        report.and_errors(&stated)
-    } else {
-        task_report(alloc, job.task, bytes, files, databases, progress)
+    match job.advice {
+        Advice::Nothing => task_report(alloc, job.task, bytes, files, databases, progress),
+        Advice::WrongLine => report_at_terminal(alloc, job, bytes, files, databases, progress),
+        Advice::Everything => full_report(alloc, job, bytes, files, databases, progress),
     }
 }
 
@@ -129,7 +263,17 @@ fn task_report<F: FileSource, D: Databases, W: Write>(
 {
     match task {
         FileTask::Apply(database, manner) => {
-            apply_script(alloc, bytes, files, database, manner, databases, progress)
+            let mut reasons = Reasons::new(alloc, false);
+            apply_script(
+                alloc,
+                bytes,
+                files,
+                database,
+                manner,
+                databases,
+                &mut reasons,
+                progress,
+            )
         }
         FileTask::Check(lint) => checked(alloc, bytes, lint),
         FileTask::Format => format_report(alloc, bytes),

@@ -1,16 +1,16 @@
 //! The library of the program `canoffice`: from the words of its command line to its exit status.
 //!
-//! - `command_line` describes the subcommands and their arguments for clap; with it `job` turns the words into a `Job`
-//!   or a `JobFault`. `numbers` has the ranges of the numbers that words give.
+//! - What the words of the command line request is in the crate `canoffice_jobs`.
 //! - `files` reads files and standard input: those of the machine, or those of a list in memory. `databases` has the
 //!   offices in databases, of which one in memory is here, and the crate `canoffice_desks` those that desks serve; those
-//!   of the machine are in the program itself. `place` says which of the two the words name.
+//!   of the machine are in the program itself.
 //! - `apply`, `sending`, `looking`, `exporting`, `migrating`, `serving`, `charting`, `checking`, `linting`, `comparing`,
 //!   `formatting` and `tabling` do the jobs. What the words of `show` and `requests` look up is in the crate
 //!   `canoffice_looks`.
 //!   `answering` answers the arrivals of a script, by an office in memory or on a connection to a database, `progress`
-//!   shows how far it is, and `room` is taken before for what is printed after. `manner` is how a script is applied.
-//! - `file_jobs` does the jobs that read a file, and `explaining` says what `--explain` adds to them.
+//!   shows how far it is, and `room` is taken before for what is printed after.
+//! - `file_jobs` does the jobs that read a file, and `explaining` says what `--explain` adds to them; `reasons` has what
+//!   it adds of the commands of a script that are refused.
 //! - `report` is the result of a run: bytes for standard output and standard error, and a `Status`.
 //! - `delivery` writes a report to the two streams.
 //! - `program` joins them: `perform` is a whole run.
@@ -23,7 +23,6 @@ mod answering;
 mod apply;
 mod charting;
 mod checking;
-mod command_line;
 mod comparing;
 mod databases;
 mod delivery;
@@ -32,16 +31,14 @@ mod exporting;
 mod file_jobs;
 mod files;
 mod formatting;
-mod job;
 mod lines;
 mod linting;
 mod looking;
-mod manner;
 mod migrating;
-mod numbers;
-mod place;
 mod program;
 mod progress;
+mod reasons;
+mod refused_line;
 mod report;
 mod room;
 mod sending;
@@ -51,6 +48,7 @@ mod tabling;
 pub use answering::{Answers, answer_on, answers_when_closed, nothing_answered};
 pub use apply::apply_script;
 pub use canoffice_desks::{Desks, NoDesk};
+pub use canoffice_jobs::{Job, JobFault, Manner, Place, Sending, job_of, not_utf8_fault};
 pub use charting::chart_report;
 pub use checking::check_report;
 pub use comparing::{compare_releases_report, compare_report, texts_tell_apart};
@@ -61,16 +59,14 @@ pub use files::{
     FileSource, HostFiles, ListedFiles, NamedFile, PathFault, StandardInput, bytes_at,
 };
 pub use formatting::format_report;
-pub use job::{Job, JobFault, job_of, not_utf8_fault};
 pub use linting::lint_report;
 pub use looking::{look_on, requests_report, show_report};
-pub use manner::Manner;
 pub use migrating::{migrate_on, migrate_report};
-pub use place::Place;
 pub use program::{fault_report, perform, report_of};
 pub use progress::Progress;
+pub use reasons::Reasons;
 pub use report::{LOST_MEMORY, Report, Status, bad_line, bad_word, cannot_read, help, usage};
 pub use room::answers_fit;
-pub use sending::{Sending, send_report};
+pub use sending::send_report;
 pub use serving::{ServeEnd, serve_report};
 pub use tabling::table_report;

@@ -17,10 +17,10 @@ ghost use Rattle.canoffice_cli.specs.Outcome.{not_found, outcome_of};
 
 use crate::answering::{lost_report, office_on};
 use crate::databases::Databases;
-use crate::place::Place;
 use crate::report::{Report, Status};
 use crate::serving::failed_report;
 use canoffice_desks::Desks;
+use canoffice_jobs::Place;
 use canoffice_looks::{What, requests_look, show_look};
 use desk_client::{AskFault, Received, Response, target_of};
 use desk_types::DeskFault;

@@ -1,17 +1,17 @@
 //! A run of the program, from its words to its exit status.
-ghost use Rattle.std.specs.Prelude.{IfOk, map};
+ghost use Rattle.std.specs.Prelude.{IfOk, is_some, map};
 ghost use Rattle.canoffice_cli.specs.Outcome.{outcome_of};
+ghost use Rattle.canoffice_jobs.specs.CommandLine.{entered};
 ghost use Rattle.canoffice_cli.specs.Performance.{IsAnswered, IsDone, IsEnteredAnswer, IsFaultAnswer, IsPerformed};
 
 use crate::charting::chart_report;
 use crate::comparing::{compare_releases_report, compare_report};
 use crate::databases::Databases;
 use crate::delivery::deliver;
+use crate::explaining::Advice;
 use crate::exporting::export_report;
 use crate::file_jobs::{FileJob, FileTask, file_report};
 use crate::files::{FileSource, StandardInput};
-use crate::job::{Job, JobFault, job_of};
-use crate::linting::{is_check, lint_entered};
 use crate::looking::{requests_report, show_report};
 use crate::migrating::migrate_report;
 use crate::progress::Progress;
@@ -19,11 +19,13 @@ use crate::report::{Report, Status, help, usage};
 use crate::sending::send_report;
 use crate::serving::serve_report;
 use canoffice_desks::Desks;
+use canoffice_jobs::{Job, JobFault, is_check, job_of, lint_entered, name_before_help};
 use std::alloc::{AllocError, Global};
 use std::io::Write;
 
 /// Does what the program's words request, writes the result to `out` and `errors`, and returns how the program ends. It
-/// is shown in between how far a script is.
+/// is shown in between how far a script is; where that is shown on a terminal, the first wrong line of a script is
+/// explained without `--explain`.
 ///
 /// The first word is the program's own name. If memory runs out, `LOST_MEMORY` is written instead of anything else;
 /// only if it runs out while an arrival of a script is answered, the answers so far are written before it.
@@ -46,7 +48,7 @@ pub fn perform<
     progress: &mut Progress<W>,
 ) -> Status
     ensures { IsPerformed (map (λ s. s.now) words.entry.now) (F.held files.now) (F.given files.now)
-        (K.known desks.old)
+        (is_some progress.old.to) (K.known desks.old)
         (D.known databases.old) (D.known databases.new) (O.contents out.old, O.contents out.new)
         (E.contents errors.old, E.contents errors.new) result }
 {
@@ -54,7 +56,7 @@ pub fn perform<
     deliver(report, out, errors)
 }
 
-/// The report on the words: that of their job, or of their fault. `--lint` alone is entered as `--lint=`.
+/// The report on the words, as they are meant.
 fn answer<'a, F: FileSource + StandardInput, D: Databases, K: Desks, W: Write>(
     alloc: Global,
     words: &'a [&'a str],
@@ -65,7 +67,32 @@ fn answer<'a, F: FileSource + StandardInput, D: Databases, K: Desks, W: Write>(
 ) -> Result<Report, AllocError>
     ensures { IfOk result (λ report. IsAnswered (map (λ s. s.now) words.entry.now)
         (F.held files.now)
-        (F.given files.now) (K.known desks.old) (D.known databases.old) (D.known databases.new)
+        (F.given files.now) (is_some progress.old.to) (K.known desks.old)
+        (D.known databases.old) (D.known databases.new)
+        (outcome_of report)) }
+{
+    match name_before_help(words) {
+        Some(name) => {
+            let meant = [name, "help", "help"];
+            answer_meant(alloc, &meant, files, databases, desks, progress)
+        }
+        None => answer_meant(alloc, words, files, databases, desks, progress),
+    }
+}
+
+/// The report on the words that are meant. `--lint` alone is entered as `--lint=`.
+fn answer_meant<'a, F: FileSource + StandardInput, D: Databases, K: Desks, W: Write>(
+    alloc: Global,
+    words: &'a [&'a str],
+    files: &F,
+    databases: &mut D,
+    desks: &mut K,
+    progress: &mut Progress<W>,
+) -> Result<Report, AllocError>
+    ensures { IfOk result (λ report. IsEnteredAnswer (entered (map (λ s. s.now) words.entry.now))
+        (F.held files.now)
+        (F.given files.now) (is_some progress.old.to) (K.known desks.old)
+        (D.known databases.old) (D.known databases.new)
         (outcome_of report)) }
 {
     if is_check(words) {
@@ -86,7 +113,8 @@ fn answer_entered<'a, F: FileSource + StandardInput, D: Databases, K: Desks, W: 
 ) -> Result<Report, AllocError>
     ensures { IfOk result (λ report. IsEnteredAnswer (map (λ s. s.now) words.entry.now)
         (F.held files.now)
-        (F.given files.now) (K.known desks.old) (D.known databases.old) (D.known databases.new)
+        (F.given files.now) (is_some progress.old.to) (K.known desks.old)
+        (D.known databases.old) (D.known databases.new)
         (outcome_of report)) }
 {
     match job_of(alloc, words) {
@@ -116,7 +144,7 @@ pub fn report_of<F: FileSource + StandardInput, D: Databases, K: Desks, W: Write
     progress: &mut Progress<W>,
 ) -> Result<Report, AllocError>
     ensures { IfOk result (λ report. IsDone (F.held files.now) (F.given files.now)
-        (K.known desks.old)
+        (is_some progress.old.to) (K.known desks.old)
         (D.known databases.old)
         (D.known databases.new) job.now (outcome_of report)) }
 {
@@ -128,7 +156,8 @@ pub fn report_of<F: FileSource + StandardInput, D: Databases, K: Desks, W: Write
             manner,
         } => {
             let task = FileTask::Apply(*database, *manner);
-            let job = FileJob::new(task, script, *explain);
+            let advice = Advice::of_script(*explain, progress.to.is_some());
+            let job = FileJob::new(task, script, advice);
             file_report(alloc, job, files, databases, progress)
         }
         Job::Chart { length, signals } => chart_report(alloc, *length, signals),
@@ -137,7 +166,7 @@ pub fn report_of<F: FileSource + StandardInput, D: Databases, K: Desks, W: Write
             explain,
             lint,
         } => {
-            let job = FileJob::new(FileTask::Check(*lint), file, *explain);
+            let job = FileJob::new(FileTask::Check(*lint), file, Advice::requested(*explain));
             file_report(alloc, job, files, databases, progress)
         }
         Job::Compare { old, new } => compare_report(alloc, files, old, new),
@@ -153,7 +182,7 @@ pub fn report_of<F: FileSource + StandardInput, D: Databases, K: Desks, W: Write
             number,
         } => export_report(alloc, databases, database, net, *number),
         Job::Format { file, explain } => {
-            let job = FileJob::new(FileTask::Format, file, *explain);
+            let job = FileJob::new(FileTask::Format, file, Advice::requested(*explain));
             file_report(alloc, job, files, databases, progress)
         }
         Job::Migrate { database } => migrate_report(alloc, databases, database, progress),
@@ -165,7 +194,8 @@ pub fn report_of<F: FileSource + StandardInput, D: Databases, K: Desks, W: Write
             database,
             port,
             count,
-        } => serve_report(alloc, databases, database, *port, *count),
+            explain,
+        } => serve_report(alloc, databases, database, *port, *count, *explain),
         Job::Show {
             place,
             net,
@@ -173,7 +203,7 @@ pub fn report_of<F: FileSource + StandardInput, D: Databases, K: Desks, W: Write
             name,
         } => show_report(alloc, databases, desks, *place, *net, *what, *name),
         Job::Table { file } => {
-            let job = FileJob::new(FileTask::Table, file, false);
+            let job = FileJob::new(FileTask::Table, file, Advice::Nothing);
             file_report(alloc, job, files, databases, progress)
         }
     }

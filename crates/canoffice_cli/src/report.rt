@@ -1,5 +1,5 @@
 //! The result of a run: bytes for the program's two streams, and its exit status.
-ghost use Rattle.std.specs.Prelude.{◌≡◌, [], IfOk, string_bytes};
+ghost use Rattle.std.specs.Prelude.{◌≡◌, ◌⊎◌, [], IfOk, string_bytes};
 ghost use Rattle.canoffice_cli.specs.Outcome.{and_errors, and_remarks, code_of, outcome_of, remarked, success};
 ghost use Rattle.canoffice_cli.specs.Outcome.{unreadable, wrong_input, wrong_line, wrong_word};
 
@@ -78,6 +78,16 @@ impl Report {
         let mut report = self;
         report.errors.extend_from_slice(more)?;
         Ok(report)
+    }
+
+    /// The same with bytes that may be left out, and are where there is no memory for them.
+    pub(crate) fn and_advice(self, advice: &[u8]) -> Report
+        ensures { (outcome_of result ≡ and_errors (outcome_of self) advice.now)
+            ⊎ (outcome_of result ≡ outcome_of self) }
+    {
+        let mut report = self;
+        let _added = report.errors.extend_from_slice(advice);
+        report
     }
 
     /// The report with the lines of remarks after its own for standard output. Where there is one its status is

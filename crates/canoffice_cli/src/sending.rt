@@ -14,29 +14,18 @@ use crate::answering::{Answers, stops_at};
 use crate::apply::amiss_report;
 use crate::file_jobs::unreadable_report;
 use crate::files::{FileSource, StandardInput, bytes_at};
-use crate::manner::Manner;
 use crate::progress::{Progress, RequestLines};
 use crate::report::{Report, bad_line};
 use crate::room::Room;
 use base::Items;
 use canoffice_desks::{Desks, SendFault, reply_to};
+use canoffice_jobs::Sending;
 use desk_send::post_requests;
 use office_history::Arrival;
 use office_script::{Dash, arrivals_of, first_line, says_nothing};
 use std::alloc::{AllocError, Global};
 use std::io::Write;
 use store::Lost;
-
-/// To which desk a script is sent, and how.
-#[derive(Clone, Copy, Debug, PartialEq, Eq)]
-pub struct Sending {
-    /// The port of this machine, from 1.
-    pub port: u16,
-    /// How often a request is sent until it is answered, from 1.
-    pub tries: u32,
-    /// How the script is applied.
-    pub manner: Manner,
-}
 
 /// Why an arrival is lost whose request has no answer.
 fn lost_by(fault: SendFault) -> Lost

@@ -40,19 +40,21 @@ fn end_report(alloc: Global, end: Result<(), ServeEnd>) -> Result<Report, AllocE
     }
 }
 
-/// Serves the office in the database of the path, on the port of this machine and for so many connections. The error is
-/// out of memory for the report.
+/// Serves the office in the database of the path, on the port of this machine and for so many connections. Each answer
+/// other than 200 is reported on the machine's standard error where `explain` says so. The error is out of memory for
+/// the report.
 pub fn serve_report<D: Databases>(
     alloc: Global,
     databases: &mut D,
     path: &str,
     port: u16,
     count: u32,
+    explain: bool,
 ) -> Result<Report, AllocError>
     ensures { IfOk result (λ report. IsServeOutcome (D.known databases.old) (D.known databases.new)
         path.now count
         (outcome_of report)) }
 {
-    let end = databases.serve(alloc, path, port, count);
+    let end = databases.serve(alloc, path, port, count, explain);
     end_report(alloc, end)
 }

@@ -2,5 +2,6 @@ pub mod EachSignal
 pub mod LongMessages
 pub mod LongNumbers
 pub mod NumberSets
+pub mod FirstSpns
 pub mod UsedNames
 pub mod Rows

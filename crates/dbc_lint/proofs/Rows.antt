@@ -20,12 +20,14 @@ use Rattle.dbc_sheet.specs.declared.node.Node.{Node}
 use Rattle.dbc_sheet.specs.declared.sheet.Sheet.{Sheet}
 use Rattle.dbc_sheet.specs.declared.signal.Signal.{Signal}
 use Rattle.dbc_sheet.specs.declared.value_texts.ValueText.{ValueText}
+use Rattle.dbc_lint.specs.Kind.{first_unknown, is_chosen}
 use Rattle.dbc_lint.specs.Lines.{lines_of}
 use Rattle.dbc_lint.specs.Numbers.{has_range_outside, holds_value, is_above, written}
 use Rattle.dbc_lint.specs.OfFile.{of_statements}
 use Rattle.dbc_lint.specs.OfMessage.{of_message}
 use Rattle.dbc_lint.specs.OfNode.{of_node}
 use Rattle.dbc_lint.specs.OfSignal.{is_long, of_signal, signal_has}
+use Rattle.dbc_lint.specs.OfSpn.{spn_twice}
 use Rattle.dbc_lint.specs.OfTable.{of_table}
 use Rattle.dbc_lint.specs.Remark.{remark}
 use Rattle.dbc_lint.specs.declared.kind.Kind.TheVariants as kind
@@ -105,6 +107,29 @@ sheet nodes messages = record { version = []; comment = []; nodes = nodes; table
 abbrev text : Number → ValueText
 text value = record { value = value; text = codes "x" }
 
+-- ---- names that choose kinds
+
+no_name_chooses_all : is_chosen [] kind.ZeroFactor ≡ true
+no_name_chooses_all = refl
+
+second_name : is_chosen (codes "LongName,ZeroFactor") kind.ZeroFactor ≡ true
+second_name = refl
+
+neither_name : is_chosen (codes "LongName,ZeroFactor") kind.ValueTwice ≡ false
+neither_name = refl
+
+part_of_a_name : is_chosen (codes "ZeroFactors") kind.ZeroFactor ≡ false
+part_of_a_name = refl
+
+known_names : first_unknown (codes "LongName,ZeroFactor") ≡ None
+known_names = refl
+
+small_letters : first_unknown (codes "LongName,zerofactor,None") ≡ Some (codes "zerofactor")
+small_letters = refl
+
+empty_name : first_unknown (codes "LongName,") ≡ Some []
+empty_name = refl
+
 -- ---- 80 LongName
 
 name_of_32_bytes : is_long (replicate 32 65) ≡ false
@@ -113,9 +138,33 @@ name_of_32_bytes = refl
 name_of_33_bytes : is_long (replicate 33 65) ≡ true
 name_of_33_bytes = refl
 
-long_name : of_node (sheet [] []) (replicate 33 65) 4 ≡ remark kind.LongName 4 (replicate 33 65)
+node_of_32_bytes : of_node (sheet [] []) (replicate 32 65) 4 ≡ remark kind.IdleNode 4 (replicate 32 65) ∷ []
+node_of_32_bytes = refl
+
+node_of_33_bytes : of_node (sheet [] []) (replicate 33 65) 4 ≡ remark kind.LongName 4 (replicate 33 65)
     ∷ remark kind.IdleNode 4 (replicate 33 65) ∷ []
-long_name = refl
+node_of_33_bytes = refl
+
+table_of_32_bytes : of_table (replicate 32 65) [] 3 ≡ []
+table_of_32_bytes = refl
+
+table_of_33_bytes : of_table (replicate 33 65) [] 3 ≡ remark kind.LongName 3 (replicate 33 65) ∷ []
+table_of_33_bytes = refl
+
+message_of_32_bytes : of_message (sheet [] []) (message (Std 256) (replicate 32 65) 8 None []) 20 ≡ []
+message_of_32_bytes = refl
+
+message_of_33_bytes : of_message (sheet [] []) (message (Std 256) (replicate 33 65) 8 None []) 20
+    ≡ remark kind.LongName 20 (replicate 33 65) ∷ []
+message_of_33_bytes = refl
+
+signal_of_32_bytes : of_signal (sheet [] []) (of []) (record byte { name = replicate 32 65 }) 40 ≡ []
+signal_of_32_bytes = refl
+
+-- `M`, a space and the name
+signal_of_33_bytes : of_signal (sheet [] []) (of []) (record byte { name = replicate 33 65 }) 40
+    ≡ remark kind.LongName 40 (codes "M " ++ replicate 33 65) ∷ []
+signal_of_33_bytes = refl
 
 -- ---- 81 ZeroFactor
 
@@ -235,17 +284,56 @@ no_multiplexor = refl
 
 -- ---- 87 SpnTwice
 
-one_spn_twice : signal_has kind.SpnTwice (of (numbered (codes "A") 190 ∷ numbered (codes "B") 190 ∷ []))
-    (numbered (codes "A") 190) ≡ true
-one_spn_twice = refl
+-- the signals A and B of these numbers
+abbrev two : Ident → List ℕ → ℕ → ℕ → Message
+two ident name a b = message ident name 8 None (numbered (codes "A") a ∷ numbered (codes "B") b ∷ [])
 
-two_spns : signal_has kind.SpnTwice (of (numbered (codes "A") 190 ∷ numbered (codes "B") 191 ∷ []))
-    (numbered (codes "A") 190) ≡ false
+abbrev twice : Message
+twice = two (Std 256) (codes "M") 190 190
+
+second_of_two : spn_twice (sheet [] (twice ∷ [])) twice (numbered (codes "B") 190) (codes "M B") 40
+    ≡ remark kind.SpnTwice 40 (codes "M B M A") ∷ []
+second_of_two = refl
+
+first_of_two : spn_twice (sheet [] (twice ∷ [])) twice (numbered (codes "A") 190) (codes "M A") 30 ≡ []
+first_of_two = refl
+
+abbrev apart : Message
+apart = two (Std 256) (codes "M") 190 191
+
+two_spns : spn_twice (sheet [] (apart ∷ [])) apart (numbered (codes "B") 191) (codes "M B") 40 ≡ []
 two_spns = refl
 
-no_spn_twice : signal_has kind.SpnTwice (of (numbered (codes "A") 0 ∷ numbered (codes "B") 0 ∷ []))
-    (numbered (codes "A") 0) ≡ false
+abbrev without : Message
+without = two (Std 256) (codes "M") 0 0
+
+no_spn_twice : spn_twice (sheet [] (without ∷ [])) without (numbered (codes "B") 0) (codes "M B") 40 ≡ []
 no_spn_twice = refl
+
+-- N follows M, and both have 190
+abbrev second_message : Ident → Ident → List Remark
+second_message first second =
+    spn_twice (sheet [] (two first (codes "M") 190 191 ∷ two second (codes "N") 192 190 ∷ []))
+    (two second (codes "N") 192 190) (numbered (codes "B") 190) (codes "N B") 60
+
+-- 18FEF005 is of the parameter group FEF0, and 18FEF105 of FEF1
+other_group : second_message (Ext 419360773) (Ext 419361029) ≡ remark kind.SpnTwice 60 (codes "N B M A") ∷ []
+other_group = refl
+
+-- 18FEF103 and 18FEF105 are of FEF1
+same_group : second_message (Ext 419361027) (Ext 419361029) ≡ []
+same_group = refl
+
+-- 18EF0305 and 18EF0405 are of EF00, to 03 and to 04
+other_destination : second_message (Ext 418317061) (Ext 418317317) ≡ []
+other_destination = refl
+
+-- two of 11 bits
+two_short_idents : second_message (Std 256) (Std 257) ≡ remark kind.SpnTwice 60 (codes "N B M A") ∷ []
+two_short_idents = refl
+
+one_short_ident : second_message (Std 256) (Ext 419361029) ≡ remark kind.SpnTwice 60 (codes "N B M A") ∷ []
+one_short_ident = refl
 
 -- ---- 88 ValueOutside
 

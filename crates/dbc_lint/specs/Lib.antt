@@ -1,6 +1,8 @@
 pub mod Kind
 pub mod Remark
 pub mod Numbers
+pub mod OfSpn
+pub mod SpnPlaces
 pub mod OfSignal
 pub mod OfMessage
 pub mod OfNode

@@ -1,6 +1,6 @@
 -- The remarks on a signal: short tests, and remarks on each text for a value and on each receiver.
 use Rattle.std.specs.Prelude.{ℕ, ◌^◌, ◌==◌, nat_le, nat_lt, Bool, true, false, not, ◌&&◌, List, [], ◌∷◌, ◌++◌, Option}
-use Rattle.std.specs.Prelude.{Some, None, count_by, find, length, take, codes}
+use Rattle.std.specs.Prelude.{Some, None, find, length, take, codes}
 use Rattle.std.specs.List.{enumerate_from, flat_map, list_any}
 use Rattle.std.specs.Ordering.{int_eq}
 use Rattle.bitlayout.specs.Mux.{is_under}
@@ -18,6 +18,7 @@ use Rattle.dbc_sheet.specs.declared.sheet.Sheet.{Sheet}
 use Rattle.dbc_sheet.specs.declared.signal.Signal.{Signal}
 use Rattle.dbc_sheet.specs.declared.value_texts.ValueText.{ValueText}
 use Rattle.dbc_lint.specs.Numbers.{has_range_outside, holds_value, is_above, is_zero}
+use Rattle.dbc_lint.specs.OfSpn.{spn_twice}
 use Rattle.dbc_lint.specs.Remark.{remark, when, with_word}
 use Rattle.dbc_lint.specs.declared.kind.Kind.{Kind}
 use Rattle.dbc_lint.specs.declared.kind.Kind.TheVariants as kind
@@ -51,10 +52,6 @@ is_mux_outside multiplexor mux = false
 abbrev pub is_mux_unused : List Signal → Signal → Bool
 is_mux_unused signals s = signal_is_multiplexor s && not (list_any (λ (o : Signal). is_under o.mux) signals)
 
--- one of two signals or more with one suspect parameter number; 0 is none
-abbrev pub shares_spn : List Signal → Signal → Bool
-shares_spn signals s = not (s.spn == 0) && nat_lt 1 (count_by (λ (o : Signal). o.spn == s.spn) signals)
-
 -- the signal of the message has what the kind of remark is about
 abbrev pub signal_has : Kind → Message → Signal → Bool
 signal_has kind.LongName m s = is_long s.name
@@ -64,7 +61,6 @@ signal_has kind.RangeOutside m s = has_range_outside s
 signal_has kind.FloatSize m s = is_other_size s.value_type s.layout.size
 signal_has kind.MuxOutside m s = is_mux_outside (multiplexor_of m.signals) s.mux
 signal_has kind.MuxUnused m s = is_mux_unused m.signals s
-signal_has kind.SpnTwice m s = shares_spn m.signals s
 signal_has k m s = false
 
 -- the names of the message and the signal
@@ -108,7 +104,7 @@ unknown_node sheet words at name =
 abbrev pub signal_kinds : List Kind
 signal_kinds =
     kind.LongName ∷ kind.ZeroFactor ∷ kind.RangeInverted ∷ kind.RangeOutside ∷ kind.FloatSize ∷ kind.MuxOutside
-    ∷ kind.MuxUnused ∷ kind.SpnTwice ∷ []
+    ∷ kind.MuxUnused ∷ []
 
 abbrev pub of_kind : Message → Signal → ℕ → Kind → List Remark
 of_kind m s at k = when (signal_has k m s) (remark k at (signal_words m s))
@@ -117,6 +113,7 @@ of_kind m s at k = when (signal_has k m s) (remark k at (signal_words m s))
 abbrev pub of_signal : Sheet → Message → Signal → ℕ → List Remark
 of_signal sheet m s at =
     flat_map (of_kind m s at) signal_kinds
+    ++ (spn_twice sheet m s (signal_words m s) at
     ++ (flat_map (value_outside (signal_words m s) at s) s.values
     ++ (values_twice (signal_words m s) at s.values 0 s.values
-    ++ flat_map (unknown_node sheet (signal_words m s) at) s.receivers))
+    ++ flat_map (unknown_node sheet (signal_words m s) at) s.receivers)))

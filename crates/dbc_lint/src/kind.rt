@@ -22,7 +22,8 @@ pub enum Kind {
     MuxOutside,
     /// 86: a signal is the multiplexor, and none is present at only some of its values.
     MuxUnused,
-    /// 87: another signal of the message has the suspect parameter number of the signal.
+    /// 87: an earlier signal of the message has the suspect parameter number of the signal, or else the first signal of
+    /// the file that has it is in a message of another parameter group.
     SpnTwice,
     /// 88: a text is for a value that the bits of the signal can't hold.
     ValueOutside,

@@ -2,8 +2,8 @@
 //!
 //! [`lint`] gives a line for each remark, in the order of the file. A [`Kind`] is a kind of remark, with a number and a
 //! name. The definitions are in `specs/`: `OfSignal.antt`, `OfMessage.antt`, `OfNode.antt` and `OfTable.antt` have the
-//! remarks on one thing, `Numbers.antt` what bits hold, `OfFile.antt` all remarks and where they are in the file, and
-//! `Lines.antt` their lines.
+//! remarks on one thing, `OfSpn.antt` those on a number that two signals have, `Numbers.antt` what bits hold,
+//! `OfFile.antt` all remarks and where they are in the file, and `Lines.antt` their lines.
 //!
 //! A remark on a signal or a node is at its name, and one on a message or a value table at the keyword of its
 //! statement. What other statements attach to a signal, its texts for values among them, is remarked at the signal.
@@ -17,11 +17,13 @@ mod numbers;
 mod of_message;
 mod of_node;
 mod of_signal;
+mod of_spn;
 mod of_statement;
 mod of_values;
 mod places;
 mod range;
 mod remark;
+mod spn_places;
 mod whole;
 
 pub use kind::{ALL_KINDS, Kind, first_unknown};

@@ -1,16 +1,17 @@
 //! Remarks on a signal.
-ghost use Rattle.std.specs.Prelude.{◌≡◌, ◌==◌, ◌++◌, count_by, length, IfOk, OnOk};
+ghost use Rattle.std.specs.Prelude.{◌≡◌, ◌++◌, length, IfOk, OnOk};
 ghost use Rattle.std.specs.List.{flat_map, list_any};
 ghost use Rattle.std.specs.Option.{option_copied};
 ghost use Rattle.bitlayout.specs.Mux.{is_under};
 ghost use Rattle.dbc_sheet.specs.declared.signal.Signal as declared;
 ghost use Rattle.dbc_lint.specs.Numbers.{is_zero};
 ghost use Rattle.dbc_lint.specs.OfSignal.{is_long, is_mux_outside, is_mux_unused, is_other_size, multiplexor_of};
-ghost use Rattle.dbc_lint.specs.OfSignal.{of_kind, of_signal, shares_spn, signal_has, signal_kinds, signal_words};
+ghost use Rattle.dbc_lint.specs.OfSignal.{of_kind, of_signal, signal_has, signal_kinds, signal_words};
 ghost use Rattle.dbc_lint.specs.OfSignal.{unknown_node};
 
 use crate::kind::Kind;
 use crate::numbers::is_above;
+use crate::of_spn::add_spn_twice;
 use crate::of_values::{add_values_outside, add_values_twice};
 use crate::range::has_range_outside;
 use crate::remark::{Remark, add_when, add_word_when, with_word};
@@ -79,23 +80,6 @@ fn is_mux_unused(signals: &[Signal], signal: &Signal) -> bool
     signal.mux.is_multiplexor() && !one_is_under(signals)
 }
 
-/// How many of the signals have the suspect parameter number.
-fn spn_count(signals: &[Signal], number: u32) -> usize
-    ensures { result ≡ count_by (λ (o : declared.Signal). o.spn == number) signals.now }
-{
-    signals
-        .iter()
-        .filter(|other| other.spn.number() == number)
-        .count()
-}
-
-/// Whether another signal has the signal's suspect parameter number.
-fn shares_spn(signals: &[Signal], signal: &Signal) -> bool
-    ensures { result ≡ shares_spn signals.now signal.now }
-{
-    signal.spn.number() != 0 && spn_count(signals, signal.spn.number()) > 1
-}
-
 /// Whether the signal of the message has what the kind of remark is about.
 fn signal_has(kind: Kind, message: &Message, signal: &Signal) -> bool
     ensures { result ≡ signal_has kind message.now signal.now }
@@ -109,13 +93,12 @@ fn signal_has(kind: Kind, message: &Message, signal: &Signal) -> bool
         Kind::FloatSize => is_other_size(signal.value_type, signal.layout.size),
         Kind::MuxOutside => is_mux_outside(multiplexor_of(signals), signal.mux),
         Kind::MuxUnused => is_mux_unused(signals, signal),
-        Kind::SpnTwice => shares_spn(signals, signal),
         _ => false,
     }
 }
 
 /// The kinds of the short tests.
-const SIGNAL_KINDS: [Kind; 8] = [
+const SIGNAL_KINDS: [Kind; 7] = [
     Kind::LongName,
     Kind::ZeroFactor,
     Kind::RangeInverted,
@@ -123,7 +106,6 @@ const SIGNAL_KINDS: [Kind; 8] = [
     Kind::FloatSize,
     Kind::MuxOutside,
     Kind::MuxUnused,
-    Kind::SpnTwice,
 ];
 
 /// Adds the remarks of the short tests.
@@ -195,6 +177,7 @@ pub(crate) fn add_of_signal(
 {
     let words = with_word(alloc, message.name.as_bytes(), signal.name.as_bytes())?;
     add_of_kinds(alloc, message, signal, &words, at, remarks)?;
+    add_spn_twice(alloc, whole, message, signal, &words, at, remarks)?;
     add_values_outside(alloc, &words, at, signal, remarks)?;
     add_values_twice(alloc, &words, at, signal.values.as_slice(), remarks)?;
     let receivers = signal.receivers.as_slice();

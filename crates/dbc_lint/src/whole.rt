@@ -1,25 +1,29 @@
 //! A whole sheet, with what is looked up in it.
 ghost use Rattle.std.specs.Prelude.{◌≡◌, ◌≤◌, ◌<◌, ◌^◌, ◌+◌, ◌++◌, ℕ, List, IfOk, OnOk, cond, count_by, map};
 ghost use Rattle.std.specs.List.{flat_map};
+ghost use Rattle.std.specs.Option.{option_copied};
 ghost use Rattle.dbc_words.specs.Named.{HasNamesOf, has_name};
 ghost use Rattle.dbc_sheet.specs.Sheet.{node_name};
 ghost use Rattle.dbc_sheet.specs.declared.signal.Signal as of_signal;
 ghost use Rattle.dbc_lint.specs.OfMessage.{is_over_8};
 ghost use Rattle.dbc_lint.specs.OfNode.{is_idle, names_of_message, names_used};
+ghost use Rattle.dbc_lint.specs.OfSpn.{first_place, places};
 ghost use Rattle.dbc_lint.specs.Whole.{text_of};
 
+use crate::spn_places::{FirstPlaces, Place};
 use base::Copying;
 use dbc_sheet::{Message, Node, Sheet, Signal};
 use dbc_words::{Name, NameSet};
 use std::alloc::{AllocError, Global};
 use std::marker::Model;
 
-/// A sheet with its nodes, the nodes that send or receive, and the number of long messages at hand. Contracts see the
-/// sheet.
+/// A sheet with its nodes, the nodes that send or receive, the first places of suspect parameter numbers and the number
+/// of long messages at hand. Contracts see the sheet.
 pub(crate) struct Whole<'s> {
     sheet: &'s Sheet,
     nodes: NameSet,
     used: NameSet,
+    spns: FirstPlaces<'s>,
     over_8: usize,
 }
 
@@ -31,7 +35,7 @@ impl<'s> Model for Whole<'s> {
 
     ghost view = { λ w. w.sheet.now };
 
-    ghost invariant = { λ w. IsOfSheet w.sheet.now w.nodes w.used w.over_8 };
+    ghost invariant = { λ w. IsOfSheet w.sheet.now w.nodes w.used w.spns w.over_8 };
 }
 
 /// The set of the names of the nodes.
@@ -139,6 +143,7 @@ impl<'s> Whole<'s> {
             sheet,
             nodes: names_of_nodes(alloc, sheet.nodes())?,
             used: set_of(alloc, &used)?,
+            spns: FirstPlaces::of(alloc, sheet.messages())?,
             over_8: count_over_8(sheet.messages()),
         })
     }
@@ -164,6 +169,13 @@ impl<'s> Whole<'s> {
         !self.used.has(name)
     }
 
+    /// The first signal of the sheet that has the suspect parameter number.
+    pub(crate) fn first_place(&self, number: u32) -> Option<&Place<'s>>
+        ensures { option_copied result ≡ first_place (places self.now.messages) number }
+    {
+        self.spns.get(number)
+    }
+
     /// How many messages have more than 8 bytes.
     pub(crate) fn over_8(&self) -> usize
         ensures { result ≡ count_by is_over_8 self.now.messages }
@@ -178,6 +190,7 @@ impl Drop for Whole<'_> {
             sheet: _sheet,
             nodes: _nodes,
             used: _used,
+            spns: _spns,
             over_8: _over_8,
         } = self;
     }

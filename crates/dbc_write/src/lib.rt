@@ -15,9 +15,14 @@ mod comments;
 mod entries;
 mod heading;
 mod messages;
+mod parts;
 mod sections;
 mod sheet;
 mod signals;
 mod tokens;
 
+pub use parts::{
+    comment_lines, definitions, spn_default, spn_definition, spn_lines, type_lines, value_lines,
+};
+pub use sections::has_spn;
 pub use sheet::text_of;

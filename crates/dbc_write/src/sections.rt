@@ -120,7 +120,8 @@ fn message_has_spn(message: &Message) -> bool
         .any(|signal| signal.spn.number() != 0)
 }
 
-fn has_spn(sheet: &Sheet) -> bool
+/// Whether some signal has a suspect parameter number.
+pub fn has_spn(sheet: &Sheet) -> bool
     ensures { result ≡ has_spn sheet.now }
 {
     sheet
@@ -129,7 +130,7 @@ fn has_spn(sheet: &Sheet) -> bool
         .any(|message| message_has_spn(message))
 }
 
-fn definition(text: &mut Vec<u8>) -> Result<(), AllocError>
+pub(crate) fn definition(text: &mut Vec<u8>) -> Result<(), AllocError>
     ensures { OnOk result (Adds line_text text.old.items text.new.items (spn_definition ∷ [])) }
 {
     tight_word(text, b"BA_DEF_")?;
@@ -143,7 +144,7 @@ fn definition(text: &mut Vec<u8>) -> Result<(), AllocError>
     Ok(())
 }
 
-fn default_value(text: &mut Vec<u8>) -> Result<(), AllocError>
+pub(crate) fn default_value(text: &mut Vec<u8>) -> Result<(), AllocError>
     ensures { OnOk result (Adds line_text text.old.items text.new.items (spn_default ∷ [])) }
 {
     tight_word(text, b"BA_DEF_DEF_")?;

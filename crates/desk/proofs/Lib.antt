@@ -1,4 +1,5 @@
 pub mod Devices
 pub mod Responses
 pub mod Visits
+pub mod Noted
 pub mod Turns

@@ -199,6 +199,20 @@ visits_then listener first mid last a b c vs v had has =
       declined = All-push IsDeclined vs v had.declined (All-head IsDeclined v [] has.declined);
     }
 
+-- the office may have failed since the connection
+pub visit_still : {L Q A : Type 0} (listener : Ghosts L Q A) (first last : L) (a b c : Bool) (v : Visit)
+    → HasVisits listener first last a b (v ∷ []) → (IsTrue b → IsTrue c)
+    → HasVisits listener first last a c (v ∷ [])
+visit_still listener first last a b c v had stays =
+    let once = had.fails_once in
+    record {
+      accepted = had.accepted;
+      closed = had.closed;
+      caused = had.caused;
+      fails_once = (once.0, c, λ failed. stays (subst IsTrue (sym once.3) (once.2 failed)), refl);
+      declined = had.declined;
+    }
+
 -- none came any more, and the office is as it was
 pub visits_still : {L Q A : Type 0} (listener : Ghosts L Q A) (first mid last : L) (a b c : Bool) (vs : List Visit)
     → HasVisits listener first mid a b vs → HasNoVisit listener mid last → c ≡ b → HasVisits listener first last a c vs

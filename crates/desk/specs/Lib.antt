@@ -1,4 +1,5 @@
 pub mod Devices
+pub mod Noted
 pub mod Responding
 pub mod Serving
 pub mod Visits

@@ -13,7 +13,7 @@
 //! that they hold after it (`specs/Serving.antt`; `Visits.antt` has what came of the listener). A fault of a connection
 //! ends that connection alone. A [`Listener`] is in memory ([`MemoryListener`]) or a TCP port of this machine
 //! ([`LocalPort`]). No contract states the bytes of a socket: there the contract of [`serve`] says what becomes of the
-//! history, and that alone.
+//! history, and that alone. [`Notes`] reports connections beside their responses, and no contract depends on it.
 #![tactic(auto)]
 
 mod answering;
@@ -25,7 +25,7 @@ mod responding;
 mod serving;
 mod tcp_side;
 
-pub use desk_call::Routes;
+pub use desk_call::{Exchange, Notes, OfficeRead, Routes, WantedNet};
 pub use desk_types::{Counted, DeskFault, Failed, Problem, Sink, Source};
 pub use fault::ServeFault;
 pub use listener::Listener;

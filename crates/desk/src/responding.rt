@@ -6,7 +6,7 @@ ghost use Rattle.desk.specs.Devices.{UsesDevices};
 ghost use Rattle.desk.specs.Responding.{Refuses, Serves, StaysOpen};
 
 use crate::answering::response_to;
-use desk_call::{Routes, read_call};
+use desk_call::{Exchange, Routes, read_call};
 use desk_types::{DeskFault, Failed, Sink, Source, put_all};
 use sqlite::Alter;
 use std::alloc::Global;
@@ -23,12 +23,15 @@ use store::StoredOffice;
 ///
 /// A crash leaves the history after the response. After a 503, or where memory ran out, it leaves the history from
 /// before, or that one with the arrival that was requested.
+///
+/// What was read, and the response if all of it was written, is kept where that is wanted.
 pub fn serve_one<S: Alter, R: Source, W: Sink>(
     alloc: Global,
     routes: &Routes,
     office: &mut StoredOffice<S>,
     source: &mut R,
     sink: &mut W,
+    exchange: &mut Exchange,
 ) -> Result<(), DeskFault>
     requires reads { R.failure_count source.old < 2 ^ 64 - 1 }
     requires writes { W.failure_count sink.old < 2 ^ 64 - 1 }
@@ -46,12 +49,15 @@ pub fn serve_one<S: Alter, R: Source, W: Sink>(
         (state S.Store office.new.conn)) }
 {
     office.leaves_now();
-    let call = read_call(alloc, routes, source)?;
+    let call = read_call(alloc, routes, source, exchange)?;
     let Ok(text) = response_to(alloc, office, call) else {
         return Err(DeskFault::Memory);
     };
     match put_all(sink, &text) {
-        Ok(()) => Ok(()),
+        Ok(()) => {
+            exchange.keep_response(text);
+            Ok(())
+        }
         Err(Failed) => Err(DeskFault::Write),
     }
 }

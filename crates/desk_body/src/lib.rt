@@ -5,7 +5,8 @@
 //! value is known here. The values go to `office_fields` as bytes, as they would from a script, so that each range is
 //! tested in one place.
 //!
-//! `specs/Body.antt` has the definitions.
+//! [`json_name`], [`is_name_of`] and [`bytes_of`] are the rules by which a member is that of a field, for whoever says
+//! why a body gives no command. `specs/Body.antt` has the definitions.
 #![tactic(auto)]
 
 mod body;
@@ -15,3 +16,5 @@ mod values;
 
 pub use body::command_in;
 pub use bundle::bundle_in;
+pub use members::{is_name_of, json_name};
+pub use values::bytes_of;

@@ -14,7 +14,7 @@ use serde_json::{Map, Value};
 use std::alloc::{AllocError, Global};
 
 /// The name of a field's member.
-fn json_name(field: Field) -> &'static str
+pub fn json_name(field: Field) -> &'static str
     ensures { result.now ≡ json_name field }
 {
     match field {
@@ -109,7 +109,7 @@ pub(crate) fn given_in(
 }
 
 /// Whether one of the fields has the name.
-pub(crate) fn is_name_of(fields: &[Field], name: &str) -> bool
+pub fn is_name_of(fields: &[Field], name: &str) -> bool
     ensures { result ≡ is_name_of fields.now name.now }
 {
     fields.iter().any(|field| json_name(*field) == name)

@@ -97,7 +97,7 @@ fn value_text_bytes(alloc: Global, value: &Value) -> Result<Option<Vec<u8>>, All
 }
 
 /// The bytes that a JSON value gives for a field of the kind, or `None` where it is no value of the kind.
-pub(crate) fn bytes_of(
+pub fn bytes_of(
     alloc: Global,
     kind: FieldKind,
     value: &Value,

@@ -5,11 +5,14 @@
 //! (`call_of`, `specs/Call.antt`), whose first part is `demand_of` of `desk_head`. `specs/Read.antt` says which call
 //! the bytes of a source are; by [`bytes_request_one_thing`] it is one. By [`looks_come_back`] a GET of the target of a
 //! look (`specs/Asked.antt`) is that look.
+//!
+//! What was read is kept in an [`Exchange`] where that is wanted, for [`Notes`]; nothing here depends on it.
 #![tactic(auto)]
 
 mod arrivals;
 mod call;
 mod calling;
+mod exchange;
 mod laws;
 mod looks;
 mod reading;
@@ -17,6 +20,7 @@ mod values;
 
 pub use call::Call;
 pub use desk_head::Routes;
+pub use exchange::{Exchange, Notes, OfficeRead, WantedNet};
 pub use laws::{bytes_request_one_thing, looks_come_back};
 pub use office_types::Look;
-pub use reading::read_call;
+pub use reading::{call_read, read_call};

@@ -13,6 +13,7 @@ ghost use Rattle.desk_call.specs.Read.{IsRequested, StopsShort};
 
 use crate::call::Call;
 use crate::calling::call_by;
+use crate::exchange::Exchange;
 use desk_head::{Demand, HEADER_LIMIT, Routes, body_size, demand_at, empty_headers, read_head};
 use desk_types::{Problem, ReadFault, Source, take_more};
 use httparse::spans::{HeaderSpan, RequestSpans};
@@ -43,7 +44,7 @@ fn read_until<R: Source>(source: &mut R, got: &mut Vec<u8>, until: usize) -> Res
 
 /// The call of a request whose head is at the front of the bytes, and that goes on with the rest.
 #[tactic(auto, unfolding(crate::specs::Call::call_of))]
-fn call_read(
+pub fn call_read(
     alloc: Global,
     demand: Demand,
     got: &[u8],
@@ -63,11 +64,12 @@ fn call_read(
 
 /// Reads the first request of a source, as a call. Nothing is read once the request is whole, or known to be
 /// wrong by its head, and never more than a greatest head and a greatest body. `Read` if a call of the source fails
-/// before that, `Memory` if memory runs out.
+/// before that, `Memory` if memory runs out. What was read for a call is kept where that is wanted.
 pub fn read_call<R: Source>(
     alloc: Global,
     routes: &Routes,
     source: &mut R,
+    exchange: &mut Exchange,
 ) -> Result<Call, ReadFault>
     requires { R.failure_count source.old < 2 ^ 64 - 1 }
     ensures reads { ReadsAtMost R.Source source.old source.new request_limit result }
@@ -80,7 +82,10 @@ pub fn read_call<R: Source>(
     let spans = match read_head(source, &mut got, &mut headers) {
         Err(e) => return Err(e),
         Ok(Some(spans)) => spans,
-        Ok(None) => return Ok(Call::Fails(Problem::BadRequest)),
+        Ok(None) => {
+            exchange.keep_request(got, Vec::new(alloc));
+            return Ok(Call::Fails(Problem::BadRequest));
+        }
     };
     let demand = demand_at(routes, &got, &headers, spans);
     let Ok(mut rest) = Vec::from_slice(alloc, &got[spans.len..]) else {
@@ -91,7 +96,10 @@ pub fn read_call<R: Source>(
         Ok(_) => {}
     }
     match call_read(alloc, demand, &got, &headers, spans, &rest) {
-        Ok(call) => Ok(call),
+        Ok(call) => {
+            exchange.keep_request(got, rest);
+            Ok(call)
+        }
         Err(_) => Err(ReadFault::Memory),
     }
 }

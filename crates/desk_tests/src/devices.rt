@@ -5,7 +5,7 @@ use crate::disks::{Bytes, Taking, Unsynced};
 use crate::eleven::{request, response};
 use crate::lists::ELEVEN;
 use crate::offices::{Opening, Outcome, Trial, is_after, passes_on, served, try_on};
-use desk::{Counted, DeskFault, Routes, Sink, Source, serve_one};
+use desk::{Counted, DeskFault, Exchange, Routes, Sink, Source, serve_one};
 use sqlite::Alter;
 use std::alloc::Global;
 use std::io::{self, ErrorKind, Read, Write};
@@ -109,7 +109,15 @@ fn fails_to_read<S: Alter>(
         failing,
     });
     let mut sink = Counted::new(Vec::new(alloc));
-    let served = serve_one(alloc, &routes, office, &mut source, &mut sink);
+    let mut unwanted = Exchange::new(alloc, false);
+    let served = serve_one(
+        alloc,
+        &routes,
+        office,
+        &mut source,
+        &mut sink,
+        &mut unwanted,
+    );
     let counts = source.failures() == 1 && sink.failures() == 0;
     is_fault(served, 80) && counts && sink.into_inner().is_empty()
 }
@@ -133,7 +141,15 @@ fn fails_to_write<S: Alter>(
         fails_at: at,
         failing,
     });
-    let served = serve_one(alloc, &routes, office, &mut source, &mut sink);
+    let mut unwanted = Exchange::new(alloc, false);
+    let served = serve_one(
+        alloc,
+        &routes,
+        office,
+        &mut source,
+        &mut sink,
+        &mut unwanted,
+    );
     let counts = source.failures() == 0 && sink.failures() == 1;
     let Writer { held, .. } = sink.into_inner();
     is_fault(served, 81) && counts && response.get(..at.saturating_sub(1)) == Some(held.as_slice())

@@ -1,5 +1,6 @@
 //! Requests over a port of the machine, in one process.
 use crate::requests::Titled;
+use crate::silence::Silence;
 use desk::{Routes, listen, serve};
 use sqlite::Alter;
 use std::io::{self, ErrorKind, Read, Write};
@@ -53,7 +54,16 @@ pub(crate) fn serve_over_port<S: Alter>(
     };
     let routes = Routes::new(alloc)?;
     let mut errors = Vec::new(alloc);
-    if serve(alloc, &routes, office, &mut port, &mut errors, count).is_err() || !errors.is_empty() {
+    let served = serve(
+        alloc,
+        &routes,
+        office,
+        &mut port,
+        &mut errors,
+        &mut Silence,
+        count,
+    );
+    if served.is_err() || !errors.is_empty() {
         return Err(ErrorKind::ConnectionAborted)?;
     }
     let mut served = clients.iter_mut();

@@ -40,6 +40,7 @@ mod offices;
 mod pieces;
 mod requests;
 mod responses;
+mod silence;
 mod stops;
 mod waiting;
 

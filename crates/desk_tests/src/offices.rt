@@ -6,7 +6,7 @@ use crate::disks::{Taking, connected, taken};
 use crate::eleven::{request, response};
 use crate::lists::{List, Step, is_live_after};
 use dbc_words::Name;
-use desk::{Counted, Routes, serve_one};
+use desk::{Counted, Exchange, Routes, serve_one};
 use office_history::{Answer, Arrival};
 use office_types::{Look, NetName};
 use sqlite::{Alter, Connection, Files};
@@ -158,7 +158,15 @@ fn written<S: Alter>(
     let request = request(alloc, number)?;
     let mut source = Counted::new(request.as_slice());
     let mut sink = Counted::new(Vec::new(alloc));
-    match serve_one(alloc, &routes, office, &mut source, &mut sink) {
+    let mut unwanted = Exchange::new(alloc, false);
+    match serve_one(
+        alloc,
+        &routes,
+        office,
+        &mut source,
+        &mut sink,
+        &mut unwanted,
+    ) {
         Ok(()) => Ok(sink.into_inner()),
         Err(_) => Err(ErrorKind::Other)?,
     }

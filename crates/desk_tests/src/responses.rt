@@ -1,6 +1,6 @@
 //! Serving one request.
 use crate::pieces::{Ending, Pieces};
-use desk::{Counted, Routes, serve_one};
+use desk::{Counted, Exchange, Routes, serve_one};
 use sqlite::{Alter, Connection};
 use std::alloc::Global;
 use std::io::{self, ErrorKind};
@@ -46,7 +46,15 @@ fn served<S: Alter>(
     let routes = Routes::new(alloc)?;
     let mut source = Counted::new(pieces);
     let mut sink = Counted::new(Vec::new(alloc));
-    match serve_one(alloc, &routes, office, &mut source, &mut sink) {
+    let mut unwanted = Exchange::new(alloc, false);
+    match serve_one(
+        alloc,
+        &routes,
+        office,
+        &mut source,
+        &mut sink,
+        &mut unwanted,
+    ) {
         Ok(()) => Ok(sink.into_inner()),
         Err(_) => Err(ErrorKind::Other)?,
     }

@@ -3,6 +3,7 @@ use crate::loopback::goes_over_port;
 use crate::pieces::Ending;
 use crate::requests::Titled;
 use crate::responses::response;
+use crate::silence::Silence;
 use desk::{EndedConnection, MemoryListener, Routes, ServeFault, serve};
 use sqlite::Alter;
 use std::alloc::Global;
@@ -27,6 +28,7 @@ fn ended_in_one_call<S: Alter>(
         office,
         &mut waiting,
         &mut errors,
+        &mut Silence,
         count.saturating_add(1),
     );
     match (served, waiting.into_ended()) {

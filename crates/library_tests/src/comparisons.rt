@@ -20,13 +20,13 @@ const LINES: &[u8] =
     b"! signal         256 std 00000100      - Lamp.On start 0 -> 8\n. signal         256 std 00000100      - Lamp.On unit - -> %25\ndifferences 2 breaking 1 added 0 removed 0 changed 1\n";
 
 fn moved_lamp_differs(alloc: Global) -> Option<bool> {
-    let said = compare(alloc, &lamp(alloc, 0, b"")?, &lamp(alloc, 8, b"%")?).ok()?;
-    Some(said.text.as_slice() == LINES && !said.are_equal)
+    let comparison = compare(alloc, &lamp(alloc, 0, b"")?, &lamp(alloc, 8, b"%")?).ok()?;
+    Some(comparison.text.as_slice() == LINES && !comparison.are_equal)
 }
 
 fn same_lamp_is_equal(alloc: Global) -> Option<bool> {
-    let said = compare(alloc, &lamp(alloc, 0, b"V")?, &lamp(alloc, 0, b"V")?).ok()?;
-    Some(said.text.as_slice() == NO_LINES && said.are_equal)
+    let comparison = compare(alloc, &lamp(alloc, 0, b"V")?, &lamp(alloc, 0, b"V")?).ok()?;
+    Some(comparison.text.as_slice() == NO_LINES && comparison.are_equal)
 }
 
 const NO_LINES: &[u8] = b"differences 0 breaking 0 added 0 removed 0 changed 0\n";

@@ -8,6 +8,8 @@
 #[cfg(test)]
 mod asking;
 #[cfg(test)]
+mod canonical_parts;
+#[cfg(test)]
 mod changes;
 #[cfg(test)]
 mod comparisons;
@@ -34,6 +36,10 @@ mod numbers;
 #[cfg(test)]
 mod read_faults;
 #[cfg(test)]
+mod reasons;
+#[cfg(test)]
 mod remarks;
+#[cfg(test)]
+mod request_lines;
 #[cfg(test)]
 mod sending;

@@ -18,7 +18,7 @@ impl LineCommand {
     ghost use Rattle.office_advice.specs.Cause.{command_fields, command_index, command_word, first_field};
 
     /// Its word.
-    pub(crate) fn word(self) -> &'static str
+    pub fn word(self) -> &'static str
         ensures { result.now ≡ command_word self }
     {
         match self {
@@ -28,7 +28,7 @@ impl LineCommand {
     }
 
     /// Its fields.
-    pub(crate) fn fields(self) -> &'static [Field]
+    pub fn fields(self) -> &'static [Field]
         ensures { result.now ≡ command_fields self }
     {
         match self {

@@ -5,7 +5,7 @@
 //! words of a line (`office_script`) and of the table of fields (`office_fields`), `specs/Words.antt` where a word is,
 //! `specs/Sentence.antt` and `specs/Phrase.antt` what is stated, and `specs/Explained.antt` the whole. Whether a line
 //! is wrong is the matter of `office_script`, and by the contract of [`explained`] what is reported here agrees with
-//! it.
+//! it. [`values_wrong`], [`phrase_of`] and [`meaning_of`] are the rules for given values, however they are written.
 #![tactic(auto)]
 
 mod bundles;
@@ -21,4 +21,6 @@ mod words;
 
 pub use cause::{Cause, LineCommand, Wrong};
 pub use explaining::explained;
-pub use phrases::{NumberRange, range_of};
+pub use phrases::{NumberRange, phrase_of, range_of};
+pub use sentences::meaning_of;
+pub use values::values_wrong;

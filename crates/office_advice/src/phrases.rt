@@ -72,7 +72,7 @@ fn plain_phrase(kind: FieldKind) -> &'static str
 }
 
 /// How a sentence names the values of the kind.
-pub(crate) fn phrase_of(alloc: Global, kind: FieldKind) -> Result<Vec<u8>, AllocError>
+pub fn phrase_of(alloc: Global, kind: FieldKind) -> Result<Vec<u8>, AllocError>
     ensures { IfOk result (λ text. text.items ≡ phrase_of kind) }
 {
     match range_of(kind) {

@@ -128,8 +128,8 @@ fn missing_text(alloc: Global, field: Field) -> Result<Vec<u8>, AllocError>
     Ok(text)
 }
 
-/// What the cause means, after what was found.
-fn meaning_of(alloc: Global, cause: Cause) -> Result<Vec<u8>, AllocError>
+/// What the cause means, after what was found: it begins with `, but `.
+pub fn meaning_of(alloc: Global, cause: Cause) -> Result<Vec<u8>, AllocError>
     ensures { IfOk result (λ text. text.items ≡ meaning_of cause) }
 {
     match cause {

@@ -170,7 +170,7 @@ fn apart_wrong(command: LineCommand, values: &[GivenValue<'_>]) -> Wrong
 }
 
 /// What is wrong with values of which the command can't be had.
-pub(crate) fn values_wrong(
+pub fn values_wrong(
     alloc: Global,
     command: LineCommand,
     values: &[GivenValue<'_>],

@@ -10,4 +10,5 @@ pub mod Making
 pub mod OpensAs
 pub mod Deciding
 pub mod Looking
+pub mod Seeing
 pub mod Laws

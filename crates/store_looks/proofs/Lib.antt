@@ -1,2 +1,3 @@
 mod Seeing
 pub mod Asked
+mod ReadWhole

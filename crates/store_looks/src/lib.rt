@@ -2,17 +2,20 @@
 //!
 //! [`net_look_at`] gives the text of a look (`office_looks`) at the network of a name. It reads the network and the
 //! book of suspect parameter numbers, and the releases only for a look that depends on them. [`requests_at`] gives the
-//! text of a team's requests (`office_requests`). Both are called in a transaction, and change nothing. An error is out
-//! of memory, what `sqlite` answers, or `InvalidQuery` where the rows are no office's.
+//! text of a team's requests (`office_requests`). [`read_net_at`] reads a network and the book, to report why a command
+//! was refused. All are called in a transaction, and change nothing. An error is out of memory, what `sqlite` answers,
+//! or `InvalidQuery` where the rows are no office's.
 //!
 //! The definitions are of `office_seen`: `View.antt` (what is seen of a network), of `office_looks`: `Looks.antt` (the
 //! text), and of `office_requests`: `Requests.antt`. Those in `specs/` say what is seen of the tables (`Seen.antt`), and
 //! which requests are those of a team (`Asked.antt`).
 #![tactic(auto)]
 
+mod reading;
 mod requests;
 mod shown;
 mod view;
 
+pub use reading::{ReadNet, read_net_at};
 pub use requests::requests_at;
 pub use shown::net_look_at;

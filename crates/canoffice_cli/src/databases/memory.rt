@@ -13,6 +13,7 @@ use crate::answering::{Answers, answer_on, nothing_answered};
 use crate::looking::look_on;
 use crate::migrating::migrate_on;
 use crate::progress::Progress;
+use crate::reasons::Reasons;
 use crate::serving::ServeEnd;
 use office_history::Arrival;
 use office_types::Look;
@@ -84,11 +85,14 @@ impl Databases for MemoryDatabase {
         script: &[u8],
         arrivals: &[Arrival],
         strict: bool,
+        reasons: &mut Reasons,
         progress: &mut Progress<W>,
     ) -> Result<Answers, AllocError> {
         match self.taken() {
             Ok(conn) => {
-                let (reported, conn) = answer_on(alloc, conn, script, arrivals, strict, progress);
+                let (reported, conn) = answer_on(
+                    alloc, conn, script, arrivals, strict, reasons, progress,
+                );
                 self.conn = Some(conn);
                 reported
             }
@@ -125,6 +129,7 @@ impl Databases for MemoryDatabase {
         _path: &str,
         _port: u16,
         _count: u32,
+        _explain: bool,
     ) -> Result<(), ServeEnd> {
         Err(ServeEnd::CannotListen)
     }

@@ -4,13 +4,14 @@ use Rattle.sqlite.specs.Held.{state}
 use Rattle.sqlite.specs.State.{HasCleanDisk}
 use Rattle.sqlite_trees.specs.View.{doubt}
 use Rattle.store_tables.specs.Statements.{statistics_of}
-use Rattle.office_history.specs.History.{Answered}
+use Rattle.office_history.specs.History.{Answered, IsLegalHistory}
 use Rattle.store.specs.Holding.{Holding}
-use Rattle.std.specs.Prelude.{IsTrue}
+use Rattle.std.specs.Prelude.{IsFalse, IsTrue}
 use Rattle.canoffice_cli.specs.Answered.{NoneRefused, answered_with}
 use Rattle.canoffice_cli.proofs.answering.answer_all.Given as goal
 
--- the arrivals so far have answers, and the tables hold the history with them
+-- The arrivals so far have answers, and the tables hold the history with them, unless the office has failed and its
+-- connection is closed. In any case that is a legal history.
 abbrev pub invariant-loop-arrival : goal.invariant-loop-arrival
 invariant-loop-arrival g l =
     let old = state g.S.Store l.fn.office.conn in
@@ -22,8 +23,12 @@ invariant-loop-arrival g l =
       each : length l.answers.items ≡ l.arrival-index;
       none : IsTrue l.strict → NoneRefused l.answers.items;
       clean : doubt old.is_clean ≤ doubt now.is_clean;
-      held : HasCleanDisk now → (h : List Answered) → Holding h old
+      held : HasCleanDisk now → (h : List Answered) → Holding h old → IsFalse l.office.failed
           → Holding (h ++ answered_with (take l.arrival-index l.arrivals) l.answers.items) now;
-      statistics : HasCleanDisk now → (h : List Answered) → Holding h old
+      held_open : HasCleanDisk now → (h : List Answered) → Holding h old → IsTrue now.is_open
+          → Holding (h ++ answered_with (take l.arrival-index l.arrivals) l.answers.items) now;
+      legal : HasCleanDisk now → (h : List Answered) → Holding h old
+          → IsLegalHistory (h ++ answered_with (take l.arrival-index l.arrivals) l.answers.items);
+      statistics : HasCleanDisk now → (h : List Answered) → Holding h old → IsTrue now.is_open
           → statistics_of now.now ≡ statistics_of old.now;
     }

@@ -1,27 +1,38 @@
 use Rattle.dbc_advice.specs.ShownPath.{shown_path}
-use Rattle.canoffice_cli.specs.Explaining.{IsStated}
+use Rattle.canoffice_cli.specs.Explaining.{IsExplanation, IsStated}
 use Rattle.canoffice_cli.specs.Performance.{IsTaskOutcome}
-use Rattle.canoffice_cli.proofs.StatedMore.{with_more, without_more}
+use Rattle.canoffice_cli.proofs.StatedMore.{everything, nothing, wrong_line}
 use Rattle.canoffice_cli.proofs.file_jobs.bytes_report.Goals as goal
 
-pub returns-in_ok-report : goal.returns-in_ok-report
-returns-in_ok-report g c =
+pub returns-in-Nothing : goal.returns-in-Nothing
+returns-in-Nothing g c =
     let files = g.F.FileSource.held c.args.files.now in
     let before = g.D.Databases.known c.args.databases.now in
     let after = g.D.Databases.known c.task_report.new.databases in
     let job = c.args.job in
-    with_more job.explain (IsTaskOutcome files before after job.task c.args.bytes.now)
-    (IsStated files job.task (shown_path job.path.now) c.args.bytes.now) c.and_errors.result c.in_ok-report.report
-    c.in_ok-stated.stated.items c.if-job.true c.in_ok-report.ensures
-    (rw (c.as_bytes.ensures.value, c.in_ok-shown.ensures.shown) at c.in_ok-stated.ensures)
-    (rw c.deref.ensures.value at c.and_errors.ensures)
+    let name = shown_path job.path.now in
+    nothing job.advice (IsTaskOutcome files before after job.task c.args.bytes.now)
+    (IsStated files job.task name c.args.bytes.now) (IsExplanation files job.task name c.args.bytes.now)
+    c.task_report.result c.in-Nothing.is c.task_report.ensures
 
-pub returns-else-job : goal.returns-else-job
-returns-else-job g c =
+pub returns-in-WrongLine : goal.returns-in-WrongLine
+returns-in-WrongLine g c =
     let files = g.F.FileSource.held c.args.files.now in
     let before = g.D.Databases.known c.args.databases.now in
-    let after = g.D.Databases.known c.task_report-else-job.new.databases in
+    let after = g.D.Databases.known c.report_at_terminal.new.databases in
     let job = c.args.job in
-    without_more job.explain (IsTaskOutcome files before after job.task c.args.bytes.now)
-    (IsStated files job.task (shown_path job.path.now) c.args.bytes.now) c.task_report-else-job.result
-    c.if-job.false c.task_report-else-job.ensures
+    let name = shown_path job.path.now in
+    wrong_line job.advice (IsTaskOutcome files before after job.task c.args.bytes.now)
+    (IsStated files job.task name c.args.bytes.now) (IsExplanation files job.task name c.args.bytes.now)
+    c.report_at_terminal.result c.in-WrongLine.is c.report_at_terminal.ensures
+
+pub returns-in-Everything : goal.returns-in-Everything
+returns-in-Everything g c =
+    let files = g.F.FileSource.held c.args.files.now in
+    let before = g.D.Databases.known c.args.databases.now in
+    let after = g.D.Databases.known c.full_report.new.databases in
+    let job = c.args.job in
+    let name = shown_path job.path.now in
+    everything job.advice (IsTaskOutcome files before after job.task c.args.bytes.now)
+    (IsStated files job.task name c.args.bytes.now) (IsExplanation files job.task name c.args.bytes.now)
+    c.full_report.result c.in-Everything.is c.full_report.ensures

@@ -6,6 +6,6 @@ use Rattle.dbc_lint.proofs.lines.lines_of.Given as goal
 abbrev pub invariant-loop-remark : goal.invariant-loop-remark
 invariant-loop-remark l = record {
   reached : IsReached l.text l.reached;
-  told : l.lines.items ++ lines_of l.text l.names (drop l.remark-index l.remarks)
+  reported : l.lines.items ++ lines_of l.text l.names (drop l.remark-index l.remarks)
       ≡ lines_of l.text l.names l.remarks;
 }

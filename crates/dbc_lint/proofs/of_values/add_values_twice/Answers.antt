@@ -15,7 +15,7 @@ loop-entry-preserved c =
     record {
       seen = seen_more texts i entry c.loop-entry.seen c.insert.new.self c.loop-entry-test.true c.entry-item.is
           c.loop-entry.invariant.seen c.in_ok-new.ensures.ok;
-      told = remarked_more c.args.words.now c.args.at texts i entry c.loop-entry.seen c.in_ok-new.new
+      reported = remarked_more c.args.words.now c.args.at texts i entry c.loop-entry.seen c.in_ok-new.new
           c.loop-entry.remarks.items c.add_value_twice.new.remarks.items _ here c.loop-entry.invariant.seen
-          c.in_ok-new.ensures.new c.in_ok-add_value_twice.ensures c.loop-entry.invariant.told;
+          c.in_ok-new.ensures.new c.in_ok-add_value_twice.ensures c.loop-entry.invariant.reported;
     }

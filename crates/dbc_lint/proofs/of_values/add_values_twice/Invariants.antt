@@ -7,6 +7,6 @@ use Rattle.dbc_lint.proofs.of_values.add_values_twice.Given as goal
 abbrev pub invariant-loop-entry : goal.invariant-loop-entry
 invariant-loop-entry l = record {
   seen : HasValuesOf (take l.entry-index l.entries) l.seen;
-  told : l.remarks.items ++ values_twice l.words l.at l.entries l.entry-index (drop l.entry-index l.entries)
+  reported : l.remarks.items ++ values_twice l.words l.at l.entries l.entry-index (drop l.entry-index l.entries)
       ≡ l.initial.remarks.items ++ values_twice l.words l.at l.entries 0 l.entries;
 }

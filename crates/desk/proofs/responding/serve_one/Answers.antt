@@ -86,8 +86,8 @@ returns-in-Ok-put_all-clause-served g c clean h holds =
 
 -- ---- a beginning of its response was written
 
-pub returns-clause-devices : goal.returns-clause-devices
-returns-clause-devices g c =
+pub returns-in-Err-clause-devices : goal.returns-in-Err-clause-devices
+returns-in-Err-clause-devices g c =
     let read = c.in_ok-call.ensures.reads in
     record {
       most = read.most;
@@ -96,12 +96,12 @@ returns-clause-devices g c =
       unwritten = not_unwritten _ (λ is. cc) (λ is. cc);
     }
 
-pub returns-clause-kept : goal.returns-clause-kept
-returns-clause-kept g c is =
+pub returns-in-Err-clause-kept : goal.returns-in-Err-clause-kept
+returns-in-Err-clause-kept g c is =
     elim is [ inl failed ↦ c.response_to.ensures.refused failed | inr unread ↦ cc ]
 
-pub returns-clause-refused : goal.returns-clause-refused
-returns-clause-refused g c failed =
+pub returns-in-Err-clause-refused : goal.returns-in-Err-clause-refused
+returns-in-Err-clause-refused g c failed =
     let reported = g.W.Sink.reported in
     let refusal = c.deref.ensures.value ∙ c.in-Ok.ensures.failed failed in (
       seen c.in_ok-call.call,
@@ -109,8 +109,8 @@ returns-clause-refused g c failed =
       subst (AppendsFront (reported c.args.sink.now) (reported c.put_all.new.sink)) refusal c.in-Err.ensures.front,
     )
 
-pub returns-clause-served : goal.returns-clause-served
-returns-clause-served g c clean h holds =
+pub returns-in-Err-clause-served : goal.returns-in-Err-clause-served
+returns-in-Err-clause-served g c clean h holds =
     let text = c.deref.result.now in
     let s = state g.S.Store c.response_to.new.office.conn in
     let requested = seen c.in_ok-call.call in

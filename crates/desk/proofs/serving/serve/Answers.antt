@@ -4,7 +4,9 @@ use Rattle.sqlite.specs.State.{HasCleanDisk}
 use Rattle.std.specs.Prelude.{IsTrue}
 use Rattle.store.proofs.ListOfArrivals.{KeepThose, keep_at_first, keep_more}
 use Rattle.desk.specs.Serving.{HasServedAll, NoneWaits, SaysFailure}
-use Rattle.desk.proofs.Turns.{served_none, served_then, says_nothing, says_then, visits_none, visits_still, visits_then}
+use Rattle.desk.proofs.Noted.{fails_still, served_still}
+use Rattle.desk.proofs.Turns.{served_none, served_then, says_nothing, says_then, visit_still, visits_none, visits_still}
+use Rattle.desk.proofs.Turns.{visits_then}
 use Rattle.desk.proofs.serving.serve.Goals as goal
 
 pub loop-served-init : goal.loop-served-init
@@ -25,39 +27,61 @@ loop-served-preserved g c =
     let i = c.loop-served.invariant in
     let w = i.so_far in
     let a = c.in-Ok.ensures in
+    let alone = c.report.ensures in
     let one = a.served in
-    let mid = state g.S.Store c.loop-served.office.conn in
-    let now = state g.S.Store c.serve_next.new.office.conn in
-    let failed_mid = c.loop-served.office.failed in
-    let failed_now = c.serve_next.new.office.failed in
+    let before = c.loop-served.office in
+    let next = c.serve_next.new.office in
+    let now = c.report.new.office in
     let once = one.2.fails_once in
+    let stays_next = fails_still before next a.refused in
+    let stays_now = fails_still next now alone.refused in
     record {
-      clean = let early = i.clean in omega (arith, early, a.clean);
-      stated = says_then c.args.office.now.failed failed_mid failed_now w.0 _ _ _ w.2.fails_once i.stated
+      clean = let early = i.clean in let served = a.clean in let read = alone.clean in omega (arith, early, served, read);
+      stated = says_then c.args.office.now.failed before.failed now.failed w.0 _ _ _ w.2.fails_once i.stated
           (rw (← c.is_failed-had_failed.ensures) (rw (← c.is_failed.ensures) c.say_failure.ensures))
-          (λ is. subst IsTrue (sym (ap (λ o. o.failed) (a.refused is))) is);
+          (λ is. stays_now (stays_next is));
       so_far = (
         w.0 ++ one.0 ∷ [],
         let all = length-append w.0 (one.0 ∷ []) in let n = w.1 in omega (arith, all, n),
-        visits_then g.L.Listener _ _ _ _ failed_mid failed_now w.0 one.0 w.2 one.2,
+        visits_then g.L.Listener _ _ _ _ before.failed now.failed w.0 one.0 w.2
+            (visit_still g.L.Listener _ _ _ next.failed now.failed one.0 one.2 stays_now),
         λ clean h holding.
-            let early : HasCleanDisk mid = omega (arith, a.clean, clean) in
-            served_then h w.0 one.0 failed_mid mid failed_now now (record {
+            let mid : HasCleanDisk (state g.S.Store next.conn) =
+            let read = alone.clean in omega (arith, read, clean) in
+            let early : HasCleanDisk (state g.S.Store before.conn) =
+            let served = a.clean in omega (arith, served, mid) in
+            served_still g.S.Store h (w.0 ++ one.0 ∷ []) next now alone clean
+            (served_then h w.0 one.0 before.failed (state g.S.Store before.conn) next.failed (state g.S.Store next.conn)
+            (record {
               before = once.0;
               refused = λ is. (ap (λ o. o.failed) (a.refused is), ap (λ o. state g.S.Store o.conn) (a.refused is));
-              leads = one.3 clean;
-              opened = a.open clean;
-            }) (w.3 early h holding),
+              leads = one.3 mid;
+              opened = a.open mid;
+            }) (w.3 early h holding)),
       );
       statistics = λ clean h holding.
-          let early : HasCleanDisk mid = omega (arith, a.clean, clean) in
-          let served = w.3 early h holding in
-          keep_more g.S.Store (state g.S.Store c.args.office.now.conn) c.loop-served.office c.serve_next.new.office
-          a.refused
+          let mid : HasCleanDisk (state g.S.Store next.conn) = let read = alone.clean in omega (arith, read, clean) in
+          let early : HasCleanDisk (state g.S.Store before.conn) = let served = a.clean in omega (arith, served, mid) in
+          let ran = w.3 early h holding in
+          let ran_next = served_then h w.0 one.0 before.failed (state g.S.Store before.conn) next.failed
+          (state g.S.Store next.conn)
+          (record {
+            before = once.0;
+            refused = λ is. (ap (λ o. o.failed) (a.refused is), ap (λ o. state g.S.Store o.conn) (a.refused is));
+            leads = one.3 mid;
+            opened = a.open mid;
+          }) ran in
+          keep_more g.S.Store (state g.S.Store c.args.office.now.conn) next now alone.refused
           (λ working. record {
-            is_open = served.is_open working;
-            office = (served.held (served.is_open working)).keeps.office;
-          }) (i.statistics early h holding) (a.statistics clean) clean a.statistics_left;
+            is_open = ran_next.is_open working;
+            office = (ran_next.held (ran_next.is_open working)).keeps.office;
+          })
+          (keep_more g.S.Store (state g.S.Store c.args.office.now.conn) before next a.refused
+          (λ working. record {
+            is_open = ran.is_open working;
+            office = (ran.held (ran.is_open working)).keeps.office;
+          }) (i.statistics early h holding) (a.statistics mid) mid a.statistics_left)
+          (alone.statistics clean) clean alone.statistics_left;
     }
 
 pub returns-in-Err-clause-stated : goal.returns-in-Err-clause-stated

@@ -86,8 +86,8 @@ returns-in-Ok-call_read-clause-reads g c =
       count = c.in-Ok-read_until.ensures.reads.count ∙ c.in-Ok-Some.ensures.reads.count;
     }
 
-pub returns-clause-reads : goal.returns-clause-reads
-returns-clause-reads g c =
+pub returns-in-Err-call_read-clause-reads : goal.returns-in-Err-call_read-clause-reads
+returns-in-Err-call_read-clause-reads g c =
     let got = c.read_head.new.got.items in
     let head : IsHeadAt got c.read_head.new.headers c.in-Ok-Some.spans =
     rw c.in-Ok-Some.field-0-is at c.in-Ok-Some.ensures.head in

@@ -1,0 +1,151 @@
+-- What clap's matches and errors say of the job and of the fault.
+use Rattle.std.proofs.Common.{◌≡◌, ◌∷◌, map, ◌⊎◌, inl, inr, ap, Bool, List, Option, Some, None, codes, option_map, refl}
+use Rattle.std.proofs.Common.{subst, true, false, sym, ◌∙◌}
+use Rattle.std.specs.Prelude.{find}
+use Rattle.std.specs.Borrow.{Bor}
+use Rattle.std.specs.Option.{IsSome, option_map_or}
+use Rattle.std.specs.Str.{bytes_eq}
+use Rattle.std.proofs.lemmas.Slice.Eq.{bytes_eq-Decides}
+use Rattle.std.specs.Prelude.{Box}
+use Rattle.std.specs.Box.{box_value}
+use Rattle.clap.specs.Simple.{subcommand_rows}
+use Rattle.clap.specs.declared.parser.matches.ArgMatches.{ArgMatches}
+use Rattle.clap.specs.declared.parser.matches.ArgMatches.TheViews.{out-ArgMatches, out-SubCommand}
+use Rattle.clap.specs.declared.parser.matches.SubCommand.{SubCommand}
+use Rattle.clap.specs.Words.{App, subcommand_name_of, subcommand_rows_of, IsAmong, Row, Text, all_of, matched_of}
+use Rattle.clap.specs.Words.{raw_values, first_value, fault_of, first_of, is_simple_and_free, rows_of}
+use Rattle.clap.specs.declared.error.kind.ErrorKind.{ErrorKind}
+use Rattle.clap.specs.declared.error.kind.ErrorKind.TheVariants.{OutOfMemory, ValueValidation}
+use Rattle.canoffice_jobs.specs.CommandLine.{ComparesInput, HasSome, HasUnknownRemark, HasWrongNumber, IsEntered}
+use Rattle.canoffice_jobs.specs.CommandLine.{IsFaultOfKind}
+use Rattle.canoffice_jobs.specs.CommandLine.{IsJobFault, IsWhole}
+use Rattle.canoffice_jobs.specs.CommandLine.{LooksWrongly, are_absent, are_files, canoffice_app, is_set, line_faults}
+use Rattle.canoffice_jobs.specs.declared.job.JobFault.{JobFault}
+use Rattle.canoffice_jobs.specs.declared.job.JobFault.TheVariants.{Help, Usage, Memory}
+use Rattle.clap.specs.declared.parser.matches.Found.{Found}
+use Rattle.clap.proofs.WalkLemmas.{first_value-rows, raw_values-rows}
+
+-- the value that a getter gives is the one that is in the rows
+pub value_in_rows : (f : Found) (id text : Text) → first_value f id ≡ Some text → first_of id (rows_of f) ≡ Some text
+value_in_rows f id text e = sym (first_value-rows f id) ∙ e
+
+-- and of an argument that may be absent, there is one in the rows where the getter gives one
+pub optional_in_rows : (f : Found) (id : Text) (r : Option Text) → r ≡ first_value f id → first_of id (rows_of f) ≡ r
+optional_in_rows f id r e = sym (first_value-rows f id) ∙ sym e
+
+pub files_in_rows : (f : Found) (a b c : Option Text) → a ≡ first_value f (codes "db")
+    → b ≡ first_value f (codes "port") → c ≡ first_value f (codes "N") → are_absent a b c ≡ are_files (rows_of f)
+files_in_rows f a b c db port number =
+    rw (
+      optional_in_rows f (codes "db") a db,
+      optional_in_rows f (codes "port") b port,
+      optional_in_rows f (codes "N") c number,
+    )
+    refl
+
+-- a flag is set where the value that a getter gives is `true`
+abbrev means_set : Option Text → Bool
+means_set value = option_map_or (λ v. bytes_eq v (codes "true")) value false
+
+pub flag_in_rows : (f : Found) (id : Text) (r : Option (Bor Text)) → option_map (λ s. s.now) r ≡ first_value f id
+    → means_set (option_map (λ s. s.now) r) ≡ is_set (rows_of f) id
+flag_in_rows f id r e = ap means_set (e ∙ first_value-rows f id)
+
+-- the values that a getter gives are those that are in the rows
+pub values_in_rows : (f : Found) (id : Text) (vs : List Text) → option_map raw_values (matched_of f id) ≡ Some vs
+    → all_of id (rows_of f) ≡ Some vs
+values_in_rows f id vs e = sym (raw_values-rows f id) ∙ e
+
+module _ {Z : Type 0} where
+  pair_of_parts : (sub : Option (Box SubCommand Z)) (name : Text) (rows : List Row)
+      → Some name ≡ option_map (λ b. (out-SubCommand (box_value b)).name.now) sub
+      → Some rows ≡ option_map (λ p. p.1) (subcommand_rows sub) → subcommand_rows sub ≡ Some (name, rows)
+  pair_of_parts None name rows a b = cc
+  pair_of_parts (Some sub) name rows a b = cc
+
+-- the subcommand that a parse entered has this name and these rows
+pub found_pair : (m : ArgMatches) (name : Text) (rows : List Row) → Some name ≡ subcommand_name_of m
+    → Some rows ≡ option_map (λ p. p.1) (subcommand_rows_of m)
+    → subcommand_rows_of m ≡ Some (name, rows)
+found_pair m name rows a b = pair_of_parts (out-ArgMatches m).subcommand name rows a b
+
+-- a fault of the kind of clap's error is one that the words have
+pub line_fault_of : (words : List Text) (kind : ErrorKind) (fault : JobFault) → (kind ≡ OutOfMemory)
+    ⊎ IsAmong kind (line_faults words) → IsFaultOfKind kind fault → IsJobFault words fault
+line_fault_of words kind (Help text) (inl memory) (inl help) = cc
+line_fault_of words kind (Help text) (inl memory) (inr version) = cc
+line_fault_of words kind (Help text) (inr among) (inl help) =
+    inl (subst (λ k. IsAmong k (line_faults words)) help among)
+line_fault_of words kind (Help text) (inr among) (inr version) =
+    inr (subst (λ k. IsAmong k (line_faults words)) version among)
+line_fault_of words kind (Usage text) (inl memory) is = absurd (is.2 memory)
+line_fault_of words kind (Usage text) (inr among) is = inl (kind, is.0, is.1, among)
+line_fault_of words kind Memory has is = tt
+
+-- a wrong number of the subcommand that was entered is one that the words have
+pub wrong_number_of : (words : List Text) (word : Text) (fault : JobFault) → HasWrongNumber words word
+    → IsFaultOfKind ValueValidation fault → IsJobFault words fault
+wrong_number_of words word (Help text) has (inl help) = cc
+wrong_number_of words word (Help text) has (inr version) = cc
+wrong_number_of words word (Usage text) has is = inr (inl (word, has))
+wrong_number_of words word Memory has is = tt
+
+-- and so is what looks wrongly in it
+pub wrong_look_of : (words : List Text) (fault : JobFault) → LooksWrongly words → IsFaultOfKind ValueValidation fault
+    → IsJobFault words fault
+wrong_look_of words (Help text) has (inl help) = cc
+wrong_look_of words (Help text) has (inr version) = cc
+wrong_look_of words (Usage text) has is = inr (inr (inl has))
+wrong_look_of words Memory has is = tt
+
+-- and so is the first name that no kind of remark has
+pub unknown_remark_of : (words : List Text) (word : Text) (fault : JobFault) → HasUnknownRemark words word
+    → IsFaultOfKind ValueValidation fault → IsJobFault words fault
+unknown_remark_of words word (Help text) has (inl help) = cc
+unknown_remark_of words word (Help text) has (inr version) = cc
+unknown_remark_of words word (Usage text) has is = inr (inr (inr (inl (word, has))))
+unknown_remark_of words word Memory has is = tt
+
+-- and so is that it reads standard input twice
+pub input_twice_of : (words : List Text) (fault : JobFault) → ComparesInput words → IsFaultOfKind ValueValidation fault
+    → IsJobFault words fault
+input_twice_of words (Help text) has (inl help) = cc
+input_twice_of words (Help text) has (inr version) = cc
+input_twice_of words (Usage text) has is = inr (inr (inr (inr has)))
+input_twice_of words Memory has is = tt
+
+is_simple_line : is_simple_and_free canoffice_app ≡ true
+is_simple_line = refl
+
+-- clap says the kind of its error for each simple command line, and this one is simple
+pub line_fault_by : (app : App) (words : List Text) (kind : ErrorKind) (fault : JobFault) → app ≡ canoffice_app
+    → (is_simple_and_free app ≡ true → (kind ≡ OutOfMemory) ⊎ IsAmong kind (fault_of app words))
+    → IsFaultOfKind kind fault → IsJobFault words fault
+line_fault_by app words kind fault same kinds is =
+    let known = subst (λ a. is_simple_and_free a ≡ true → (kind ≡ OutOfMemory) ⊎ IsAmong kind (fault_of a words)) same
+    kinds in
+    line_fault_of words kind fault (known is_simple_line) is
+
+-- ---- what is there where clap finds no fault
+
+-- an argument that has a value is given by its getter
+pub text_is_given : (f : Found) (id : Text) (r : Option (Bor Text)) → option_map (λ s. s.now) r ≡ first_value f id
+    → HasSome (rows_of f) id → IsSome r
+text_is_given f id None is h = let bad : None ≡ Some h.0 = is ∙ first_value-rows f id ∙ h.2 in cc
+text_is_given f id (Some text) is h = refl
+
+-- and so are all its values
+pub texts_are_given : (f : Found) (id : Text) (r : Option (Bor (List (Bor Text))))
+    → option_map (λ s. map (λ v. v.now) s.now) r ≡ option_map raw_values (matched_of f id)
+    → HasSome (rows_of f) id → IsSome r
+texts_are_given f id None is h = let bad : None ≡ Some (h.0 ∷ h.1) = is ∙ raw_values-rows f id ∙ h.3 in cc
+texts_are_given f id (Some texts) is h = refl
+
+-- the subcommand that was entered is the program's own of that name, with all that it needs
+pub entered_by_name : (m : ArgMatches) (name : Text) (rows : List Row) (known : Text) → Some name ≡ subcommand_name_of m
+    → Some rows ≡ option_map (λ p. p.1) (subcommand_rows_of m)
+    → bytes_eq name known ≡ true → IsEntered (subcommand_rows_of m)
+    → IsWhole (find (λ s. bytes_eq known s.name) canoffice_app.subs) rows
+entered_by_name m name rows known a b same entered =
+    let by_name : IsEntered (Some (name, rows)) = subst IsEntered (found_pair m name rows a b) entered in
+    subst (λ n. IsEntered (Some (n, rows))) ((bytes_eq-Decides name known).0 same) by_name

@@ -1,0 +1,10 @@
+pub mod ThreeWords
+pub mod CommandLine
+pub mod LineExamples
+pub mod Commands
+pub mod NoFault
+pub mod FilledRows
+pub mod FilledWalk
+pub mod GivenValues
+pub mod EnteredSubcommand
+pub mod EnteredLine

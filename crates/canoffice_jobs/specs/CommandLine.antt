@@ -1,0 +1,392 @@
+-- The command line of the program, which job its words request, and which fault they have.
+use Rattle.std.specs.Prelude.{◌≡◌, ◌≢◌, ◌⊎◌, ℕ, Bool, List, [], ◌∷◌, find, map, codes, Option, Some, None, option_map}
+use Rattle.std.specs.Prelude.{true, false, not, is_none, ◌&&◌, if◌then◌else◌, Result, Ok, Err}
+use Rattle.std.specs.Option.{option_and_then, option_map_or}
+use Rattle.std.specs.Str.{bytes_eq}
+use Rattle.clap.specs.Lexer.{usize_max}
+use Rattle.clap.specs.Words.{App, Shape, IsAmong, Kinds, Row, Rule, Text, all_of, fault_of, first_of, new_app, new_rule}
+use Rattle.clap.specs.Words.{subcommand_of, with_rule, with_subcommand}
+use Rattle.clap.specs.Simple.{on_top}
+use Rattle.clap.specs.declared.builder.action.ArgAction.TheVariants.{SetTrue}
+use Rattle.clap.specs.declared.error.kind.ErrorKind.{ErrorKind}
+use Rattle.clap.specs.declared.error.kind.ErrorKind.TheVariants.{DisplayHelp, DisplayVersion, OutOfMemory}
+use Rattle.office_views.specs.Word.{length_of}
+use Rattle.canoffice_jobs.specs.declared.job.Job.{Job}
+use Rattle.canoffice_jobs.specs.declared.job.Job.TheVariants.{Apply, Chart, Check, Compare, CompareReleases, Export}
+use Rattle.canoffice_jobs.specs.declared.job.Job.TheVariants.{Format, Migrate, Requests, Send, Serve, Show, Table}
+use Rattle.canoffice_jobs.specs.declared.job.JobFault.{JobFault}
+use Rattle.canoffice_jobs.specs.declared.job.JobFault.TheVariants.{Help, Usage, Memory}
+use Rattle.canoffice_jobs.specs.declared.job.ValueFault.{ValueFault}
+use Rattle.canoffice_jobs.specs.declared.job.ValueFault.TheVariants as value
+use Rattle.canoffice_jobs.specs.declared.manner.Manner.{Manner}
+use Rattle.canoffice_jobs.specs.declared.place.Place.{Place}
+use Rattle.canoffice_jobs.specs.Numbers.{count_given, port_given, release_number, tries_given}
+use Rattle.canoffice_jobs.specs.Place.{IsNoPlace, IsPlace}
+use Rattle.canoffice_looks.specs.What.{shown_by}
+use Rattle.dbc_lint.specs.Kind.{first_unknown}
+
+-- ---- the description for clap
+
+-- a positional argument that may be left out
+abbrev pub optional_word : Text → Rule
+optional_word id = new_rule id
+
+-- a required positional argument
+abbrev pub required_word : Text → Rule
+required_word id = record (new_rule id) { required = true }
+
+-- a required positional argument that takes all further words, at least one
+abbrev pub required_words : Text → Rule
+required_words id = record (required_word id)
+    { range = Some (record { start_inclusive = 1; end_inclusive = usize_max }) }
+
+-- an option `--id VALUE`
+abbrev pub option_word : Text → Rule
+option_word id = record (new_rule id) { long = Some id; value_names = 1 }
+
+-- the same, required
+abbrev pub required_option : Text → Rule
+required_option id = record (option_word id) { required = true }
+
+-- a flag `--id`
+abbrev pub flag : Text → Rule
+flag id = record (new_rule id) { long = Some id; action = Some SetTrue }
+
+-- the flag `--explain`
+abbrev pub explain_flag : Rule
+explain_flag = flag (codes "explain")
+
+-- --strict and --echo
+abbrev pub with_manner : App → App
+with_manner app = with_rule (with_rule app (flag (codes "strict"))) (flag (codes "echo"))
+
+-- --db FILE and --port N
+abbrev pub with_place : App → App
+with_place app = with_rule (with_rule app (option_word (codes "db"))) (option_word (codes "port"))
+
+-- apply [--db FILE] [--explain] [--strict] [--echo] SCRIPT
+abbrev pub apply_app : App
+apply_app = with_rule
+    (with_manner (with_rule (with_rule (new_app (codes "apply")) (option_word (codes "db"))) explain_flag))
+    (required_word (codes "SCRIPT"))
+
+-- chart LENGTH SIGNAL..
+abbrev pub chart_app : App
+chart_app = with_rule (with_rule (new_app (codes "chart")) (required_word (codes "LENGTH")))
+    (required_words (codes "SIGNAL"))
+
+-- check [--explain] [--lint[=NAME,..]] FILE
+abbrev pub check_app : App
+check_app = with_rule (with_rule (with_rule (new_app (codes "check")) explain_flag) (option_word (codes "lint")))
+    (required_word (codes "FILE"))
+
+-- A B [N]
+abbrev pub with_compared : App → App
+with_compared app = with_rule (with_rule (with_rule app (required_word (codes "A"))) (required_word (codes "B")))
+    (optional_word (codes "N"))
+
+-- compare A B, or compare (--db FILE | --port N) NET M N
+abbrev pub compare_app : App
+compare_app = with_compared (with_place (new_app (codes "compare")))
+
+-- export --db FILE NET N
+abbrev pub export_app : App
+export_app = with_rule (with_rule (with_rule (new_app (codes "export")) (required_option (codes "db")))
+    (required_word (codes "NET"))) (required_word (codes "N"))
+
+-- format [--explain] FILE
+abbrev pub format_app : App
+format_app = with_rule (with_rule (new_app (codes "format")) explain_flag) (required_word (codes "FILE"))
+
+-- migrate --db FILE
+abbrev pub migrate_app : App
+migrate_app = with_rule (new_app (codes "migrate")) (required_option (codes "db"))
+
+-- requests (--db FILE | --port N) TEAM
+abbrev pub requests_app : App
+requests_app = with_rule (with_place (new_app (codes "requests"))) (required_word (codes "TEAM"))
+
+-- send [--port N] [--tries N] [--strict] [--echo] SCRIPT
+abbrev pub send_app : App
+send_app = with_rule (with_manner (with_rule (with_rule (new_app (codes "send")) (option_word (codes "port")))
+    (option_word (codes "tries")))) (required_word (codes "SCRIPT"))
+
+-- --port N and --count N
+abbrev pub with_listening : App → App
+with_listening app = with_rule (with_rule app (option_word (codes "port"))) (option_word (codes "count"))
+
+-- serve --db FILE [--port N] [--count N] [--explain]
+abbrev pub serve_app : App
+serve_app = with_rule (with_listening (with_rule (new_app (codes "serve")) (required_option (codes "db")))) explain_flag
+
+-- [NET [WHAT [NAME]]]
+abbrev pub with_sought : App → App
+with_sought app = with_rule (with_rule (with_rule app (optional_word (codes "NET"))) (optional_word (codes "WHAT")))
+    (optional_word (codes "NAME"))
+
+-- show (--db FILE | --port N) [NET [WHAT [NAME]]]
+abbrev pub show_app : App
+show_app = with_sought (with_place (new_app (codes "show")))
+
+-- table FILE
+abbrev pub table_app : App
+table_app = with_rule (new_app (codes "table")) (required_word (codes "FILE"))
+
+-- `--version` and `-V` request the version
+abbrev pub with_version : App → App
+with_version = on_top (λ s. record s { has_version = true })
+
+-- a subcommand is required, and without any argument the help is printed
+abbrev pub wants_subcommand : App → App
+wants_subcommand = on_top (λ s. record s { subcommand_required = true; arg_required_else_help = true })
+
+-- canoffice apply .., chart .., check .., compare .., export .., format .., migrate .., requests .., send .., serve ..,
+-- show .., table ..
+abbrev pub canoffice_app : App
+canoffice_app =
+    let to_apply = with_subcommand (wants_subcommand (with_version (new_app (codes "canoffice")))) apply_app.top in
+    let to_chart = with_subcommand to_apply chart_app.top in
+    let to_check = with_subcommand to_chart check_app.top in
+    let to_compare = with_subcommand to_check compare_app.top in
+    let to_export = with_subcommand to_compare export_app.top in
+    let to_format = with_subcommand to_export format_app.top in
+    let to_migrate = with_subcommand to_format migrate_app.top in
+    let to_requests = with_subcommand to_migrate requests_app.top in
+    let to_send = with_subcommand to_requests send_app.top in
+    let to_serve = with_subcommand to_send serve_app.top in
+    let to_show = with_subcommand to_serve show_app.top in
+    with_subcommand to_show table_app.top
+
+-- ---- the words that clap is given
+
+abbrev pub is_check : List Text → Bool
+is_check (program ∷ name ∷ words) = bytes_eq name (codes "check")
+is_check words = false
+
+-- whether options may follow: after `--` there are none
+abbrev pub has_options : Bool → Text → Bool
+has_options before word = before && not (bytes_eq word (codes "--"))
+
+-- `--lint` alone is `--lint=`, by which no kind of remark is named. It is given to clap so, since its contracts don't
+-- describe an option whose value may be left out.
+abbrev pub lint_word : Bool → Text → Text
+lint_word options word = if options && bytes_eq word (codes "--lint") then codes "--lint=" else word
+
+abbrev pub lint_entered : Bool → List Text → List Text
+lint_entered options [] = []
+lint_entered options (word ∷ words) =
+    lint_word (has_options options word) word ∷ lint_entered (has_options options word) words
+
+abbrev pub entered : List Text → List Text
+entered words = if is_check words then lint_entered true words else words
+
+-- the kinds of fault that clap finds in the words
+abbrev pub line_faults : List Text → Kinds
+line_faults words = fault_of canoffice_app words
+
+-- ---- the job that the words request
+
+-- the argument of this name has this value
+abbrev pub HasValue : List Row → Text → Text → Type 0
+HasValue rows id text = first_of id rows ≡ Some text
+
+-- the argument of this name has these values, in order
+abbrev pub HasValues : List Row → Text → List Text → Type 0
+HasValues rows id texts = all_of id rows ≡ Some texts
+
+-- whether a flag was given: its value is `true` then
+abbrev pub is_set : List Row → Text → Bool
+is_set rows id = option_map_or (λ value. bytes_eq value (codes "true")) (first_of id rows) false
+
+-- how a script is applied, by the flags
+abbrev pub manner_in : List Row → Manner
+manner_in rows = record { strict = is_set rows (codes "strict"); echo = is_set rows (codes "echo") }
+
+-- the values of `--db` and `--port` name the place
+abbrev pub IsPlaceIn : Place → List Row → Type 0
+IsPlaceIn place rows = IsPlace place (first_of (codes "db") rows) (first_of (codes "port") rows)
+
+-- two files are compared: neither a place is given nor the number of a second release
+abbrev pub are_absent : Option Text → Option Text → Option Text → Bool
+are_absent database port number = is_none database && (is_none port && is_none number)
+
+abbrev pub are_files : List Row → Bool
+are_files rows = are_absent (first_of (codes "db") rows) (first_of (codes "port") rows) (first_of (codes "N") rows)
+
+-- both paths are standard input, which is read once
+abbrev pub are_input : Text → Text → Bool
+are_input old new = bytes_eq old (codes "-") && bytes_eq new (codes "-")
+
+-- the job is the subcommand, with the values of its arguments, and the numbers that they give
+abbrev pub IsJobOf : Job → Text → List Row → Type 0
+IsJobOf (Apply database script explain manner) name rows =
+    (name ≡ codes "apply") × (first_of (codes "db") rows ≡ option_map (λ path. path.now) database)
+    × HasValue rows (codes "SCRIPT") script.now
+    × (explain ≡ is_set rows (codes "explain"))
+    × (manner ≡ manner_in rows)
+IsJobOf (Chart length signals) name rows =
+    (name ≡ codes "chart") × (option_and_then length_of (first_of (codes "LENGTH") rows) ≡ Some length)
+    × HasValues rows (codes "SIGNAL") (map (λ s. s.now) signals.items)
+IsJobOf (Check file explain lint) name rows = (name ≡ codes "check") × HasValue rows (codes "FILE") file.now
+    × (explain ≡ is_set rows (codes "explain"))
+    × (first_of (codes "lint") rows ≡ option_map (λ names. names.now) lint)
+    × (option_and_then first_unknown (first_of (codes "lint") rows) ≡ None)
+IsJobOf (Compare old new) name rows =
+    (name ≡ codes "compare") × (are_files rows ≡ true) × HasValue rows (codes "A") old.now
+    × HasValue rows (codes "B") new.now × (are_input old.now new.now ≡ false)
+IsJobOf (CompareReleases place net old new) name rows =
+    (name ≡ codes "compare") × IsPlaceIn place rows × HasValue rows (codes "A") net.now
+    × (option_and_then release_number (first_of (codes "B") rows) ≡ Some old)
+    × (option_and_then release_number (first_of (codes "N") rows) ≡ Some new)
+IsJobOf (Export database net number) name rows =
+    (name ≡ codes "export") × HasValue rows (codes "db") database.now × HasValue rows (codes "NET") net.now
+    × (option_and_then release_number (first_of (codes "N") rows) ≡ Some number)
+IsJobOf (Format file explain) name rows = (name ≡ codes "format") × HasValue rows (codes "FILE") file.now
+    × (explain ≡ is_set rows (codes "explain"))
+IsJobOf (Migrate database) name rows = (name ≡ codes "migrate") × HasValue rows (codes "db") database.now
+IsJobOf (Requests place team) name rows =
+    (name ≡ codes "requests") × IsPlaceIn place rows × HasValue rows (codes "TEAM") team.now
+IsJobOf (Send sending script) name rows =
+    (name ≡ codes "send") × HasValue rows (codes "SCRIPT") script.now
+    × (port_given (first_of (codes "port") rows) ≡ Some sending.port)
+    × (tries_given (first_of (codes "tries") rows) ≡ Some sending.tries)
+    × (sending.manner ≡ manner_in rows)
+IsJobOf (Serve database port count explain) name rows =
+    (name ≡ codes "serve") × HasValue rows (codes "db") database.now
+    × (port_given (first_of (codes "port") rows) ≡ Some port)
+    × (count_given (first_of (codes "count") rows) ≡ Some count)
+    × (explain ≡ is_set rows (codes "explain"))
+IsJobOf (Show place net what named) name rows =
+    (name ≡ codes "show") × IsPlaceIn place rows
+    × (first_of (codes "NET") rows ≡ option_map (λ word. word.now) net)
+    × (first_of (codes "NAME") rows ≡ option_map (λ word. word.now) named)
+    × (shown_by (first_of (codes "WHAT") rows) (first_of (codes "NAME") rows) ≡ Some what)
+IsJobOf (Table file) name rows = (name ≡ codes "table") × HasValue rows (codes "FILE") file.now
+
+-- the job of the subcommand that was found, with its values
+abbrev pub IsJobIn : Option (Text × List Row) → Job → Type 0
+IsJobIn found job = (name : Text) × (rows : List Row) × (found ≡ Some (name, rows)) × IsJobOf job name rows
+
+-- clap finds no fault in the words, and the job is the subcommand and the values that it finds in them
+abbrev pub IsJob : List Text → Job → Type 0
+IsJob words job = (line_faults words ≡ []) × IsJobIn (subcommand_of canoffice_app words) job
+
+-- ---- what clap's matches have if it finds no fault
+
+-- the argument of this name has a value, and its values are these
+abbrev pub HasSome : List Row → Text → Type 0
+HasSome rows id = (v : Text) × (vs : List Text) × HasValue rows id v × HasValues rows id (v ∷ vs)
+
+-- each required argument has a value
+abbrev pub HasRequired : List Rule → List Row → Type 0
+HasRequired [] rows = Unit {0}
+HasRequired (r ∷ rs) rows = (r.required ≡ true → HasSome rows r.id) × HasRequired rs rows
+
+-- some subcommand, with all its required arguments
+abbrev pub IsWhole : Option Shape → List Row → Type 0
+IsWhole None rows = ⊥
+IsWhole (Some s) rows = HasRequired s.rules rows
+
+-- one of the subcommands was entered, with all its required arguments
+abbrev pub IsEntered : Option (Text × List Row) → Type 0
+IsEntered None = ⊥
+IsEntered (Some found) = IsWhole (find (λ s. bytes_eq found.0 s.name) canoffice_app.subs) found.1
+
+-- ---- the fault of words that request no job
+
+-- the fault for clap's error of this kind
+abbrev pub IsFaultOfKind : ErrorKind → JobFault → Type 0
+IsFaultOfKind kind (Help text) = (kind ≡ DisplayHelp) ⊎ (kind ≡ DisplayVersion)
+IsFaultOfKind kind (Usage text) = (kind ≢ DisplayHelp) × (kind ≢ DisplayVersion) × (kind ≢ OutOfMemory)
+IsFaultOfKind kind Memory = Unit {0}
+
+-- of the subcommand with these arguments, the word for a number gives none in its range; the older release is looked at
+-- before the newer one, and the port before the count and before the tries
+abbrev pub IsWrongNumber : Text → List Row → Text → Type 0
+IsWrongNumber name rows word =
+    ((name ≡ codes "chart") × HasValue rows (codes "LENGTH") word × (length_of word ≡ None))
+    ⊎ ((name ≡ codes "compare") × (are_files rows ≡ false) × HasValue rows (codes "B") word
+    × (release_number word ≡ None))
+    ⊎ ((name ≡ codes "compare") × HasValue rows (codes "N") word × (release_number word ≡ None)
+    × (old : ℕ) × (option_and_then release_number (first_of (codes "B") rows) ≡ Some old))
+    ⊎ ((name ≡ codes "export") × HasValue rows (codes "N") word × (release_number word ≡ None))
+    ⊎ ((name ≡ codes "send") × HasValue rows (codes "port") word × (port_given (Some word) ≡ None))
+    ⊎ ((name ≡ codes "send") × HasValue rows (codes "tries") word × (tries_given (Some word) ≡ None)
+    × (port : ℕ) × (port_given (first_of (codes "port") rows) ≡ Some port))
+    ⊎ ((name ≡ codes "serve") × HasValue rows (codes "port") word × (port_given (Some word) ≡ None))
+    ⊎ ((name ≡ codes "serve") × HasValue rows (codes "count") word × (count_given (Some word) ≡ None)
+    × (port : ℕ) × (port_given (first_of (codes "port") rows) ≡ Some port))
+
+-- the subcommand with these arguments looks at an office, but the values of `--db` and `--port` name no place, or there
+-- is no second release to compare, or nothing is shown by the words
+abbrev pub IsWrongLook : Text → List Row → Type 0
+IsWrongLook name rows =
+    (((name ≡ codes "requests") ⊎ (name ≡ codes "show"))
+    × IsNoPlace (first_of (codes "db") rows) (first_of (codes "port") rows))
+    ⊎ ((name ≡ codes "compare") × (are_files rows ≡ false)
+    × (IsNoPlace (first_of (codes "db") rows) (first_of (codes "port") rows) ⊎ (first_of (codes "N") rows ≡ None)))
+    ⊎ ((name ≡ codes "show") × (shown_by (first_of (codes "WHAT") rows) (first_of (codes "NAME") rows) ≡ None))
+
+-- the subcommand with these arguments is to print remarks, but this is the first of their names that no kind has
+abbrev pub IsUnknownRemark : Text → List Row → Text → Type 0
+IsUnknownRemark name rows word =
+    (name ≡ codes "check") × (option_and_then first_unknown (first_of (codes "lint") rows) ≡ Some word)
+
+-- the subcommand with these arguments is to compare two files that are both standard input
+abbrev pub ReadsTwice : Text → List Row → Type 0
+ReadsTwice name rows =
+    (name ≡ codes "compare") × (are_files rows ≡ true) × (old : Text) × (new : Text) × HasValue rows (codes "A") old
+    × HasValue rows (codes "B") new × (are_input old new ≡ true)
+
+-- the subcommand with these arguments makes no job: a word is a wrong number, or it looks wrongly, or it names no kind
+-- of remark, or it reads standard input twice, or there was no memory for a chart's signals
+abbrev pub IsValueFault : Text → List Row → ValueFault → Type 0
+IsValueFault name rows (value.WrongNumber number word) = IsWrongNumber name rows word.now
+IsValueFault name rows (value.WrongPlace command fault) = IsWrongLook name rows
+IsValueFault name rows (value.WrongWhat fault) = IsWrongLook name rows
+IsValueFault name rows (value.UnknownRemark word) = IsUnknownRemark name rows word.now
+IsValueFault name rows value.InputTwice = ReadsTwice name rows
+IsValueFault name rows value.Memory = name ≡ codes "chart"
+
+abbrev pub IsValueFaultIn : Option (Text × List Row) → ValueFault → Type 0
+IsValueFaultIn found fault = (name : Text) × (rows : List Row) × (found ≡ Some (name, rows))
+    × IsValueFault name rows fault
+
+-- clap finds no fault in the words, but this word of them is a wrong number
+abbrev pub HasWrongNumber : List Text → Text → Type 0
+HasWrongNumber words word =
+    (line_faults words ≡ []) × (name : Text) × (rows : List Row)
+    × (subcommand_of canoffice_app words ≡ Some (name, rows)) × IsWrongNumber name rows word
+
+-- clap finds no fault in the words, but they look wrongly
+abbrev pub LooksWrongly : List Text → Type 0
+LooksWrongly words =
+    (line_faults words ≡ []) × (name : Text) × (rows : List Row)
+    × (subcommand_of canoffice_app words ≡ Some (name, rows)) × IsWrongLook name rows
+
+-- clap finds no fault in the words, but this is the first of the names of remarks that no kind has
+abbrev pub HasUnknownRemark : List Text → Text → Type 0
+HasUnknownRemark words word =
+    (line_faults words ≡ []) × (name : Text) × (rows : List Row)
+    × (subcommand_of canoffice_app words ≡ Some (name, rows)) × IsUnknownRemark name rows word
+
+-- clap finds no fault in the words, but they compare two files that are both standard input
+abbrev pub ComparesInput : List Text → Type 0
+ComparesInput words =
+    (line_faults words ≡ []) × (name : Text) × (rows : List Row)
+    × (subcommand_of canoffice_app words ≡ Some (name, rows)) × ReadsTwice name rows
+
+-- the words request help, or the version; or they have a fault of another kind, or a wrong number, or look wrongly, or
+-- name no kind of remark, or compare standard input with itself; or memory ran out
+abbrev pub IsJobFault : List Text → JobFault → Type 0
+IsJobFault words (Help text) = IsAmong DisplayHelp (line_faults words) ⊎ IsAmong DisplayVersion (line_faults words)
+IsJobFault words (Usage text) =
+    ((kind : ErrorKind) × (kind ≢ DisplayHelp) × (kind ≢ DisplayVersion) × IsAmong kind (line_faults words))
+    ⊎ ((word : Text) × HasWrongNumber words word) ⊎ LooksWrongly words
+    ⊎ ((word : Text) × HasUnknownRemark words word) ⊎ ComparesInput words
+IsJobFault words Memory = Unit {0}
+
+-- the words request a job, or have a fault
+abbrev pub IsLine : List Text → Result Job JobFault → Type 0
+IsLine words (Ok job) = IsJob words job
+IsLine words (Err fault) = IsJobFault words fault

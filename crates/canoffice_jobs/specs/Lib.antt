@@ -1,0 +1,4 @@
+pub mod Numbers
+pub mod Place
+pub mod CommandLine
+pub mod Meant

@@ -1,0 +1,649 @@
+//! The job that the words of the command line request.
+ghost use Rattle.std.specs.Prelude.{◌≡◌, IfOk, IfErr, None, Some, map, option_and_then, codes};
+ghost use Rattle.std.specs.Option.{option_map};
+ghost use Rattle.clap.specs.Words.{found_of, kind_of, rows_of, subcommand_rows_of};
+ghost use Rattle.canoffice_jobs.specs.CommandLine.{HasSome, IsEntered, IsJob, IsJobIn, IsJobOf, IsFaultOfKind};
+ghost use Rattle.canoffice_jobs.specs.CommandLine.{IsJobFault, IsValueFault, IsValueFaultIn, are_absent, are_files, are_input};
+ghost use Rattle.canoffice_jobs.specs.CommandLine.{is_set, manner_in};
+ghost use Rattle.dbc_lint.specs.Kind.{first_unknown};
+
+use crate::command_line::{canoffice_command, check_command};
+use crate::manner::{Manner, Sending};
+use crate::numbers::{Number, count_given, length_given, port_given, release_number, tries_given};
+use crate::place::{LookCommand, Place, PlaceFault, place_given};
+use crate::remarks::remark_refusal;
+use canoffice_looks::{What, WhatFault, shown_by};
+use clap::error::ErrorKind;
+use clap::{ArgMatches, Command, Error};
+use dbc_lint::first_unknown;
+use std::alloc::{AllocError, Global};
+
+/// What the program is to do: a subcommand with the values of its arguments.
+#[derive(Drop)]
+pub enum Job<'a> {
+    /// Apply the lines of the script in the file of this name.
+    Apply {
+        /// The path of the office's database; without one the office is in memory.
+        database: Option<&'a str>,
+        /// The path of the script, or `-`.
+        script: &'a str,
+        /// Whether a wrong line is explained.
+        explain: bool,
+        /// How it is applied.
+        manner: Manner,
+    },
+    /// Print the chart of the signals that the words describe, in a message of this length.
+    Chart {
+        /// The length, 0 to 1785 bytes.
+        length: u16,
+        /// The words that describe the signals.
+        signals: Vec<&'a str>,
+    },
+    /// Check the DBC text in the file of this name.
+    Check {
+        /// The path of the file, or `-`.
+        file: &'a str,
+        /// Whether faults and clashes are explained.
+        explain: bool,
+        /// The names of the kinds of remarks that are printed, with commas between them, or `""` for all of them;
+        /// `None` where no remark is printed.
+        lint: Option<&'a str>,
+    },
+    /// Print what changed from the one DBC text to the other.
+    Compare {
+        /// The path of the older file, or `-`.
+        old: &'a str,
+        /// The path of the newer file, or `-`.
+        new: &'a str,
+    },
+    /// Print what changed from one release of a network to another.
+    CompareReleases {
+        /// Where the office is looked at.
+        place: Place<'a>,
+        /// The word that names the network.
+        net: &'a str,
+        /// The number of the older release, 1 to 65535, or 0 for the live sheet.
+        old: u32,
+        /// The same of the newer one.
+        new: u32,
+    },
+    /// Print a release of a network, or its live sheet.
+    Export {
+        /// The path of the office's database.
+        database: &'a str,
+        /// The word that names the network.
+        net: &'a str,
+        /// The number of the release, 1 to 65535, or 0 for the live sheet.
+        number: u32,
+    },
+    /// Print the canonical text of the DBC text in the file of this name.
+    Format {
+        /// The path of the file, or `-`.
+        file: &'a str,
+        /// Whether faults are explained, and what is left out is reported.
+        explain: bool,
+    },
+    /// Make a database of an earlier version one of this version.
+    Migrate {
+        /// The path of the office's database.
+        database: &'a str,
+    },
+    /// Print the requests of a team with their replies.
+    Requests {
+        /// Where the office is looked at.
+        place: Place<'a>,
+        /// The word that names the team.
+        team: &'a str,
+    },
+    /// Send the lines of the script in the file of this name to a desk.
+    Send {
+        /// To which desk, and how.
+        sending: Sending,
+        /// The path of the script, or `-`.
+        script: &'a str,
+    },
+    /// Serve the office over HTTP.
+    Serve {
+        /// The path of the office's database.
+        database: &'a str,
+        /// The port of this machine, from 1.
+        port: u16,
+        /// The count of connections, 1 to 1000000.
+        count: u32,
+        /// Whether each answer other than 200 is reported.
+        explain: bool,
+    },
+    /// Print what a network has, or the list of networks.
+    Show {
+        /// Where the office is looked at.
+        place: Place<'a>,
+        /// The word that names the network; without one the networks are listed.
+        net: Option<&'a str>,
+        /// What is shown of the network.
+        what: What,
+        /// The word after it, if there is one.
+        name: Option<&'a str>,
+    },
+    /// Print the table of the messages of the DBC text in the file of this name.
+    Table {
+        /// The path of the file, or `-`.
+        file: &'a str,
+    },
+}
+
+/// Why the words of the command line request no job.
+#[derive(Debug, Drop)]
+pub enum JobFault {
+    /// They request help, or the version, and this is its text.
+    Help(String),
+    /// They are wrong; this text explains the error and the usage.
+    Usage(String),
+    /// Memory ran out.
+    Memory,
+}
+
+/// Why the values of a subcommand make no job.
+#[derive(Clone, Copy, Debug)]
+enum ValueFault<'a> {
+    /// This word gives no such number, in its range.
+    WrongNumber(Number, &'a str),
+    /// The values of `--db` and `--port` name no place for this subcommand.
+    WrongPlace(LookCommand, PlaceFault<'a>),
+    /// Nothing is shown by the words of `show`.
+    WrongWhat(WhatFault<'a>),
+    /// No kind of remark has this name.
+    UnknownRemark(&'a str),
+    /// Both files that are compared are standard input.
+    InputTwice,
+    /// Memory ran out.
+    Memory,
+}
+
+/// The job that the program's words request, each number in its range. The first word is the program's own name.
+///
+/// The result is a job exactly if clap finds no fault in the words, each word for a number gives one in its range, the
+/// words of a subcommand that looks name a place and something that is shown, the names of remarks are those of kinds,
+/// and two files aren't both standard input, unless memory runs out: it is `Help` only if they request help or the version, and `Usage` only if they have
+/// another fault. The text is clap's, and no clause describes it.
+pub fn job_of<'a>(alloc: Global, words: &'a [&'a str]) -> Result<Job<'a>, JobFault>
+    ensures job { IfOk result (IsJob (map (λ s. s.now) words.entry.now)) }
+    ensures fault { IfErr result (IsJobFault (map (λ s. s.now) words.entry.now)) }
+{
+    let Ok(command) = canoffice_command(alloc) else {
+        return Err(JobFault::Memory);
+    };
+    match command.try_get_matches_from(words) {
+        Ok(matches) => match job_in(alloc, &matches) {
+            Ok(job) => Ok(job),
+            Err(ValueFault::WrongNumber(number, word)) => Err(wrong_number(alloc, number, word)),
+            Err(ValueFault::WrongPlace(command, fault)) => Err(wrong_place(alloc, command, fault)),
+            Err(ValueFault::WrongWhat(fault)) => Err(wrong_what(alloc, fault)),
+            Err(ValueFault::UnknownRemark(word)) => Err(unknown_remark(alloc, word)),
+            Err(ValueFault::InputTwice) => Err(input_twice(alloc)),
+            Err(ValueFault::Memory) => Err(JobFault::Memory),
+        },
+        Err(error) => Err(line_fault(alloc, &error)),
+    }
+}
+
+/// The fault of arguments that aren't UTF-8, so that they can't be read as words: `Usage`, unless memory runs out.
+pub fn not_utf8_fault(alloc: Global) -> JobFault
+    ensures { IsFaultOfKind ErrorKind.ValueValidation result }
+{
+    let message = "invalid UTF-8 was detected in one or more arguments";
+    match canoffice_command(alloc) {
+        Ok(command) => validation_fault(alloc, command, message),
+        Err(AllocError) => JobFault::Memory,
+    }
+}
+
+/// The fault that the word gives no such number, in its range: `Usage`, that of the number's subcommand, unless memory
+/// runs out.
+fn wrong_number(alloc: Global, number: Number, word: &str) -> JobFault
+    ensures { IsFaultOfKind ErrorKind.ValueValidation result }
+{
+    let Ok(message) = number.refusal(alloc, word) else {
+        return JobFault::Memory;
+    };
+    match number.subcommand(alloc) {
+        Ok(command) => validation_fault(alloc, command, &message),
+        Err(AllocError) => JobFault::Memory,
+    }
+}
+
+/// The fault that the values of `--db` and `--port` name no place: `Usage`, that of the subcommand, unless memory runs
+/// out.
+fn wrong_place(alloc: Global, command: LookCommand, fault: PlaceFault<'_>) -> JobFault
+    ensures { IsFaultOfKind ErrorKind.ValueValidation result }
+{
+    let Ok(message) = fault.message(alloc) else {
+        return JobFault::Memory;
+    };
+    match command.command(alloc) {
+        Ok(command) => validation_fault(alloc, command, &message),
+        Err(AllocError) => JobFault::Memory,
+    }
+}
+
+/// The fault that nothing is shown by the words of `show`: `Usage`, unless memory runs out.
+fn wrong_what(alloc: Global, fault: WhatFault<'_>) -> JobFault
+    ensures { IsFaultOfKind ErrorKind.ValueValidation result }
+{
+    let Ok(message) = fault.message(alloc) else {
+        return JobFault::Memory;
+    };
+    match LookCommand::Show.command(alloc) {
+        Ok(command) => validation_fault(alloc, command, &message),
+        Err(AllocError) => JobFault::Memory,
+    }
+}
+
+/// The fault that no kind of remark has the name: `Usage`, unless memory runs out.
+fn unknown_remark(alloc: Global, word: &str) -> JobFault
+    ensures { IsFaultOfKind ErrorKind.ValueValidation result }
+{
+    let Ok(message) = remark_refusal(alloc, word) else {
+        return JobFault::Memory;
+    };
+    match check_command(alloc) {
+        Ok(command) => match command.bin_name("canoffice check") {
+            Ok(named) => validation_fault(alloc, named, &message),
+            Err(AllocError) => JobFault::Memory,
+        },
+        Err(AllocError) => JobFault::Memory,
+    }
+}
+
+/// The fault that both files that are compared are standard input, which is read once: `Usage`, unless memory runs out.
+fn input_twice(alloc: Global) -> JobFault
+    ensures { IsFaultOfKind ErrorKind.ValueValidation result }
+{
+    let message = "invalid value '-' for '<B>': standard input is read once";
+    match LookCommand::Compare.command(alloc) {
+        Ok(command) => validation_fault(alloc, command, message),
+        Err(AllocError) => JobFault::Memory,
+    }
+}
+
+/// The fault that a word isn't as it must be, with the text that clap makes of the message and the command's usage.
+fn validation_fault(alloc: Global, command: Command<'_>, message: &str) -> JobFault
+    ensures { IsFaultOfKind ErrorKind.ValueValidation result }
+{
+    let mut command = command;
+    match command.error(ErrorKind::ValueValidation, message) {
+        Ok(error) => line_fault(alloc, &error),
+        Err(_) => JobFault::Memory,
+    }
+}
+
+/// The fault for clap's error, with clap's text.
+fn line_fault(alloc: Global, error: &Error) -> JobFault
+    ensures { IsFaultOfKind (kind_of error.now) result }
+{
+    let Ok(text) = error.to_string(alloc) else {
+        return JobFault::Memory;
+    };
+    match error.kind() {
+        ErrorKind::OutOfMemory => JobFault::Memory,
+        ErrorKind::DisplayHelp | ErrorKind::DisplayVersion => JobFault::Help(text),
+        _ => JobFault::Usage(text),
+    }
+}
+
+/// The job of the subcommand that was entered, which is one of the program's, with all its required arguments. The
+/// error is the first word that gives no number in its range, or why the words of a subcommand that looks name nothing,
+/// or the first name that no kind of remark has, or that two files are both standard input. Only the list of a chart's
+/// signals takes memory, so no other subcommand can end as out of memory here.
+#[tactic(auto, using(crate::proofs::CommandLine::found_pair))]
+fn job_in<'a>(alloc: Global, matches: &ArgMatches<'a>) -> Result<Job<'a>, ValueFault<'a>>
+    requires { IsEntered (subcommand_rows_of matches.now) }
+    ensures job { IfOk result (IsJobIn (subcommand_rows_of matches.now)) }
+    ensures fault { IfErr result (IsValueFaultIn (subcommand_rows_of matches.now)) }
+{
+    let Some((name, found)) = matches.subcommand() else {
+        unreachable!("clap wants a subcommand")
+    };
+    if name == "apply" {
+        return Ok(apply_job(found));
+    }
+    if name == "chart" {
+        return chart_job(alloc, found);
+    }
+    if name == "check" {
+        return check_job(found);
+    }
+    if name == "compare" {
+        return compare_job(found);
+    }
+    if name == "export" {
+        return export_job(found);
+    }
+    if name == "format" {
+        return Ok(format_job(found));
+    }
+    if name == "migrate" {
+        return Ok(migrate_job(found));
+    }
+    if name == "requests" {
+        return requests_job(found);
+    }
+    if name == "send" {
+        return send_job(found);
+    }
+    if name == "serve" {
+        return serve_job(found);
+    }
+    if name == "show" {
+        return show_job(found);
+    }
+    if name == "table" {
+        return Ok(table_job(found));
+    }
+    unreachable!("clap knows no other subcommand")
+}
+
+/// Whether the flag was given.
+#[tactic(auto, using(crate::proofs::CommandLine::flag_in_rows))]
+fn is_set(found: &ArgMatches, id: &str) -> bool
+    ensures { result ≡ is_set (rows_of (found_of found.now)) id.now }
+{
+    match found.get_str(id) {
+        Some(value) => value == "true",
+        None => false,
+    }
+}
+
+/// How a script is applied, by the flags.
+fn manner_given(found: &ArgMatches) -> Manner
+    ensures { result ≡ manner_in (rows_of (found_of found.now)) }
+{
+    let strict = is_set(found, "strict");
+    let echo = is_set(found, "echo");
+    Manner { strict, echo }
+}
+
+/// `apply [--db FILE] [--explain] [--strict] [--echo] SCRIPT`
+#[tactic(auto, using(crate::proofs::CommandLine::value_in_rows, crate::proofs::CommandLine::optional_in_rows, crate::proofs::CommandLine::text_is_given))]
+fn apply_job<'a>(found: &ArgMatches<'a>) -> Job<'a>
+    requires { HasSome (rows_of (found_of found.now)) (codes "SCRIPT") }
+    ensures { IsJobOf result (codes "apply") (rows_of (found_of found.now)) }
+{
+    let database = found.get_str("db");
+    let script = found.get_str("SCRIPT").unwrap();
+    let explain = is_set(found, "explain");
+    let manner = manner_given(found);
+    Job::Apply {
+        database,
+        script,
+        explain,
+        manner,
+    }
+}
+
+/// `chart LENGTH SIGNAL..`
+#[tactic(auto, using(crate::proofs::CommandLine::optional_in_rows, crate::proofs::CommandLine::text_is_given, crate::proofs::CommandLine::texts_are_given))]
+fn chart_job<'a>(alloc: Global, found: &ArgMatches<'a>) -> Result<Job<'a>, ValueFault<'a>>
+    requires length { HasSome (rows_of (found_of found.now)) (codes "LENGTH") }
+    requires signals { HasSome (rows_of (found_of found.now)) (codes "SIGNAL") }
+    ensures job { IfOk result (λ job. IsJobOf job (codes "chart") (rows_of (found_of found.now))) }
+    ensures fault { IfErr result (IsValueFault (codes "chart") (rows_of (found_of found.now))) }
+{
+    let words = found.get_strs("SIGNAL").unwrap();
+    let word = found.get_str("LENGTH").unwrap();
+    let Some(length) = length_given(word) else {
+        return Err(ValueFault::WrongNumber(Number::Length, word));
+    };
+    match Vec::from_slice(alloc, words) {
+        Ok(signals) => Ok(Job::Chart { length, signals }),
+        Err(AllocError) => Err(ValueFault::Memory),
+    }
+}
+
+/// The names of the kinds of remarks, each of which a kind has; `None` where no remark is printed. The error is the
+/// first of the names that no kind has.
+fn lint_given(names: Option<&str>) -> Result<Option<&str>, &str>
+    ensures given { IfOk result (λ lint. (lint ≡ names.entry)
+        × (option_and_then first_unknown (option_map (λ n. n.now) names.entry) ≡ None)) }
+    ensures unknown { IfErr result (λ word. option_and_then first_unknown
+        (option_map (λ n. n.now) names.entry) ≡ Some word.now) }
+{
+    let Some(text) = names else {
+        return Ok(None);
+    };
+    match first_unknown(text) {
+        Some(word) => Err(word),
+        None => Ok(names),
+    }
+}
+
+/// `check [--explain] [--lint[=NAME,..]] FILE`
+#[tactic(auto, using(crate::proofs::CommandLine::value_in_rows, crate::proofs::CommandLine::optional_in_rows, crate::proofs::CommandLine::text_is_given))]
+fn check_job<'a>(found: &ArgMatches<'a>) -> Result<Job<'a>, ValueFault<'a>>
+    requires { HasSome (rows_of (found_of found.now)) (codes "FILE") }
+    ensures job { IfOk result (λ job. IsJobOf job (codes "check") (rows_of (found_of found.now))) }
+    ensures fault { IfErr result (IsValueFault (codes "check") (rows_of (found_of found.now))) }
+{
+    let file = found.get_str("FILE").unwrap();
+    let explain = is_set(found, "explain");
+    match lint_given(found.get_str("lint")) {
+        Ok(lint) => Ok(Job::Check {
+            file,
+            explain,
+            lint,
+        }),
+        Err(word) => Err(ValueFault::UnknownRemark(word)),
+    }
+}
+
+/// Whether none of the three is given.
+fn are_absent(database: Option<&str>, port: Option<&str>, number: Option<&str>) -> bool
+    ensures { result ≡ are_absent (option_map (λ w. w.now) database.entry)
+        (option_map (λ w. w.now) port.entry)
+        (option_map (λ w. w.now) number.entry) }
+{
+    match database {
+        Some(_) => false,
+        None => match port {
+            Some(_) => false,
+            None => number.is_none(),
+        },
+    }
+}
+
+/// Whether two files are compared: neither a place is given nor the number of a second release.
+fn are_files(found: &ArgMatches) -> bool
+    ensures { result ≡ are_files (rows_of (found_of found.now)) }
+{
+    are_absent(
+        found.get_str("db"),
+        found.get_str("port"),
+        found.get_str("N"),
+    )
+}
+
+/// Whether both paths are standard input.
+fn are_input(old: &str, new: &str) -> bool
+    ensures { result ≡ are_input old.now new.now }
+{
+    old == "-" && new == "-"
+}
+
+/// `compare A B`, or `compare (--db FILE | --port N) NET M N`
+#[tactic(auto, using(crate::proofs::CommandLine::value_in_rows, crate::proofs::CommandLine::optional_in_rows, crate::proofs::CommandLine::text_is_given))]
+fn compare_job<'a>(found: &ArgMatches<'a>) -> Result<Job<'a>, ValueFault<'a>>
+    requires first { HasSome (rows_of (found_of found.now)) (codes "A") }
+    requires second { HasSome (rows_of (found_of found.now)) (codes "B") }
+    ensures job { IfOk result (λ job. IsJobOf job (codes "compare") (rows_of (found_of found.now))) }
+    ensures fault { IfErr result (IsValueFault (codes "compare") (rows_of (found_of found.now))) }
+{
+    let first = found.get_str("A").unwrap();
+    let second = found.get_str("B").unwrap();
+    if are_files(found) {
+        if are_input(first, second) {
+            return Err(ValueFault::InputTwice);
+        }
+        return Ok(Job::Compare {
+            old: first,
+            new: second,
+        });
+    }
+    let place = match place_given(found.get_str("db"), found.get_str("port")) {
+        Ok(place) => place,
+        Err(fault) => return Err(ValueFault::WrongPlace(LookCommand::Compare, fault)),
+    };
+    let Some(third) = found.get_str("N") else {
+        return Err(ValueFault::WrongPlace(LookCommand::Compare, PlaceFault::NoRelease));
+    };
+    let Some(old) = release_number(second) else {
+        return Err(ValueFault::WrongNumber(Number::OlderRelease, second));
+    };
+    match release_number(third) {
+        Some(new) => Ok(Job::CompareReleases {
+            place,
+            net: first,
+            old,
+            new,
+        }),
+        None => Err(ValueFault::WrongNumber(Number::NewerRelease, third)),
+    }
+}
+
+/// `export --db FILE NET N`
+#[tactic(auto, using(crate::proofs::CommandLine::value_in_rows, crate::proofs::CommandLine::optional_in_rows, crate::proofs::CommandLine::text_is_given))]
+fn export_job<'a>(found: &ArgMatches<'a>) -> Result<Job<'a>, ValueFault<'a>>
+    requires database { HasSome (rows_of (found_of found.now)) (codes "db") }
+    requires net { HasSome (rows_of (found_of found.now)) (codes "NET") }
+    requires number { HasSome (rows_of (found_of found.now)) (codes "N") }
+    ensures job { IfOk result (λ job. IsJobOf job (codes "export") (rows_of (found_of found.now))) }
+    ensures fault { IfErr result (IsValueFault (codes "export") (rows_of (found_of found.now))) }
+{
+    let database = found.get_str("db").unwrap();
+    let net = found.get_str("NET").unwrap();
+    let word = found.get_str("N").unwrap();
+    match release_number(word) {
+        Some(number) => Ok(Job::Export {
+            database,
+            net,
+            number,
+        }),
+        None => Err(ValueFault::WrongNumber(Number::Release, word)),
+    }
+}
+
+/// `format [--explain] FILE`
+#[tactic(auto, using(crate::proofs::CommandLine::value_in_rows, crate::proofs::CommandLine::text_is_given))]
+fn format_job<'a>(found: &ArgMatches<'a>) -> Job<'a>
+    requires { HasSome (rows_of (found_of found.now)) (codes "FILE") }
+    ensures { IsJobOf result (codes "format") (rows_of (found_of found.now)) }
+{
+    let file = found.get_str("FILE").unwrap();
+    let explain = is_set(found, "explain");
+    Job::Format { file, explain }
+}
+
+/// `migrate --db FILE`
+#[tactic(auto, using(crate::proofs::CommandLine::value_in_rows, crate::proofs::CommandLine::text_is_given))]
+fn migrate_job<'a>(found: &ArgMatches<'a>) -> Job<'a>
+    requires { HasSome (rows_of (found_of found.now)) (codes "db") }
+    ensures { IsJobOf result (codes "migrate") (rows_of (found_of found.now)) }
+{
+    let database = found.get_str("db").unwrap();
+    Job::Migrate { database }
+}
+
+/// `requests (--db FILE | --port N) TEAM`
+#[tactic(auto, using(crate::proofs::CommandLine::value_in_rows, crate::proofs::CommandLine::optional_in_rows, crate::proofs::CommandLine::text_is_given))]
+fn requests_job<'a>(found: &ArgMatches<'a>) -> Result<Job<'a>, ValueFault<'a>>
+    requires { HasSome (rows_of (found_of found.now)) (codes "TEAM") }
+    ensures job { IfOk result (λ job. IsJobOf job (codes "requests") (rows_of (found_of found.now))) }
+    ensures fault { IfErr result (IsValueFault (codes "requests") (rows_of (found_of found.now))) }
+{
+    let team = found.get_str("TEAM").unwrap();
+    match place_given(found.get_str("db"), found.get_str("port")) {
+        Ok(place) => Ok(Job::Requests { place, team }),
+        Err(fault) => Err(ValueFault::WrongPlace(LookCommand::Requests, fault)),
+    }
+}
+
+/// `send [--port N] [--tries N] [--strict] [--echo] SCRIPT`
+#[tactic(auto, using(crate::proofs::CommandLine::value_in_rows, crate::proofs::CommandLine::optional_in_rows, crate::proofs::CommandLine::text_is_given))]
+fn send_job<'a>(found: &ArgMatches<'a>) -> Result<Job<'a>, ValueFault<'a>>
+    requires { HasSome (rows_of (found_of found.now)) (codes "SCRIPT") }
+    ensures job { IfOk result (λ job. IsJobOf job (codes "send") (rows_of (found_of found.now))) }
+    ensures fault { IfErr result (IsValueFault (codes "send") (rows_of (found_of found.now))) }
+{
+    let script = found.get_str("SCRIPT").unwrap();
+    let port = match port_given(found.get_str("port")) {
+        Ok(port) => port,
+        Err(word) => return Err(ValueFault::WrongNumber(Number::SendPort, word)),
+    };
+    let manner = manner_given(found);
+    match tries_given(found.get_str("tries")) {
+        Ok(tries) => {
+            let sending = Sending {
+                port,
+                tries,
+                manner,
+            };
+            Ok(Job::Send { sending, script })
+        }
+        Err(word) => Err(ValueFault::WrongNumber(Number::Tries, word)),
+    }
+}
+
+/// `serve --db FILE [--port N] [--count N] [--explain]`
+#[tactic(auto, using(crate::proofs::CommandLine::value_in_rows, crate::proofs::CommandLine::optional_in_rows, crate::proofs::CommandLine::text_is_given))]
+fn serve_job<'a>(found: &ArgMatches<'a>) -> Result<Job<'a>, ValueFault<'a>>
+    requires { HasSome (rows_of (found_of found.now)) (codes "db") }
+    ensures job { IfOk result (λ job. IsJobOf job (codes "serve") (rows_of (found_of found.now))) }
+    ensures fault { IfErr result (IsValueFault (codes "serve") (rows_of (found_of found.now))) }
+{
+    let database = found.get_str("db").unwrap();
+    let port = match port_given(found.get_str("port")) {
+        Ok(port) => port,
+        Err(word) => return Err(ValueFault::WrongNumber(Number::Port, word)),
+    };
+    let explain = is_set(found, "explain");
+    match count_given(found.get_str("count")) {
+        Ok(count) => Ok(Job::Serve {
+            database,
+            port,
+            count,
+            explain,
+        }),
+        Err(word) => Err(ValueFault::WrongNumber(Number::Count, word)),
+    }
+}
+
+/// `show (--db FILE | --port N) [NET [WHAT [NAME]]]`
+#[tactic(auto, using(crate::proofs::CommandLine::optional_in_rows))]
+fn show_job<'a>(found: &ArgMatches<'a>) -> Result<Job<'a>, ValueFault<'a>>
+    ensures job { IfOk result (λ job. IsJobOf job (codes "show") (rows_of (found_of found.now))) }
+    ensures fault { IfErr result (IsValueFault (codes "show") (rows_of (found_of found.now))) }
+{
+    let place = match place_given(found.get_str("db"), found.get_str("port")) {
+        Ok(place) => place,
+        Err(fault) => return Err(ValueFault::WrongPlace(LookCommand::Show, fault)),
+    };
+    let net = found.get_str("NET");
+    let name = found.get_str("NAME");
+    match shown_by(found.get_str("WHAT"), name) {
+        Ok(what) => Ok(Job::Show {
+            place,
+            net,
+            what,
+            name,
+        }),
+        Err(fault) => Err(ValueFault::WrongWhat(fault)),
+    }
+}
+
+/// `table FILE`
+#[tactic(auto, using(crate::proofs::CommandLine::value_in_rows, crate::proofs::CommandLine::text_is_given))]
+fn table_job<'a>(found: &ArgMatches<'a>) -> Job<'a>
+    requires { HasSome (rows_of (found_of found.now)) (codes "FILE") }
+    ensures { IsJobOf result (codes "table") (rows_of (found_of found.now)) }
+{
+    let file = found.get_str("FILE").unwrap();
+    Job::Table { file }
+}

@@ -1,0 +1,24 @@
+//! The jobs of the program `canoffice`: what the words of its command line request.
+//!
+//! - `command_line` describes the subcommands and their arguments for clap.
+//! - `job` turns the words into a `Job` with the values of its arguments, or into a `JobFault`.
+//! - `numbers` has the ranges of the numbers that words give, `place` where an office is looked at, and `manner` how a
+//!   script is applied or sent.
+//! - `meant` and `remarks` have the words that are read as others: `help --help`, and `--lint` without names.
+//!
+//! `specs/CommandLine.antt` has the same in terms of what clap finds in the words: `IsLine`.
+#![tactic(auto)]
+
+mod command_line;
+mod job;
+mod manner;
+mod meant;
+mod numbers;
+mod place;
+mod remarks;
+
+pub use job::{Job, JobFault, job_of, not_utf8_fault};
+pub use manner::{Manner, Sending};
+pub use meant::name_before_help;
+pub use place::Place;
+pub use remarks::{is_check, lint_entered};

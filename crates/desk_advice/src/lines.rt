@@ -1,0 +1,151 @@
+//! The line of a request that isn't answered by 200.
+ghost use Rattle.std.specs.Prelude.{IfOk, IfSome};
+ghost use Rattle.desk_advice.specs.Line.{IsLine};
+
+use crate::bodies::body_wrong;
+use crate::heads::{HeadParts, demand_wrong, head_of};
+use crate::looks::look_wrong;
+use crate::pieces::{as_line, shown, text_in, text_of};
+use crate::reasons::{is_reported, refused_text};
+use crate::refused::{refused_of, status_of};
+use crate::senders::{key_bytes, key_wrong, team_bytes, team_wrong};
+use desk_call::{Exchange, OfficeRead};
+use desk_head::{Demand, Posting, Routes, first_parameter};
+use office_types::NetName;
+use std::alloc::{AllocError, Global};
+
+/// Why a network of the target isn't named there, if the target has to name one and doesn't.
+fn net_wrong(alloc: Global, posting: Posting, target: &[u8]) -> Result<Option<String>, AllocError> {
+    if let Posting::Act(_) = posting {
+        return Ok(None);
+    }
+    match NetName::of(alloc, first_parameter(target))? {
+        Some(_net) => Ok(None),
+        None => Ok(Some(text_of(
+            alloc,
+            "the network is malformed: 1 to 32 bytes of a to z, 0 to 9 and -",
+        )?)),
+    }
+}
+
+/// Why a request for something to be done, with a body of this length, isn't one.
+fn posting_wrong(
+    alloc: Global,
+    parts: HeadParts<'_>,
+    posting: Posting,
+    length: u32,
+    body: &[u8],
+) -> Result<String, AllocError> {
+    let came = body.len();
+    let Some(body) = body.get(..length as usize) else {
+        return format!(in alloc; "the body has {came} bytes, and Content-Length says {length}");
+    };
+    if let Some(text) = team_wrong(alloc, parts.team)? {
+        return Ok(text);
+    }
+    if let Some(text) = key_wrong(alloc, parts.key)? {
+        return Ok(text);
+    }
+    if let Some(text) = net_wrong(alloc, posting, parts.target)? {
+        return Ok(text);
+    }
+    match body_wrong(alloc, posting, body)? {
+        Some(text) => Ok(text),
+        None => text_of(alloc, "the body gives no command"),
+    }
+}
+
+/// Why a request with this head isn't one for the office, or shows nothing.
+fn parts_wrong(
+    alloc: Global,
+    parts: HeadParts<'_>,
+    body: &[u8],
+    is_there: Option<bool>,
+) -> Result<String, AllocError> {
+    match parts.demand {
+        Demand::Fails(problem) => demand_wrong(alloc, problem, parts),
+        Demand::Shows(showing) => look_wrong(alloc, showing, parts.target, is_there),
+        Demand::Does(posting, length) => posting_wrong(alloc, parts, posting, length, body),
+    }
+}
+
+/// Why the bytes of a request, those up to the end of its head and those after it, are none, or show nothing: by the
+/// first of the desk's tests that fails. It may be known whether the network is there that is looked at. The error is
+/// out of memory.
+pub fn why(
+    alloc: Global,
+    routes: &Routes,
+    head: &[u8],
+    body: &[u8],
+    is_there: Option<bool>,
+) -> Result<String, AllocError> {
+    match head_of(routes, head) {
+        Ok(parts) => parts_wrong(alloc, parts, body, is_there),
+        Err(text) => text_of(alloc, text),
+    }
+}
+
+/// Why a request was answered so.
+fn reason(
+    alloc: Global,
+    routes: &Routes,
+    exchange: &Exchange,
+    read: Option<OfficeRead<'_>>,
+) -> Result<String, AllocError> {
+    if status_of(&exchange.response) == b"503".as_slice() {
+        return text_of(
+            alloc,
+            "the office could not answer, for want of memory or since its database failed: send it again under its key",
+        );
+    }
+    if let Some(refused) = refused_of(alloc, &exchange.response)? {
+        return refused_text(alloc, routes, exchange, refused, read);
+    }
+    let is_there = match read {
+        Some(read) => Some(read.net.is_some()),
+        None => None,
+    };
+    why(alloc, routes, &exchange.head, &exchange.body, is_there)
+}
+
+/// Bytes that have a form without blanks, or `-`.
+fn or_dash<'b>(bytes: Option<&'b [u8]>) -> &'b str {
+    match bytes {
+        Some(bytes) => text_in(bytes),
+        None => "-",
+    }
+}
+
+/// What comes before the reason: the method, the target, the status, the team and the key.
+fn front_of(alloc: Global, routes: &Routes, exchange: &Exchange) -> Result<String, AllocError> {
+    let status = text_in(status_of(&exchange.response));
+    match head_of(routes, &exchange.head) {
+        Ok(parts) => {
+            let method = shown(alloc, parts.method)?;
+            let target = shown(alloc, parts.target)?;
+            let team = or_dash(team_bytes(alloc, parts.team)?);
+            let key = or_dash(key_bytes(alloc, parts.key)?);
+            format!(in alloc; "{method} {target} {status} {team} {key}")
+        }
+        Err(_) => format!(in alloc; "- - {status} - -"),
+    }
+}
+
+/// The line of an exchange, or `None` where nothing was answered, or by 200: `METHOD TARGET STATUS TEAM KEY: REASON`, by
+/// what was wanted of the office, if that could be read. The error is out of memory.
+pub fn line_of(
+    alloc: Global,
+    routes: &Routes,
+    exchange: &Exchange,
+    read: Option<OfficeRead<'_>>,
+) -> Result<Option<Vec<u8>>, AllocError>
+    ensures { IfOk result (λ line. IfSome line (λ bytes. IsLine bytes.items)) }
+{
+    if !is_reported(exchange) {
+        return Ok(None);
+    }
+    let front = front_of(alloc, routes, exchange)?;
+    let reason = reason(alloc, routes, exchange, read)?;
+    let text = format!(in alloc; "{front}: {reason}")?;
+    Ok(Some(as_line(alloc, text.as_str())?))
+}

@@ -1,0 +1,15 @@
+pub mod Pieces
+pub mod Few
+pub mod Places
+pub mod Blocks
+pub mod Networks
+pub mod Reviews
+pub mod Releases
+pub mod Numbers
+pub mod Messages
+pub mod Signals
+pub mod Bits
+pub mod Files
+pub mod Bundles
+pub mod Plain
+pub mod Kept

@@ -1,0 +1,110 @@
+//! Names, numbers and identifiers in sentences.
+ghost use Rattle.std.specs.Prelude.{◌≡◌, IfOk, map, string_bytes};
+ghost use Rattle.dbc_advice.specs.Sentence.{visible};
+ghost use Rattle.office_types.specs.Block.{is_spn};
+ghost use Rattle.office_reasons.specs.Pieces.{IsSentence, form_word, ident_text, ident_word, kind_word, range_text};
+ghost use Rattle.office_reasons.specs.Pieces.{shown};
+
+use can_id::{Ident, IdentForm};
+use office_types::{Block, BlockForm, NetKind};
+use std::alloc::{AllocError, Global};
+use std::str::from_utf8;
+
+/// The bytes of a name as a text, which they are: no name has others than ASCII.
+pub(crate) fn shown(bytes: &[u8]) -> &str
+    ensures { result.now ≡ shown bytes.now }
+{
+    match from_utf8(bytes) {
+        Ok(text) => text,
+        Err(_) => "?",
+    }
+}
+
+/// A byte as it is shown: a question mark for one that isn't printable ASCII.
+fn visible(byte: u8) -> u8
+    ensures { result ≡ visible byte }
+{
+    if (32..=126).contains(&byte) {
+        byte
+    } else {
+        b'?'
+    }
+}
+
+/// The bytes of a text as they are shown.
+fn visible_bytes(alloc: Global, text: &str) -> Result<Vec<u8>, AllocError>
+    ensures { IfOk result (λ bytes. bytes.items ≡ map visible text.now) }
+{
+    text.as_bytes()
+        .iter()
+        .map(|byte| visible(*byte))
+        .collect(alloc)
+}
+
+/// The text as a sentence, which has one line.
+pub(crate) fn sentence_of(alloc: Global, text: &str) -> Result<Vec<u8>, AllocError>
+    ensures shown { IfOk result (λ sentence. sentence.items ≡ map visible text.now) }
+    ensures sentence { IfOk result (λ sentence. IsSentence sentence.items) }
+{
+    visible_bytes(alloc, text)
+}
+
+/// `256`, or `256 to 258`.
+pub(crate) fn range_text(alloc: Global, block: Block) -> Result<String, AllocError>
+    ensures { IfOk result (λ text. string_bytes text ≡ range_text block) }
+{
+    let Block { first, last } = block;
+    if first == last {
+        format!(in alloc; "{first}")
+    } else {
+        format!(in alloc; "{first} to {last}")
+    }
+}
+
+/// How many bits identifiers of the form have, as scripts write it.
+pub(crate) fn ident_word(form: IdentForm) -> &'static str
+    ensures { result.now ≡ ident_word form }
+{
+    match form {
+        IdentForm::Standard => "std",
+        IdentForm::Extended => "ext",
+    }
+}
+
+/// Whether the numbers are suspect parameter numbers.
+pub(crate) fn is_spn(form: BlockForm) -> bool
+    ensures { result ≡ is_spn form }
+{
+    form == BlockForm::Spn
+}
+
+/// The form of a block, as scripts write it.
+pub(crate) fn form_word(form: BlockForm) -> &'static str
+    ensures { result.now ≡ form_word form }
+{
+    match form {
+        BlockForm::Std => "std",
+        BlockForm::Ext => "ext",
+        BlockForm::Pgn => "pgn",
+        BlockForm::Spn => "spn",
+    }
+}
+
+/// The kind of a network, as scripts write it.
+pub(crate) fn kind_word(kind: NetKind) -> &'static str
+    ensures { result.now ≡ kind_word kind }
+{
+    match kind {
+        NetKind::Can => "can",
+        NetKind::J1939 => "j1939",
+    }
+}
+
+/// The identifier: its form, its number, and that in hexadecimal digits.
+pub(crate) fn ident_text(alloc: Global, ident: &Ident) -> Result<String, AllocError>
+    ensures { IfOk result (λ text. string_bytes text ≡ ident_text ident.now) }
+{
+    let form = ident_word(ident.form());
+    let number = ident.number();
+    format!(in alloc; "{form} {number} (0x{number:X})")
+}

@@ -4,7 +4,7 @@ those of the database or the desk that the line names so far, as `canoffice show
 import re
 
 # Value names of which each is a path.
-PATHS = {"FILE", "SCRIPT"}
+PATHS = {"FILE", "SCRIPT", "ORIGINAL"}
 # The value name of options that may have no value: one follows `=` alone.
 NAMES = "NAMES"
 
@@ -58,7 +58,9 @@ _canoffice_read() {
             *" $word "*)
                 at=$((at + 1))
                 [ "${COMP_WORDS[at]}" != = ] || at=$((at + 1))
-                [ "$at" -ge "$COMP_CWORD" ] || office=("$word" "${COMP_WORDS[at]}")
+                case $word in
+                    --db | --port) [ "$at" -ge "$COMP_CWORD" ] || office=("$word" "${COMP_WORDS[at]}") ;;
+                esac
                 continue
                 ;;
         esac
@@ -262,7 +264,7 @@ function __canoffice_arguments
     for word in (commandline -opc)[3..-1]
         if test $skip = yes
             set skip no
-        else if contains -- $word --db --port --count
+        else if contains -- $word --db --port --count --tries --keep
             set skip yes
         else if not string match -q -- '-*' $word
             echo $word
@@ -271,7 +273,8 @@ function __canoffice_arguments
 end
 
 function __canoffice_has_office
-    string match -q -r -- ' --(db|port)[= ]' "$(commandline -opc)"
+    set -l words (commandline -opc)
+    string match -q -r -- ' --(db|port)[= ]' "$words "
 end
 
 function __canoffice_at

@@ -364,6 +364,7 @@ SERVE = ["serve", "--db", "office.db", "--port", str(TAKEN.getsockname()[1])]
 
 WHOLE = {"net.dbc": content_of("tests/whole_file/net.dbc")}
 CUT = {"net.dbc": content_of("tests/cut_file/net.dbc")}
+MIXED = {"mixed.dbc": content_of("tests/keep_each_keyword/mixed.dbc")}
 CLASH = {"clash.dbc": b'BU_:\nBO_ 257 Clash: 2 Vector__XXX\n SG_ Big : 7|16@0+ (1,0) [0|0] "" Vector__XXX\n'
          b' SG_ Little : 0|16@1+ (1,0) [0|0] "" Vector__XXX\n'}
 LINT = {"lint.dbc": b'BU_: A\nBO_ 256 M: 8 A\n SG_ S : 0|8@1+ (0,0) [0|0] "" A\n'}
@@ -400,6 +401,8 @@ COMMANDS = {
     "check": Printing(["check", "net.dbc"], WHOLE, Answer(content_of("tests/whole_file/check"))),
     "format": Printing(["format", "net.dbc"], WHOLE, Answer(content_of("tests/whole_file/format"))),
     "table": Printing(["table", "net.dbc"], WHOLE, Answer(content_of("tests/whole_file/table"))),
+    "format_keep": Printing(
+        ["format", "--keep", "mixed.dbc"], MIXED, Answer(content_of("tests/keep_each_keyword/kept.dbc"))),
     "check_cut": Printing(["check", "net.dbc"], CUT, Answer(b"fault 30 UnclosedText 565\n", b"", 1)),
     "format_cut": Printing(["format", "net.dbc"], CUT, Answer(b"", b"fault 30 UnclosedText 565\n", 1)),
     "check_missing": Printing(["check", "none.dbc"], {}, Answer(b"", b"cannot read none.dbc\n", 3)),

@@ -6,6 +6,8 @@ pub mod StatedMore
 pub mod ReasonLines
 pub mod StillOffice
 mod Stopping
+mod KeptTexts
+mod CompletedTexts
 pub mod Canonical
 pub mod PassedLines
 pub mod Reported

@@ -1,15 +1,21 @@
 -- The outcome of a job, with what is printed after it or without.
-use Rattle.std.proofs.Common.{◌≡◌, ◌⊎◌, ℕ, List, map, inl, inr, refl, subst, sym, Result, Ok, Err}
+use Rattle.std.proofs.Common.{◌≡◌, ◌⊎◌, ℕ, Bool, List, map, inl, inr, refl, subst, sym, Result, Ok, Err}
 use Rattle.std.specs.Prelude.{IfOk}
 use Rattle.std.specs.declared.alloc.AllocError.{AllocError}
 use Rattle.dbc_grammar.specs.Reads.{ReadsAs}
 use Rattle.dbc_sheet.specs.declared.sheet.Sheet.{Sheet}
 use Rattle.dbc_advice.specs.Explained.{IsExplained}
-use Rattle.dbc_advice.specs.LeftOut.{left_out}
 use Rattle.dbc_read.specs.Passed.{start_and_keyword}
 use Rattle.dbc_read.specs.Reading.{ReadsAsNothing}
 use Rattle.dbc_read.specs.declared.passed.Passed.{Passed}
-use Rattle.canoffice_cli.specs.Explaining.{IsExplainedBy, IsStatedOfFormat, IsWithAdvice, MayBeStatedBy, MayState}
+use Rattle.canoffice_cli.specs.Explaining.{
+  IsExplainedBy,
+  IsStatedOfFormat,
+  IsStatedOfReading,
+  IsWithAdvice,
+  MayBeStatedBy,
+  MayState,
+}
 use Rattle.canoffice_cli.specs.Outcome.{Outcome, and_errors, outcome_of}
 use Rattle.canoffice_cli.specs.declared.explaining.Advice.{Advice}
 use Rattle.canoffice_cli.specs.declared.explaining.Advice.TheVariants.{Everything, Nothing, WrongLine}
@@ -72,16 +78,16 @@ module _ (advice : Advice) (IsOf : Outcome → Type 0) (IsStated IsWhole : List 
   )
 
 -- what is stated of a text whose canonical text is printed: of one that reads, and of one that reads as no sheet
-module _ {A E : Type 0} (items : A → List ℕ) (name bytes : List ℕ) where
+module _ {A E : Type 0} (items : A → List ℕ) (keep : Bool) (name bytes : List ℕ) where
   pub left_of_sheet : (r : Result A E) (s : Sheet) (passed : List Passed)
       → ReadsAs bytes s (map start_and_keyword passed)
-      → IfOk r (λ stated. items stated ≡ left_out name bytes s passed)
-      → IfOk r (λ stated. IsStatedOfFormat name bytes (items stated))
+      → IfOk r (λ stated. IsStatedOfReading keep name bytes s passed (items stated))
+      → IfOk r (λ stated. IsStatedOfFormat keep name bytes (items stated))
   left_of_sheet (Ok stated) s passed reads left = inr (s, passed, reads, left)
   left_of_sheet (Err lost) s passed reads left = tt
 
   pub faults_of_nothing : (r : Result A E) → ReadsAsNothing bytes
       → IfOk r (λ stated. IsExplained name bytes (items stated))
-      → IfOk r (λ stated. IsStatedOfFormat name bytes (items stated))
+      → IfOk r (λ stated. IsStatedOfFormat keep name bytes (items stated))
   faults_of_nothing (Ok stated) nothing explained = inl (nothing, explained)
   faults_of_nothing (Err lost) nothing explained = tt

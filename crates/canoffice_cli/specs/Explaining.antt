@@ -20,13 +20,18 @@ use Rattle.canoffice_cli.specs.declared.explaining.Advice.TheVariants.{Everythin
 use Rattle.canoffice_cli.specs.declared.file_jobs.FileTask.{FileTask}
 use Rattle.canoffice_cli.specs.declared.file_jobs.FileTask.TheVariants as task
 
--- what is stated of a DBC text whose canonical text is printed: what its sheet leaves out, or its faults if it reads as
--- none
-abbrev pub IsStatedOfFormat : List ℕ → List ℕ → List ℕ → Type 0
-IsStatedOfFormat name bytes stated =
+-- what the canonical text leaves out of a DBC text: nothing, if what is skipped is kept
+abbrev pub IsStatedOfReading : Bool → List ℕ → List ℕ → Sheet → List Passed → List ℕ → Type 0
+IsStatedOfReading true name bytes s passed stated = stated ≡ []
+IsStatedOfReading false name bytes s passed stated = stated ≡ left_out name bytes s passed
+
+-- what is stated of a DBC text whose canonical text is printed: what that leaves out, or its faults if it reads as no
+-- sheet
+abbrev pub IsStatedOfFormat : Bool → List ℕ → List ℕ → List ℕ → Type 0
+IsStatedOfFormat keep name bytes stated =
     (ReadsAsNothing bytes × IsExplained name bytes stated)
     ⊎ ((s : Sheet) × (passed : List Passed) × ReadsAs bytes s (map start_and_keyword passed)
-    × (stated ≡ left_out name bytes s passed))
+    × IsStatedOfReading keep name bytes s passed stated)
 
 -- what `-` means as a key in a script for the office in this database, or for one in memory
 abbrev pub dash_of : Option (Bor (List ℕ)) → Dash
@@ -39,7 +44,7 @@ abbrev pub IsStated : Files → FileTask → List ℕ → List ℕ → List ℕ 
 IsStated files (task.Apply database manner) name bytes stated =
     IsStatedOf files name (dash_of database) 1 (lines_of bytes) stated
 IsStated files (task.Check lint) name bytes stated = IsExplained name bytes stated
-IsStated files task.Format name bytes stated = IsStatedOfFormat name bytes stated
+IsStated files (task.Format keep) name bytes stated = IsStatedOfFormat keep name bytes stated
 IsStated files task.Table name bytes stated = stated ≡ []
 
 -- the whole of what is stated: of a script also why its commands were refused
@@ -47,7 +52,7 @@ abbrev pub IsExplanation : Files → FileTask → List ℕ → List ℕ → List
 IsExplanation files (task.Apply database manner) name bytes text =
     (stated : List ℕ) × IsStated files (task.Apply database manner) name bytes stated × HasReasons name stated text
 IsExplanation files (task.Check lint) name bytes text = IsStated files (task.Check lint) name bytes text
-IsExplanation files task.Format name bytes text = IsStated files task.Format name bytes text
+IsExplanation files (task.Format keep) name bytes text = IsStated files (task.Format keep) name bytes text
 IsExplanation files task.Table name bytes text = IsStated files task.Table name bytes text
 
 -- the output and the status are the plain ones, and something is printed after the plain errors

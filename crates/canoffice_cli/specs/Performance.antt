@@ -1,5 +1,7 @@
 -- The outcome of the program, from its words and from what is known of files, standard input, desks and databases.
-use Rattle.std.specs.Prelude.{◌≡◌, ◌⊎◌, ⊤, ℕ, Bool, false, List, map, option_map, Result, Ok, Err, string_bytes}
+use Rattle.std.specs.Prelude.{◌≡◌, ◌⊎◌, ⊤, ℕ, Bool, false, List, map, Option, Some, None, option_map, Result, Ok, Err}
+use Rattle.std.specs.Prelude.{string_bytes}
+use Rattle.std.specs.Borrow.{Bor}
 use Rattle.canoffice_desks.specs.Desks.{Desks}
 use Rattle.dbc_advice.specs.ShownPath.{shown_path}
 use Rattle.office_script.specs.Files.{Files, Holding, unknown, absent, holding}
@@ -12,8 +14,8 @@ use Rattle.canoffice_cli.specs.Databases.{AreKept, Databases}
 use Rattle.canoffice_cli.specs.Applied.{IsApplyOutcome}
 use Rattle.canoffice_cli.specs.Charted.{IsChartOutcome}
 use Rattle.canoffice_cli.specs.Compared.{IsCompareOutcome, IsReleasesOutcome}
-use Rattle.canoffice_cli.specs.Exported.{IsExportOutcome}
-use Rattle.canoffice_cli.specs.Formatted.{IsFormatOutcome}
+use Rattle.canoffice_cli.specs.Exported.{IsExportWith}
+use Rattle.canoffice_cli.specs.Formatted.{IsFormatted}
 use Rattle.canoffice_cli.specs.Linted.{IsCheckedOutcome}
 use Rattle.canoffice_cli.specs.Looked.{IsRequestsOutcome, IsShowOutcome}
 use Rattle.canoffice_cli.specs.Migrated.{IsMigrateOutcome}
@@ -21,6 +23,7 @@ use Rattle.canoffice_cli.specs.Sent.{IsSendOutcome}
 use Rattle.canoffice_cli.specs.Served.{IsServeOutcome}
 use Rattle.canoffice_cli.specs.Tabled.{IsTableOutcome}
 use Rattle.canoffice_cli.specs.Delivery.{IsDelivered, Writing}
+use Rattle.canoffice_jobs.specs.declared.extras.Extras.{Extras}
 use Rattle.canoffice_cli.specs.declared.report.Status.{Status}
 use Rattle.canoffice_cli.specs.declared.file_jobs.FileJob.{FileJob}
 use Rattle.canoffice_cli.specs.declared.file_jobs.FileTask.{FileTask}
@@ -49,7 +52,7 @@ IsTaskOutcome files before after (task.Apply database manner) bytes o =
     IsApplyOutcome files (option_map (λ path. path.now) database) manner before after bytes o
 IsTaskOutcome files before after (task.Check lint) bytes o =
     IsCheckedOutcome (option_map (λ names. names.now) lint) bytes o × AreKept before after
-IsTaskOutcome files before after task.Format bytes o = IsFormatOutcome bytes o × AreKept before after
+IsTaskOutcome files before after (task.Format keep) bytes o = IsFormatted keep bytes o × AreKept before after
 IsTaskOutcome files before after task.Table bytes o = IsTableOutcome bytes o × AreKept before after
 
 -- the same for a job, of whose file something may be stated
@@ -64,6 +67,20 @@ IsFileOutcome files input before after job o =
     IsOfFile (AreKept before after) (IsOfBytes files before after job) job.path.now (source_at files input job.path.now)
     o
 
+-- the outcome of an export for which the file of an original may be read before
+abbrev pub IsExportedBy : Files → Holding → Databases → Databases → List ℕ → List ℕ → ℕ → Option (Bor (List ℕ)) → Bool
+    → Outcome → Type 0
+IsExportedBy files input before after path net number None j1939 o =
+    IsExportWith before after path net number None j1939 o
+IsExportedBy files input before after path net number (Some file) j1939 o =
+    IsOfFile (AreKept before after)
+    (λ bytes. IsExportWith before after path net number (Some (record { name = shown_path file.now; bytes = bytes })) j1939)
+    file.now (source_at files input file.now) o
+
+abbrev pub IsExported : Files → Holding → Databases → Databases → List ℕ → List ℕ → ℕ → Extras → Outcome → Type 0
+IsExported files input before after path net number extras o =
+    IsExportedBy files input before after path net number extras.original extras.j1939 o
+
 -- the outcome of the job, by whether standard error is a terminal, and what is known of databases before and after
 abbrev pub IsDone : Files → Holding → Bool → Desks → Databases → Databases → Job → Outcome → Type 0
 IsDone files input terminal desks before after (Apply database script explain manner) o =
@@ -77,10 +94,11 @@ IsDone files input terminal desks before after (Compare old new) o =
     IsOfTwoFiles (IsCompareOutcome old.now new.now) files input old.now new.now o × AreKept before after
 IsDone files input terminal desks before after (CompareReleases place net old new) o =
     IsReleasesOutcome desks before after place net.now old new o
-IsDone files input terminal desks before after (Export database net number) o =
-    IsExportOutcome before after database.now net.now number o
-IsDone files input terminal desks before after (Format file explain) o =
-    IsFileOutcome files input before after (record { task = task.Format; path = file; advice = requested explain }) o
+IsDone files input terminal desks before after (Export database net number extras) o =
+    IsExported files input before after database.now net.now number extras o
+IsDone files input terminal desks before after (Format file explain keep) o =
+    IsFileOutcome files input before after
+    (record { task = task.Format keep; path = file; advice = requested explain }) o
 IsDone files input terminal desks before after (Migrate database) o = IsMigrateOutcome before after database.now o
 IsDone files input terminal desks before after (Requests place team) o =
     IsRequestsOutcome desks before after place team.now o

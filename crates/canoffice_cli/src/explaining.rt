@@ -1,11 +1,12 @@
 //! What is stated on standard error of the file of a job, after what is printed there without it.
 ghost use Rattle.std.specs.Prelude.{◌≡◌, IfOk};
-ghost use Rattle.canoffice_cli.specs.Explaining.{IsStated, IsStatedOfFormat, dash_of, of_script, requested};
+ghost use Rattle.canoffice_cli.specs.Explaining.{IsStated, IsStatedOfFormat, IsStatedOfReading, dash_of, of_script};
+ghost use Rattle.canoffice_cli.specs.Explaining.{requested};
 
 use crate::file_jobs::FileTask;
 use crate::files::FileSource;
 use dbc_advice::{Source, explained, left_out};
-use dbc_read::{ReadCode, read};
+use dbc_read::{ReadCode, Reading, read};
 use office_script::Dash;
 use std::alloc::{AllocError, Global};
 
@@ -46,13 +47,29 @@ impl Advice {
     }
 }
 
+/// What a canonical text leaves out: nothing, if what is skipped is kept.
+fn stated_of_reading(
+    alloc: Global,
+    source: Source,
+    reading: &Reading,
+    keep: bool,
+) -> Result<Vec<u8>, AllocError>
+    ensures { IfOk result (λ stated. IsStatedOfReading keep source.entry.name.now
+        source.entry.text.now reading.now.sheet reading.now.passed stated.items) }
+{
+    if keep {
+        return Ok(Vec::new(alloc));
+    }
+    left_out(alloc, source, reading)
+}
+
 /// What is stated of a DBC text whose canonical text is printed: what this leaves out, or why it reads as no sheet.
-fn stated_of_format(alloc: Global, source: Source) -> Result<Vec<u8>, AllocError>
-    ensures { IfOk result (λ stated. IsStatedOfFormat source.entry.name.now source.entry.text.now
-        stated.items) }
+fn stated_of_format(alloc: Global, source: Source, keep: bool) -> Result<Vec<u8>, AllocError>
+    ensures { IfOk result (λ stated. IsStatedOfFormat keep source.entry.name.now
+        source.entry.text.now stated.items) }
 {
     match read(alloc, source.text) {
-        Ok(reading) => left_out(alloc, source, &reading),
+        Ok(reading) => stated_of_reading(alloc, source, &reading, keep),
         Err(fault) => match fault.code {
             ReadCode::Memory => Err(AllocError),
             _ => explained(alloc, source),
@@ -83,7 +100,7 @@ pub(crate) fn stated<F: FileSource>(
 {
     match task {
         FileTask::Check(_) => explained(alloc, source),
-        FileTask::Format => stated_of_format(alloc, source),
+        FileTask::Format(keep) => stated_of_format(alloc, source, keep),
         FileTask::Apply(database, _) => {
             let dash = dash_of(database);
             office_advice::explained(alloc, source.name, source.text, dash, files)

@@ -3,6 +3,7 @@ ghost use Rattle.std.specs.Prelude.{◌≡◌, IfOk, option_map};
 ghost use Rattle.office_script.specs.declared.files.PathFault.TheVariants.{Unreadable};
 ghost use Rattle.canoffice_cli.specs.Applied.{IsApplyOutcome};
 ghost use Rattle.canoffice_cli.specs.Explaining.{IsExplainedBy, IsExplanation, IsStated, MayBeStatedBy, MayState};
+ghost use Rattle.canoffice_cli.specs.Formatted.{IsFormatted};
 ghost use Rattle.canoffice_cli.specs.Outcome.{outcome_of, unreadable};
 ghost use Rattle.canoffice_cli.specs.Performance.{IsTaskOutcome, IsFileOutcome, IsOfBytes};
 ghost use Rattle.canoffice_cli.specs.Reasons.{HasReasons};
@@ -12,7 +13,7 @@ use crate::apply::apply_script;
 use crate::databases::Databases;
 use crate::explaining::{Advice, stated};
 use crate::files::{FileSource, PathFault, StandardInput, bytes_at};
-use crate::formatting::format_report;
+use crate::formatting::{format_report, kept_report};
 use crate::linting::checked;
 use crate::progress::Progress;
 use crate::reasons::Reasons;
@@ -30,8 +31,8 @@ pub(crate) enum FileTask<'a> {
     Apply(Option<&'a str>, Manner),
     /// They are DBC text, which is checked; where there are names, with the remarks whose kinds they choose.
     Check(Option<&'a str>),
-    /// They are DBC text, which is printed in its canonical form.
-    Format,
+    /// They are DBC text, which is printed in its canonical form, with the statements that are skipped or without.
+    Format(bool),
     /// They are DBC text, the table of whose messages is printed.
     Table,
 }
@@ -249,6 +250,17 @@ fn bytes_report<F: FileSource, D: Databases, W: Write>(
     }
 }
 
+/// The canonical form of DBC text, with the statements that are skipped or without.
+fn formatted_report(alloc: Global, bytes: &[u8], keep: bool) -> Result<Report, AllocError>
+    ensures { IfOk result (λ report. IsFormatted keep bytes.now (outcome_of report)) }
+{
+    if keep {
+        kept_report(alloc, bytes)
+    } else {
+        format_report(alloc, bytes)
+    }
+}
+
 /// The report of the task on the bytes, without more.
 fn task_report<F: FileSource, D: Databases, W: Write>(
     alloc: Global,
@@ -276,7 +288,7 @@ fn task_report<F: FileSource, D: Databases, W: Write>(
             )
         }
         FileTask::Check(lint) => checked(alloc, bytes, lint),
-        FileTask::Format => format_report(alloc, bytes),
+        FileTask::Format(keep) => formatted_report(alloc, bytes, keep),
         FileTask::Table => table_report(alloc, bytes),
     }
 }

@@ -48,7 +48,7 @@ mod tabling;
 pub use answering::{Answers, answer_on, answers_when_closed, nothing_answered};
 pub use apply::apply_script;
 pub use canoffice_desks::{Desks, NoDesk};
-pub use canoffice_jobs::{Job, JobFault, Manner, Place, Sending, job_of, not_utf8_fault};
+pub use canoffice_jobs::{Extras, Job, JobFault, Manner, Place, Sending, job_of, not_utf8_fault};
 pub use charting::chart_report;
 pub use checking::check_report;
 pub use comparing::{compare_releases_report, compare_report, texts_tell_apart};
@@ -58,7 +58,7 @@ pub use exporting::export_report;
 pub use files::{
     FileSource, HostFiles, ListedFiles, NamedFile, PathFault, StandardInput, bytes_at,
 };
-pub use formatting::format_report;
+pub use formatting::{format_report, kept_report};
 pub use linting::lint_report;
 pub use looking::{look_on, requests_report, show_report};
 pub use migrating::{migrate_on, migrate_report};

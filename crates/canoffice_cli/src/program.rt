@@ -180,9 +180,15 @@ pub fn report_of<F: FileSource + StandardInput, D: Databases, K: Desks, W: Write
             database,
             net,
             number,
-        } => export_report(alloc, databases, database, net, *number),
-        Job::Format { file, explain } => {
-            let job = FileJob::new(FileTask::Format, file, Advice::requested(*explain));
+            extras,
+        } => export_report(alloc, files, databases, database, net, *number, *extras),
+        Job::Format {
+            file,
+            explain,
+            keep,
+        } => {
+            let advice = Advice::requested(*explain);
+            let job = FileJob::new(FileTask::Format(*keep), file, advice);
             file_report(alloc, job, files, databases, progress)
         }
         Job::Migrate { database } => migrate_report(alloc, databases, database, progress),

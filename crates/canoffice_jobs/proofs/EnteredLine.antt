@@ -74,13 +74,15 @@ own_entered s called rest (inr (inr (inr (inr (inl same))))) answers no_help pas
     let database = needed s rest (codes "db") passes (ap (λ x. needs_value x.rules (codes "db")) same) in
     let net = needed s rest (codes "NET") passes (ap (λ x. needs_value x.rules (codes "NET")) same) in
     let number = needed s rest (codes "N") passes (ap (λ x. needs_value x.rules (codes "N")) same) in
-    subst (λ n. IsEntered (Some (n, rows_after s.rules [] rest))) (sym name)
-    ((λ _. database), ((λ _. net), ((λ _. number), tt)))
+    subst (λ n. IsEntered (Some (n, rows_after s.rules [] rest))) (sym name) (
+      (λ never. absurd (true≢false (sym never))),
+      ((λ never. absurd (true≢false (sym never))), ((λ _. database), ((λ _. net), ((λ _. number), tt)))),
+    )
 own_entered s called rest (inr (inr (inr (inr (inr (inl same)))))) answers no_help passes =
     let name : s.name ≡ codes "format" = ap (λ x. x.name) same in
     let file = needed s rest (codes "FILE") passes (ap (λ x. needs_value x.rules (codes "FILE")) same) in
     subst (λ n. IsEntered (Some (n, rows_after s.rules [] rest))) (sym name)
-    ((λ never. absurd (true≢false (sym never))), ((λ _. file), tt))
+    ((λ never. absurd (true≢false (sym never))), ((λ never. absurd (true≢false (sym never))), ((λ _. file), tt)))
 own_entered s called rest (inr (inr (inr (inr (inr (inr (inl same))))))) answers no_help passes =
     let name : s.name ≡ codes "migrate" = ap (λ x. x.name) same in
     let database = needed s rest (codes "db") passes (ap (λ x. needs_value x.rules (codes "db")) same) in

@@ -94,6 +94,30 @@ an_export : line_faults (codes "canoffice" ∷ codes "export" ∷ codes "--db" �
 unfolding clap_on_literals
 an_export = refl
 
+abbrev a_full_export : List Text
+a_full_export = codes "canoffice" ∷ codes "export" ∷ codes "--keep" ∷ codes "old.dbc" ∷ codes "--j1939" ∷ codes "--db"
+    ∷ codes "office.db" ∷ codes "truck" ∷ codes "1" ∷ []
+
+one_full_export : line_faults a_full_export ≡ []
+unfolding clap_on_literals
+one_full_export = refl
+
+its_original : option_map (λ found. first_of (codes "keep") found.1) (subcommand_of canoffice_app a_full_export)
+    ≡ Some (Some (codes "old.dbc"))
+unfolding clap_on_literals
+its_original = refl
+
+its_attributes : option_map (λ found. is_set found.1 (codes "j1939")) (subcommand_of canoffice_app a_full_export)
+    ≡ Some true
+unfolding clap_on_literals
+its_attributes = refl
+
+a_kept_format : option_map (λ found. is_set found.1 (codes "keep"))
+    (subcommand_of canoffice_app (codes "canoffice" ∷ codes "format" ∷ codes "--keep" ∷ codes "old.dbc" ∷ []))
+    ≡ Some true
+unfolding clap_on_literals
+a_kept_format = refl
+
 migrate_no_database : line_faults (codes "canoffice" ∷ codes "migrate" ∷ []) ≡ MissingRequiredArgument ∷ []
 unfolding clap_on_literals
 migrate_no_database = refl

@@ -89,14 +89,19 @@ with_compared app = with_rule (with_rule (with_rule app (required_word (codes "A
 abbrev pub compare_app : App
 compare_app = with_compared (with_place (new_app (codes "compare")))
 
--- export --db FILE NET N
+-- [--keep ORIGINAL] [--j1939]
+abbrev pub with_besides : App → App
+with_besides app = with_rule (with_rule app (option_word (codes "keep"))) (flag (codes "j1939"))
+
+-- export [--keep ORIGINAL] [--j1939] --db FILE NET N
 abbrev pub export_app : App
-export_app = with_rule (with_rule (with_rule (new_app (codes "export")) (required_option (codes "db")))
+export_app = with_rule (with_rule (with_rule (with_besides (new_app (codes "export"))) (required_option (codes "db")))
     (required_word (codes "NET"))) (required_word (codes "N"))
 
--- format [--explain] FILE
+-- format [--explain] [--keep] FILE
 abbrev pub format_app : App
-format_app = with_rule (with_rule (new_app (codes "format")) explain_flag) (required_word (codes "FILE"))
+format_app = with_rule (with_rule (with_rule (new_app (codes "format")) explain_flag) (flag (codes "keep")))
+    (required_word (codes "FILE"))
 
 -- migrate --db FILE
 abbrev pub migrate_app : App
@@ -238,11 +243,13 @@ IsJobOf (CompareReleases place net old new) name rows =
     (name ≡ codes "compare") × IsPlaceIn place rows × HasValue rows (codes "A") net.now
     × (option_and_then release_number (first_of (codes "B") rows) ≡ Some old)
     × (option_and_then release_number (first_of (codes "N") rows) ≡ Some new)
-IsJobOf (Export database net number) name rows =
+IsJobOf (Export database net number extras) name rows =
     (name ≡ codes "export") × HasValue rows (codes "db") database.now × HasValue rows (codes "NET") net.now
     × (option_and_then release_number (first_of (codes "N") rows) ≡ Some number)
-IsJobOf (Format file explain) name rows = (name ≡ codes "format") × HasValue rows (codes "FILE") file.now
-    × (explain ≡ is_set rows (codes "explain"))
+    × (first_of (codes "keep") rows ≡ option_map (λ path. path.now) extras.original)
+    × (extras.j1939 ≡ is_set rows (codes "j1939"))
+IsJobOf (Format file explain keep) name rows = (name ≡ codes "format") × HasValue rows (codes "FILE") file.now
+    × (explain ≡ is_set rows (codes "explain")) × (keep ≡ is_set rows (codes "keep"))
 IsJobOf (Migrate database) name rows = (name ≡ codes "migrate") × HasValue rows (codes "db") database.now
 IsJobOf (Requests place team) name rows =
     (name ≡ codes "requests") × IsPlaceIn place rows × HasValue rows (codes "TEAM") team.now

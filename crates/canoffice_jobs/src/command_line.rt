@@ -7,8 +7,8 @@ ghost use Rattle.canoffice_jobs.specs.CommandLine.{explain_flag, flag};
 ghost use Rattle.canoffice_jobs.specs.CommandLine.{export_app, format_app, migrate_app, option_word, optional_word};
 ghost use Rattle.canoffice_jobs.specs.CommandLine.{requests_app, required_option, required_word, required_words};
 ghost use Rattle.canoffice_jobs.specs.CommandLine.{send_app, serve_app, show_app, table_app, wants_subcommand};
-ghost use Rattle.canoffice_jobs.specs.CommandLine.{with_compared, with_listening, with_manner, with_place, with_sought};
-ghost use Rattle.canoffice_jobs.specs.CommandLine.{with_version};
+ghost use Rattle.canoffice_jobs.specs.CommandLine.{with_besides, with_compared, with_listening, with_manner, with_place};
+ghost use Rattle.canoffice_jobs.specs.CommandLine.{with_sought, with_version};
 
 use clap::{Arg, ArgAction, Command};
 use std::alloc::{AllocError, Global};
@@ -173,28 +173,44 @@ pub(crate) fn compare_command<'a>(alloc: Global) -> Result<Command<'a>, AllocErr
     Ok(compare)
 }
 
-/// `export --db FILE NET N`
+/// The subcommand with `--keep ORIGINAL` and `--j1939`, what an export has besides the sheet.
+fn with_besides<'a>(alloc: Global, command: Command<'a>) -> Result<Command<'a>, AllocError>
+    requires { (fields_of command).has_globals ≡ false }
+    ensures app { IfOk result (λ c. app_of c ≡ with_besides (app_of command.entry)) }
+    ensures local { IfOk result (λ c. (fields_of c).has_globals ≡ false) }
+{
+    let keep =
+        "A DBC file, or -: its skipped statements that are about the release are printed too";
+    let j1939 = "Prints also the attributes by which tools take 29-bit messages as J1939";
+    let with_keep = command.arg(option(alloc, "keep", "ORIGINAL", keep))?;
+    with_keep.arg(flag(alloc, "j1939", j1939))
+}
+
+/// `export [--keep ORIGINAL] [--j1939] --db FILE NET N`
 pub(crate) fn export_command<'a>(alloc: Global) -> Result<Command<'a>, AllocError>
     ensures app { IfOk result (λ c. app_of c ≡ export_app) }
     ensures local { IfOk result (λ c. (fields_of c).has_globals ≡ false) }
 {
     let named = Command::new(alloc, "export").about("Prints a release as a DBC file");
     let number = "The number of the release, 1 to 65535, or 0 for the live sheet";
-    let with_database = named.arg(required_option(alloc, "db", "FILE", "The office's database"))?;
+    let besides = with_besides(alloc, named)?;
+    let with_database = besides.arg(required_option(alloc, "db", "FILE", "The office's database"))?;
     let with_net = with_database.arg(required_argument(alloc, "NET", "The network's name"))?;
     let export = with_net.arg(required_argument(alloc, "N", number))?;
     Ok(export)
 }
 
-/// `format [--explain] FILE`
+/// `format [--explain] [--keep] FILE`
 fn format_command<'a>(alloc: Global) -> Result<Command<'a>, AllocError>
     ensures app { IfOk result (λ c. app_of c ≡ format_app) }
     ensures local { IfOk result (λ c. (fields_of c).has_globals ≡ false) }
 {
     let named = Command::new(alloc, "format").about("Prints a DBC file in its canonical form");
     let more = "Says also where each fault is, or what the text leaves out";
+    let keep = "Prints also the statements that check lists as passed, each at its place";
     let with_explain = named.arg(explain(alloc, more))?;
-    let format = with_explain.arg(required_argument(alloc, "FILE", DBC_FILE))?;
+    let with_keep = with_explain.arg(flag(alloc, "keep", keep))?;
+    let format = with_keep.arg(required_argument(alloc, "FILE", DBC_FILE))?;
     Ok(format)
 }
 

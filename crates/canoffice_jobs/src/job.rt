@@ -1,13 +1,14 @@
 //! The job that the words of the command line request.
 ghost use Rattle.std.specs.Prelude.{◌≡◌, IfOk, IfErr, None, Some, map, option_and_then, codes};
 ghost use Rattle.std.specs.Option.{option_map};
-ghost use Rattle.clap.specs.Words.{found_of, kind_of, rows_of, subcommand_rows_of};
+ghost use Rattle.clap.specs.Words.{first_of, found_of, kind_of, rows_of, subcommand_rows_of};
 ghost use Rattle.canoffice_jobs.specs.CommandLine.{HasSome, IsEntered, IsJob, IsJobIn, IsJobOf, IsFaultOfKind};
 ghost use Rattle.canoffice_jobs.specs.CommandLine.{IsJobFault, IsValueFault, IsValueFaultIn, are_absent, are_files, are_input};
 ghost use Rattle.canoffice_jobs.specs.CommandLine.{is_set, manner_in};
 ghost use Rattle.dbc_lint.specs.Kind.{first_unknown};
 
 use crate::command_line::{canoffice_command, check_command};
+use crate::extras::Extras;
 use crate::manner::{Manner, Sending};
 use crate::numbers::{Number, count_given, length_given, port_given, release_number, tries_given};
 use crate::place::{LookCommand, Place, PlaceFault, place_given};
@@ -75,6 +76,8 @@ pub enum Job<'a> {
         net: &'a str,
         /// The number of the release, 1 to 65535, or 0 for the live sheet.
         number: u32,
+        /// What is printed besides the sheet.
+        extras: Extras<'a>,
     },
     /// Print the canonical text of the DBC text in the file of this name.
     Format {
@@ -82,6 +85,8 @@ pub enum Job<'a> {
         file: &'a str,
         /// Whether faults are explained, and what is left out is reported.
         explain: bool,
+        /// Whether the statements that the reader skips are printed too.
+        keep: bool,
     },
     /// Make a database of an earlier version one of this version.
     Migrate {
@@ -508,7 +513,19 @@ fn compare_job<'a>(found: &ArgMatches<'a>) -> Result<Job<'a>, ValueFault<'a>>
     }
 }
 
-/// `export --db FILE NET N`
+/// What an export has besides the sheet, by its options.
+#[tactic(auto, using(crate::proofs::CommandLine::optional_in_rows))]
+fn extras_given<'a>(found: &ArgMatches<'a>) -> Extras<'a>
+    ensures keep { first_of (codes "keep") (rows_of (found_of found.now))
+        ≡ option_map (λ path. path.now) result.original }
+    ensures j1939 { result.j1939 ≡ is_set (rows_of (found_of found.now)) (codes "j1939") }
+{
+    let original = found.get_str("keep");
+    let j1939 = is_set(found, "j1939");
+    Extras { original, j1939 }
+}
+
+/// `export [--keep ORIGINAL] [--j1939] --db FILE NET N`
 #[tactic(auto, using(crate::proofs::CommandLine::value_in_rows, crate::proofs::CommandLine::optional_in_rows, crate::proofs::CommandLine::text_is_given))]
 fn export_job<'a>(found: &ArgMatches<'a>) -> Result<Job<'a>, ValueFault<'a>>
     requires database { HasSome (rows_of (found_of found.now)) (codes "db") }
@@ -520,17 +537,19 @@ fn export_job<'a>(found: &ArgMatches<'a>) -> Result<Job<'a>, ValueFault<'a>>
     let database = found.get_str("db").unwrap();
     let net = found.get_str("NET").unwrap();
     let word = found.get_str("N").unwrap();
+    let extras = extras_given(found);
     match release_number(word) {
         Some(number) => Ok(Job::Export {
             database,
             net,
             number,
+            extras,
         }),
         None => Err(ValueFault::WrongNumber(Number::Release, word)),
     }
 }
 
-/// `format [--explain] FILE`
+/// `format [--explain] [--keep] FILE`
 #[tactic(auto, using(crate::proofs::CommandLine::value_in_rows, crate::proofs::CommandLine::text_is_given))]
 fn format_job<'a>(found: &ArgMatches<'a>) -> Job<'a>
     requires { HasSome (rows_of (found_of found.now)) (codes "FILE") }
@@ -538,7 +557,12 @@ fn format_job<'a>(found: &ArgMatches<'a>) -> Job<'a>
 {
     let file = found.get_str("FILE").unwrap();
     let explain = is_set(found, "explain");
-    Job::Format { file, explain }
+    let keep = is_set(found, "keep");
+    Job::Format {
+        file,
+        explain,
+        keep,
+    }
 }
 
 /// `migrate --db FILE`

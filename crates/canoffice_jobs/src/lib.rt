@@ -2,6 +2,7 @@
 //!
 //! - `command_line` describes the subcommands and their arguments for clap.
 //! - `job` turns the words into a `Job` with the values of its arguments, or into a `JobFault`.
+//! - `extras` has what is printed beside a release.
 //! - `numbers` has the ranges of the numbers that words give, `place` where an office is looked at, and `manner` how a
 //!   script is applied or sent.
 //! - `meant` and `remarks` have the words that are read as others: `help --help`, and `--lint` without names.
@@ -10,6 +11,7 @@
 #![tactic(auto)]
 
 mod command_line;
+mod extras;
 mod job;
 mod manner;
 mod meant;
@@ -17,6 +19,7 @@ mod numbers;
 mod place;
 mod remarks;
 
+pub use extras::Extras;
 pub use job::{Job, JobFault, job_of, not_utf8_fault};
 pub use manner::{Manner, Sending};
 pub use meant::name_before_help;

@@ -1,5 +1,5 @@
 -- Worked examples of the definitions: rows for each kind of remark, worked out by hand.
-use Rattle.std.proofs.Common.{◌≡◌, ◌++◌, true, false, ℕ, Bool, List, [], ◌∷◌, Option, Some, None, refl, replicate}
+use Rattle.std.proofs.Common.{◌≡◌, ◌++◌, true, false, ℕ, List, [], ◌∷◌, Option, Some, None, refl, replicate}
 use Rattle.std.specs.Fmt.{digits}
 use Rattle.std.specs.Prelude.{ℤ, codes, pos, neg_ℤ}
 use Rattle.bitlayout.specs.declared.layout.Order.TheVariants.{Intel}
@@ -9,21 +9,15 @@ use Rattle.can_id.specs.declared.ident.Ident.{Ident}
 use Rattle.can_id.specs.declared.ident.Ident.TheVariants.{Std, Ext}
 use Rattle.decimal.specs.Number.{Number}
 use Rattle.decimal.specs.Printing.{unsigned_text}
-use Rattle.dbc_words.specs.declared.keyword.Keyword.TheVariants as key
 use Rattle.dbc_words.specs.declared.value_type.ValueType.{ValueType}
 use Rattle.dbc_words.specs.declared.value_type.ValueType.TheVariants.{Integer, Float, Double}
-use Rattle.dbc_grammar.specs.Statement.{Content, MessageIs, NodesAre, SignalLine, Statement, TableIs}
-use Rattle.dbc_grammar.specs.Lexing.{exponent_len, first_token, inside_len, lexed, lexed_in, number_len, power_len}
-use Rattle.dbc_grammar.specs.Lexing.{tail_len, token_at, word_len}
 use Rattle.dbc_sheet.specs.declared.message.Message.{Message}
 use Rattle.dbc_sheet.specs.declared.node.Node.{Node}
 use Rattle.dbc_sheet.specs.declared.sheet.Sheet.{Sheet}
 use Rattle.dbc_sheet.specs.declared.signal.Signal.{Signal}
 use Rattle.dbc_sheet.specs.declared.value_texts.ValueText.{ValueText}
 use Rattle.dbc_lint.specs.Kind.{first_unknown, is_chosen}
-use Rattle.dbc_lint.specs.Lines.{lines_of}
 use Rattle.dbc_lint.specs.Numbers.{has_range_outside, holds_value, is_above, written}
-use Rattle.dbc_lint.specs.OfFile.{of_statements}
 use Rattle.dbc_lint.specs.OfMessage.{of_message}
 use Rattle.dbc_lint.specs.OfNode.{of_node}
 use Rattle.dbc_lint.specs.OfSignal.{is_long, of_signal, signal_has}

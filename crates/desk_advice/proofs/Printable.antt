@@ -1,6 +1,6 @@
 -- Bytes as they are shown are printable.
 use Rattle.std.proofs.Common.{◌≡◌, ℕ, Bool, true, false, ◌&&◌, List, [], ◌∷◌, ◌++◌, map, refl, sym, ap, ◌∙◌}
-use Rattle.std.specs.Prelude.{IsTrue, if◌then◌else◌}
+use Rattle.std.specs.Prelude.{if◌then◌else◌}
 use Rattle.std.specs.List.{list_all}
 use Rattle.dbc_advice.specs.Sentence.{visible}
 use Rattle.desk_advice.specs.Line.{IsLine, is_printable}

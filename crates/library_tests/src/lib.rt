@@ -22,6 +22,8 @@ mod echoes;
 #[cfg(test)]
 mod identifiers;
 #[cfg(test)]
+mod kept;
+#[cfg(test)]
 mod layouts;
 #[cfg(test)]
 mod lists;

@@ -1,7 +1,7 @@
 pub mod Counting
 pub mod Gaps
 pub mod Parts
-pub mod Left
+pub mod Remaining
 pub mod Same
 pub mod Next
 pub mod Wanted

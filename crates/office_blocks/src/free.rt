@@ -38,7 +38,7 @@ fn part_of(numbers: &[u32], first: u32, last: u32) -> &[u32]
 }
 
 /// Those of the numbers that are in the block.
-fn part_in(numbers: &Ascending, block: FormBlock) -> &[u32]
+pub fn part_in(numbers: &Ascending, block: FormBlock) -> &[u32]
     ensures part { ArePart numbers.now block.first block.last result.now }
     ensures range { IsRange block }
 {
@@ -99,11 +99,11 @@ fn gaps(alloc: Global, part: &[u32], first: u32, last: u32) -> Result<Vec<Run>, 
 }
 
 /// The numbers of the block that may be given out.
-pub(crate) struct Left {
+pub struct Left {
     /// How many there are.
-    pub(crate) count: usize,
+    pub count: usize,
     /// The runs of them; of parameter groups first those with a destination address.
-    pub(crate) runs: Vec<Run>,
+    pub runs: Vec<Run>,
 }
 
 /// What is left of a block of which each number has the block's form.
@@ -128,8 +128,8 @@ fn is_free(taken: &Ascending, form: NumberForm, number: u32) -> bool
     form.has(number) && !taken.has(number)
 }
 
-/// The numbers of the block that have the form and aren't taken.
-fn free_numbers(
+/// The numbers of the block that have the form and aren't taken. The error is out of memory.
+pub fn free_numbers(
     alloc: Global,
     taken: &Ascending,
     block: FormBlock,
@@ -167,11 +167,7 @@ fn groups_left(alloc: Global, taken: &Ascending, block: FormBlock) -> Result<Lef
 
 /// What is left of the block, where these are the numbers of its form that may not be given out. The error is out of
 /// memory.
-pub(crate) fn left_of(
-    alloc: Global,
-    taken: &Ascending,
-    block: FormBlock,
-) -> Result<Left, AllocError>
+pub fn left_of(alloc: Global, taken: &Ascending, block: FormBlock) -> Result<Left, AllocError>
     ensures count { IfOk result (λ left. left.count ≡ free_count taken.now block) }
     ensures runs { IfOk result (λ left. left.runs.items ≡ free_runs taken.now block) }
 {

@@ -5,6 +5,9 @@
 //! be given out, in ascending order (`numbers`). In them `free` finds what is left of a block by binary search, as
 //! runs, of which the first begins with the number that is given out next ([`first_run_is_next`]).
 //!
+//! What is left of a block ([`left_of`], [`part_in`]), and the numbers form by form, are there for a page of a network
+//! too.
+//!
 //! The definitions are in `specs/`: `Blocks.antt` has which numbers are live and taken, what is left of a block, and
 //! the lines; `Numbers.antt` says which ascending lists have them.
 #![tactic(auto)]
@@ -15,5 +18,6 @@ mod laws;
 mod numbers;
 
 pub use blocks::{block_line, blocks_text};
+pub use free::{Left, free_numbers, left_of, part_in};
 pub use laws::first_run_is_next;
-pub use numbers::Numbers;
+pub use numbers::{Ascending, FormNumbers, Numbers};

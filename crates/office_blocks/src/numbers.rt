@@ -16,7 +16,7 @@ use std::alloc::{AllocError, Global};
 use std::marker::Model;
 
 /// Numbers in ascending order, each once. Contracts see them as the list of them.
-pub(crate) struct Ascending {
+pub struct Ascending {
     numbers: Vec<u32>,
 }
 
@@ -55,7 +55,7 @@ impl Ascending {
     }
 
     /// The numbers.
-    pub(crate) fn as_slice(&self) -> &[u32]
+    pub fn as_slice(&self) -> &[u32]
         ensures numbers { result.now ≡ self.now }
         ensures rising { IsStrictlyIncreasing self.now }
     {
@@ -63,7 +63,7 @@ impl Ascending {
     }
 
     /// Whether the number is one of them.
-    pub(crate) fn has(&self, number: u32) -> bool
+    pub fn has(&self, number: u32) -> bool
         ensures { result ≡ is_taken number self.now }
     {
         self.numbers.binary_search(&number).is_ok()
@@ -71,11 +71,11 @@ impl Ascending {
 }
 
 /// The numbers of one form of blocks.
-pub(crate) struct FormNumbers {
+pub struct FormNumbers {
     /// Those that live messages have, or their signals.
-    pub(crate) live: Ascending,
+    pub live: Ascending,
     /// Those that may not be given out.
-    pub(crate) taken: Ascending,
+    pub taken: Ascending,
 }
 
 /// The numbers of each form of blocks.
@@ -181,7 +181,7 @@ impl Numbers {
     }
 
     /// Those of the form.
-    pub(crate) fn of_form(&self, form: BlockForm) -> &FormNumbers
+    pub fn of_form(&self, form: BlockForm) -> &FormNumbers
         ensures { result.now ≡ of_form form self.now }
     {
         match form {

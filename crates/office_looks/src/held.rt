@@ -14,7 +14,7 @@ use office_types::{BlockForm, GrantedBlock, Team};
 use std::alloc::{AllocError, Global};
 
 /// The team of the first block that has the number of the form.
-fn team_at(blocks: &[GrantedBlock], form: BlockForm, number: u32) -> Option<&Team>
+pub fn team_at(blocks: &[GrantedBlock], form: BlockForm, number: u32) -> Option<&Team>
     ensures { option_copied result ≡ team_at blocks.now form number }
 {
     for granted in blocks {
@@ -26,7 +26,7 @@ fn team_at(blocks: &[GrantedBlock], form: BlockForm, number: u32) -> Option<&Tea
 }
 
 /// The team of the block of the identifier's parameter group, else of its number; `None` where no block has either.
-pub(crate) fn team_of<'a>(blocks: &'a [GrantedBlock], ident: &Ident) -> Option<&'a Team>
+pub fn team_of<'a>(blocks: &'a [GrantedBlock], ident: &Ident) -> Option<&'a Team>
     ensures { option_copied result ≡ team_of blocks.now ident.now }
 {
     match J1939::of(*ident) {
@@ -39,7 +39,7 @@ pub(crate) fn team_of<'a>(blocks: &'a [GrantedBlock], ident: &Ident) -> Option<&
 }
 
 /// The name of the message of the identifier in the last release that has one; `None` where none has.
-pub(crate) fn last_name<'a>(releases: &'a FrozenSheets, ident: &Ident) -> Option<&'a Name>
+pub fn last_name<'a>(releases: &'a FrozenSheets, ident: &Ident) -> Option<&'a Name>
     ensures { option_copied result ≡ last_name releases.now ident.now }
 {
     let sheets = releases.as_slice();

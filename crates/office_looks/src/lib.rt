@@ -2,11 +2,15 @@
 //! parameter numbers, who has a name or a number, and what changed from one release to another.
 //!
 //! [`text_of`] gives the text of a [`NetLook`](office_types::NetLook) of a [`View`](office_seen::View), `None` where
-//! the network has no such message, node or release, or nobody has the name or number; [`reads_releases`] says whether it
-//! depends on the releases. Each kind of look is a module, and a file of definitions in `specs/`, or a crate of its own
-//! (`office_blocks`, `office_spns`, `dbc_compare`); `Looks.antt` joins them. All lines of a look have the same columns, with one space
-//! between; nothing is cut; and what people wrote is in words without spaces (`columns`), or last. A line of the
-//! messages is that of the table of a sheet with columns put in ([`messages_are_the_table`]).
+//! the network has no such message, node or release, or nobody has the name or number; [`reads_releases`] says whether
+//! it depends on the releases. Each kind of look is a module, and a file of definitions in `specs/`, or a crate of its
+//! own (`office_blocks`, `office_spns`, `dbc_compare`); `Looks.antt` joins them. All lines of a look have the same
+//! columns, with one space between; nothing is cut; and what people wrote is in words without spaces (`columns`), or
+//! last. A line of the messages is that of the table of a sheet with columns put in ([`messages_are_the_table`]).
+//!
+//! Of what these texts are made of, a page of a network has use for what nodes send and receive ([`sends`],
+//! [`receives`], [`sent_tally`], [`received_tally`]), whose block a number is in ([`team_of`], [`team_at`],
+//! [`is_number_of`]), and what a held identifier was called ([`last_name`]).
 //!
 //! Nothing here decides anything: no crate that does uses it.
 #![tactic(auto)]
@@ -25,5 +29,9 @@ mod state;
 mod tally;
 mod who;
 
+pub use held::{last_name, team_at, team_of};
 pub use laws::messages_are_the_table;
 pub use looks::{reads_releases, text_of};
+pub use nodes::{receives, sends};
+pub use seeking::is_number_of;
+pub use tally::{Tally, received_tally, sent_tally};

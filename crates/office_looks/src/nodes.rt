@@ -15,7 +15,7 @@ use office_seen::{View, counted, total};
 use std::alloc::{AllocError, Global};
 
 /// Whether the node sends the message.
-fn sends(node: &Name, message: &Message) -> bool
+pub fn sends(node: &Name, message: &Message) -> bool
     ensures { result ≡ sends node.now message.now }
 {
     match &message.transmitter {
@@ -25,7 +25,7 @@ fn sends(node: &Name, message: &Message) -> bool
 }
 
 /// Whether the node receives the signal.
-fn receives(node: &Name, signal: &Signal) -> bool
+pub fn receives(node: &Name, signal: &Signal) -> bool
     ensures { result ≡ receives node.now signal.now }
 {
     signal

@@ -172,7 +172,7 @@ pub(crate) fn numbers_sought(
 }
 
 /// Whether a block of the form may have the number: one of parameter groups has no other numbers.
-fn is_number_of(form: BlockForm, number: u32) -> bool
+pub fn is_number_of(form: BlockForm, number: u32) -> bool
     ensures { result ≡ is_number_of (form, number) }
 {
     match form {

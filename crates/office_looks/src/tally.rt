@@ -13,7 +13,7 @@ use std::alloc::{AllocError, Global};
 use std::collections::BTreeMap;
 
 /// How often names were counted.
-pub(crate) struct Tally {
+pub struct Tally {
     counts: BTreeMap<Name, usize>,
 }
 
@@ -28,7 +28,7 @@ impl Tally {
     }
 
     /// How often the name was counted.
-    pub(crate) fn times(&self, name: &Name) -> usize
+    pub fn times(&self, name: &Name) -> usize
         ensures { result ≡ times self.now name.now }
     {
         match self.counts.get(name) {
@@ -110,8 +110,8 @@ impl Tally {
     }
 }
 
-/// How many of the messages each node sends.
-pub(crate) fn sent_tally(alloc: Global, messages: &[Message]) -> Result<Tally, AllocError>
+/// How many of the messages each node sends. The error is out of memory.
+pub fn sent_tally(alloc: Global, messages: &[Message]) -> Result<Tally, AllocError>
     requires { length messages.now < 2 ^ 64 }
     ensures { IfOk result
         (λ tally. (n : List ℕ) → times tally n ≡ count_by (sends n) messages.now) }
@@ -123,8 +123,8 @@ pub(crate) fn sent_tally(alloc: Global, messages: &[Message]) -> Result<Tally, A
     Ok(tally)
 }
 
-/// How many of the messages each node receives.
-pub(crate) fn received_tally(alloc: Global, messages: &[Message]) -> Result<Tally, AllocError>
+/// How many of the messages each node receives. The error is out of memory.
+pub fn received_tally(alloc: Global, messages: &[Message]) -> Result<Tally, AllocError>
     requires { length messages.now < 2 ^ 64 }
     ensures { IfOk result (λ tally. (n : List ℕ) → times tally n
         ≡ count_by (receives_some n) messages.now) }

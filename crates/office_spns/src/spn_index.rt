@@ -9,7 +9,7 @@ use std::alloc::{AllocError, Global};
 use std::marker::Model;
 
 /// A signal and its message. Contracts see it as the pair of the message and the signal.
-pub(crate) struct SpnPlace<'a> {
+pub struct SpnPlace<'a> {
     message: &'a Message,
     signal: &'a Signal,
 }
@@ -24,14 +24,14 @@ impl<'a> Model for SpnPlace<'a> {
 
 impl<'a> SpnPlace<'a> {
     /// The message.
-    pub(crate) fn message(&self) -> &'a Message
+    pub fn message(&self) -> &'a Message
         ensures { result.now ≡ self.now.0 }
     {
         self.message
     }
 
     /// The signal.
-    pub(crate) fn signal(&self) -> &'a Signal
+    pub fn signal(&self) -> &'a Signal
         ensures { result.now ≡ self.now.1 }
     {
         self.signal
@@ -85,7 +85,7 @@ fn count_below(places: &[SpnPlace], number: u64) -> usize
 }
 
 /// Where a sheet has its suspect parameter numbers, found by binary search. Contracts see it as the sheet.
-pub(crate) struct SpnIndex<'a> {
+pub struct SpnIndex<'a> {
     sheet: &'a Sheet,
     /// Its signals, by their numbers, and those of one number as in the sheet.
     places: Vec<SpnPlace<'a>>,
@@ -104,7 +104,7 @@ impl<'a> Model for SpnIndex<'a> {
 
 impl<'a> SpnIndex<'a> {
     /// The index of the sheet. The error is out of memory.
-    pub(crate) fn of(alloc: Global, sheet: &'a Sheet) -> Result<SpnIndex<'a>, AllocError>
+    pub fn of(alloc: Global, sheet: &'a Sheet) -> Result<SpnIndex<'a>, AllocError>
         ensures { IfOk result (λ index. index ≡ sheet.now) }
     {
         let mut places = all_places(alloc, sheet)?;
@@ -113,7 +113,7 @@ impl<'a> SpnIndex<'a> {
     }
 
     /// Where signals of the sheet have the number, in the sheet's order.
-    pub(crate) fn places(&self, number: u32) -> &[SpnPlace<'a>]
+    pub fn places(&self, number: u32) -> &[SpnPlace<'a>]
         ensures { result.now ≡ places number self.now }
     {
         let first = count_below(&self.places, u64::from(number));
@@ -123,7 +123,7 @@ impl<'a> SpnIndex<'a> {
     }
 
     /// Whether a signal of the sheet has the number.
-    pub(crate) fn has(&self, number: u32) -> bool
+    pub fn has(&self, number: u32) -> bool
         ensures { result ≡ has_spn number self.now }
     {
         !self.places(number).is_empty()

@@ -36,21 +36,21 @@ compare_job-requires-clause-second c =
 pub export_job-requires-clause-database : goal.export_job-requires-clause-database
 export_job-requires-clause-database c =
     (entered_by_name c.args.matches.now c.in-Some.name.now (rows_of (found_of c.in-Some.found.now)) (codes "export")
-    c.in-Some.ensures.name c.in-Some.ensures.rows (sym c.eq-5.ensures ∙ c.if-eq-5.true) c.requires).0 refl
+    c.in-Some.ensures.name c.in-Some.ensures.rows (sym c.eq-5.ensures ∙ c.if-eq-5.true) c.requires).1.1.0 refl
 
 pub export_job-requires-clause-net : goal.export_job-requires-clause-net
 export_job-requires-clause-net c =
     (entered_by_name c.args.matches.now c.in-Some.name.now (rows_of (found_of c.in-Some.found.now)) (codes "export")
-    c.in-Some.ensures.name c.in-Some.ensures.rows (sym c.eq-5.ensures ∙ c.if-eq-5.true) c.requires).1.0 refl
+    c.in-Some.ensures.name c.in-Some.ensures.rows (sym c.eq-5.ensures ∙ c.if-eq-5.true) c.requires).1.1.1.0 refl
 
 pub export_job-requires-clause-number : goal.export_job-requires-clause-number
 export_job-requires-clause-number c =
     (entered_by_name c.args.matches.now c.in-Some.name.now (rows_of (found_of c.in-Some.found.now)) (codes "export")
-    c.in-Some.ensures.name c.in-Some.ensures.rows (sym c.eq-5.ensures ∙ c.if-eq-5.true) c.requires).1.1.0 refl
+    c.in-Some.ensures.name c.in-Some.ensures.rows (sym c.eq-5.ensures ∙ c.if-eq-5.true) c.requires).1.1.1.1.0 refl
 
 pub format_job-requires : goal.format_job-requires
 format_job-requires c = (entered_by_name c.args.matches.now c.in-Some.name.now (rows_of (found_of c.in-Some.found.now))
-    (codes "format") c.in-Some.ensures.name c.in-Some.ensures.rows (sym c.eq-6.ensures ∙ c.if-eq-6.true) c.requires).1.0
+    (codes "format") c.in-Some.ensures.name c.in-Some.ensures.rows (sym c.eq-6.ensures ∙ c.if-eq-6.true) c.requires).1.1.0
     refl
 
 pub migrate_job-requires : goal.migrate_job-requires

@@ -1,7 +1,6 @@
 use Rattle.std.proofs.Common.{◌<◌, [], ◌∷◌, ◌++◌, length, refl, sym, ap, subst, arith, length-append}
 use Rattle.sqlite.specs.Held.{state}
 use Rattle.sqlite.specs.State.{HasCleanDisk}
-use Rattle.std.specs.Prelude.{IsTrue}
 use Rattle.store.proofs.ListOfArrivals.{KeepThose, keep_at_first, keep_more}
 use Rattle.desk.specs.Serving.{HasServedAll, NoneWaits, SaysFailure}
 use Rattle.desk.proofs.Noted.{fails_still, served_still}

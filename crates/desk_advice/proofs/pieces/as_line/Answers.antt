@@ -1,4 +1,4 @@
-use Rattle.std.proofs.Common.{◌≡◌, ◌∷◌, ◌++◌, [], ap, ◌∙◌, List, ℕ}
+use Rattle.std.proofs.Common.{◌∷◌, ◌++◌, [], ap, ◌∙◌, List, ℕ}
 use Rattle.desk_advice.proofs.Printable.{visible_line}
 use Rattle.desk_advice.proofs.pieces.as_line.Goals as goal
 

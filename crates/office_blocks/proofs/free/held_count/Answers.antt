@@ -1,5 +1,5 @@
 use Rattle.std.proofs.Common.{◌∙◌}
-use Rattle.office_blocks.proofs.Left.{held_is}
+use Rattle.office_blocks.proofs.Remaining.{held_is}
 use Rattle.office_blocks.proofs.free.held_count.Goals as goal
 
 pub returns : goal.returns

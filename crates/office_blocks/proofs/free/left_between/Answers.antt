@@ -1,5 +1,5 @@
 use Rattle.std.proofs.Common.{◌∙◌}
-use Rattle.office_blocks.proofs.Left.{count_is, room, runs_are}
+use Rattle.office_blocks.proofs.Remaining.{count_is, room, runs_are}
 use Rattle.office_blocks.proofs.free.left_between.Goals as goal
 
 pub overflow_sub-result : goal.overflow_sub-result

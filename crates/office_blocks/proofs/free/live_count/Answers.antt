@@ -1,4 +1,4 @@
-use Rattle.office_blocks.proofs.Left.{live_is}
+use Rattle.office_blocks.proofs.Remaining.{live_is}
 use Rattle.office_blocks.proofs.free.live_count.Goals as goal
 
 pub returns : goal.returns

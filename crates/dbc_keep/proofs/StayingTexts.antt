@@ -1,0 +1,131 @@
+-- What the words of a statement show, and the text of those that stay.
+use Rattle.std.proofs.Common.{◌≡◌, ◌+◌, ◌<◌, ◌++◌, ℕ, Bool, true, false, List, [], ◌∷◌, map, filter, drop, length, take}
+use Rattle.std.proofs.Common.{get_or, Some, None, refl, sym, ap, subst, ◌∙◌}
+use Rattle.std.proofs.lemmas.List.{take_more}
+use Rattle.std.specs.List.{flat_map}
+use Rattle.std.proofs.lemmas.List.Elements.{filter-append, filter_map-append}
+use Rattle.dbc_words.specs.declared.keyword.Keyword.{Keyword}
+use Rattle.dbc_words.specs.declared.keyword.Keyword.TheVariants.{Message}
+use Rattle.dbc_sheet.specs.Form.{IsSheet}
+use Rattle.dbc_sheet.specs.declared.sheet.Sheet.{Sheet}
+use Rattle.dbc_grammar.specs.Canon.{line_text}
+use Rattle.dbc_grammar.specs.Reads.{Reads, ReadsAs, ReadsAsOneAtMost, ReadsOnlyAs}
+use Rattle.dbc_grammar.specs.Token.{Token}
+use Rattle.dbc_keep.specs.Finding.{all_found, found_in}
+use Rattle.dbc_keep.specs.Parts.{all_lines}
+use Rattle.dbc_keep.specs.Staying.{KeepsStaying, left_out, left_out_of, staying, stays_in, token_word}
+use Rattle.dbc_keep.specs.declared.staying.LeftOut.{LeftOut}
+use Rattle.dbc_keep.proofs.Lines.{lines_are}
+use Rattle.dbc_keep.proofs.Whole.{keeps_found}
+use Rattle.dbc_keep_law.specs.Found.{others_of, run_of, to_mark, tokens_at}
+use Rattle.dbc_keep_law.specs.Kept.{completed, kept_text}
+use Rattle.dbc_keep_law.specs.Law.{EachOnce, Keeps, KeptIsRead, StatementsAreFound, StatementsStay}
+use Rattle.dbc_keep_law.specs.Passages.{Passage, line_of, pieces_from}
+use Rattle.dbc_keep_law.specs.Staying.{Word, reason, reason_by, stays, word_of}
+use Rattle.dbc_keep_law.specs.Staying.{words_of}
+use Rattle.dbc_keep_law.specs.declared.reason.Reason.{Reason}
+use Rattle.dbc_read.specs.Passed.{start_and_keyword}
+use Rattle.dbc_read.specs.declared.passed.Passed.{Passed}
+
+-- ---- the words of a statement that is found
+
+pieces_words : (source : List ℕ) (at : ℕ) (ts : List Token) → map word_of (pieces_from source at ts) ≡ map token_word ts
+pieces_words source at [] = refl
+pieces_words source at (t ∷ ts) = ap (λ (l : List Word). token_word t ∷ l) (pieces_words source t.end ts)
+
+by_keyword : (s : Sheet) (k : Keyword) (ts : List Token)
+    → reason_by s k (map token_word (others_of k ts)) ≡ reason_by s k (map token_word (to_mark ts))
+by_keyword s Message ts = refl
+by_keyword s k ts = refl
+
+by_tokens : (s : Sheet) (source : List ℕ) (k : Keyword) (ts : List Token)
+    → reason_by s k (words_of (line_of source (run_of k ts))) ≡ reason_by s k (map token_word (to_mark (drop 1 ts)))
+by_tokens s source k [] = refl
+by_tokens s source k (t ∷ ts) =
+    ap (reason_by s k) (pieces_words source t.end (others_of k ts)) ∙ by_keyword s k ts
+
+pub reason_there : (s : Sheet) (source : List ℕ) (one : Passed)
+    → reason s (found_in source one) ≡ reason_by s one.keyword (map token_word (to_mark (drop 1 (tokens_at source one.at))))
+reason_there s source one = by_tokens s source one.keyword (tokens_at source one.at)
+
+pub message_stays : (s : Sheet) (source : List ℕ) (one : Passed) → one.keyword ≡ Message
+    → reason s (found_in source one) ≡ None
+message_stays s source one e =
+    reason_there s source one
+    ∙ ap (λ (k : Keyword). reason_by s k (map token_word (to_mark (drop 1 (tokens_at source one.at))))) e
+
+-- ---- one more
+
+module _ (s : Sheet) (source : List ℕ) (one : Passed) where
+  pub one_stays : reason s (found_in source one) ≡ None → staying s source (one ∷ []) ≡ one ∷ []
+  one_stays e = rw e refl
+
+  pub one_goes : (r : Reason) → reason s (found_in source one) ≡ Some r → staying s source (one ∷ []) ≡ []
+  one_goes r e = rw e refl
+
+  pub none_left_out : reason s (found_in source one) ≡ None → left_out s source (one ∷ []) ≡ []
+  none_left_out e = rw e refl
+
+  pub one_left_out : (r : Reason) → reason s (found_in source one) ≡ Some r
+      → left_out s source (one ∷ []) ≡ record { statement = one; reason = r } ∷ []
+  one_left_out r e = rw e refl
+
+module _ (s : Sheet) (source : List ℕ) (xs : List Passed) (i : ℕ) (d : Passed) (h : i < length xs) where
+  abbrev x : Passed
+  x = get_or xs i d
+
+  one_more : take (i + 1) xs ≡ take i xs ++ x ∷ []
+  one_more = take_more xs i d h
+
+  pub stay_more : (old new : List Passed) → new ≡ old ++ staying s source (x ∷ [])
+      → old ≡ staying s source (take i xs) → new ≡ staying s source (take (i + 1) xs)
+  stay_more old new e before =
+      e ∙ ap (λ (l : List Passed). l ++ staying s source (x ∷ [])) before
+      ∙ sym (filter-append (stays_in s source) (take i xs) (x ∷ [])) ∙ ap (staying s source) (sym one_more)
+
+  pub others_more : (old new : List LeftOut) → new ≡ old ++ left_out s source (x ∷ [])
+      → old ≡ left_out s source (take i xs) → new ≡ left_out s source (take (i + 1) xs)
+  others_more old new e before =
+      e ∙ ap (λ (l : List LeftOut). l ++ left_out s source (x ∷ [])) before
+      ∙ sym (filter_map-append (left_out_of s source) (take i xs) (x ∷ [])) ∙ ap (left_out s source) (sym one_more)
+
+-- ---- the text
+
+found_by : (s : Sheet) (source : List ℕ) (p : Passed) (ps : List Passed) (b : Bool) → stays_in s source p ≡ b
+    → all_found source (staying s source ps) ≡ filter (stays s) (all_found source ps)
+    → all_found source (staying s source (p ∷ ps)) ≡ filter (stays s) (all_found source (p ∷ ps))
+found_by s source p ps true e more = rw e (ap (λ (l : List Passage). found_in source p ∷ l) more)
+found_by s source p ps false e more = rw e more
+
+staying_found : (s : Sheet) (source : List ℕ) (passed : List Passed)
+    → all_found source (staying s source passed) ≡ filter (stays s) (all_found source passed)
+staying_found s source [] = refl
+staying_found s source (p ∷ ps) = found_by s source p ps (stays_in s source p) refl (staying_found s source ps)
+
+module _ (source text : List ℕ) (o s : Sheet) (passed : List Passed)
+    (reads : ReadsAs source o (map start_and_keyword passed)) (is : IsSheet s)
+    (written : text ≡ flat_map line_text (all_lines s source (staying s source passed))) where
+  text_is : text ≡ kept_text s (filter (stays s) (all_found source passed))
+  text_is =
+      written ∙ ap (flat_map line_text) (lines_are s source (staying s source passed))
+      ∙ ap (kept_text s) (staying_found s source passed)
+
+  of_text : StatementsAreFound → StatementsStay → Keeps text s (completed s (filter (stays s) (all_found source passed)))
+  of_text law stay =
+      let k = keeps_found source o passed reads law in
+      let ps = filter (stays s) (all_found source passed) in
+      subst (λ v. Keeps v s (completed s ps)) (sym text_is) (stay source o (all_found source passed) s k is)
+
+  pub keeps_staying : StatementsAreFound → StatementsStay → EachOnce → KeepsStaying source text o s
+  keeps_staying law stay once = record {
+    passages = all_found source passed;
+    of_source = keeps_found source o passed reads law;
+    text_is = text_is;
+    of_text = of_text law stay;
+    once = once s (filter (stays s) (all_found source passed));
+  }
+
+  pub reads_only : StatementsAreFound → StatementsStay → KeptIsRead → ReadsAsOneAtMost → ReadsOnlyAs text s
+  reads_only law stay read one =
+      let there : Reads text s = read text s (completed s (filter (stays s) (all_found source passed))) (of_text law stay) in
+      record { reads = there; only = λ t (p, r). (one text t s p there.0 r there.1).0 }

@@ -1,0 +1,12 @@
+use Rattle.std.proofs.Common.{◌≡◌, length}
+use Rattle.std.specs.List.{flat_map}
+use Rattle.dbc_keep.specs.Staying.{all_seen}
+use Rattle.dbc_keep_law.specs.Staying.{first_absent, node_cited}
+use Rattle.dbc_keep.proofs.citing.node_words.Given as goal
+
+abbrev pub invariant-loop-left : goal.invariant-loop-left
+invariant-loop-left l = first_absent l.sheet (flat_map node_cited (all_seen l.left))
+    ≡ first_absent l.sheet (flat_map node_cited (all_seen l.words))
+
+abbrev pub decreases-loop-left : goal.decreases-loop-left
+decreases-loop-left l = length l.left

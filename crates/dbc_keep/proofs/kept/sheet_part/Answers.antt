@@ -1,0 +1,10 @@
+use Rattle.dbc_write.proofs.Adds.{also}
+use Rattle.dbc_keep.proofs.kept.sheet_part.Goals as goal
+
+pub returns : goal.returns
+returns c =
+    also (also (also (also (also c.in_ok-definitions.ensures c.in_ok-placed.ensures)
+    c.in_ok-placed-2.ensures)
+    c.in_ok-placed-3.ensures)
+    c.in_ok-placed-4.ensures)
+    c.in_ok-placed-5.ensures

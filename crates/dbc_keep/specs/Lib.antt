@@ -1,0 +1,6 @@
+pub mod Places
+pub mod Finding
+pub mod Parts
+pub mod Keeping
+pub mod Staying
+pub mod J1939

@@ -1,5 +1,6 @@
 -- The outcome of an export.
-use Rattle.std.specs.Prelude.{◌≡◌, ◌⊎◌, ◌==◌, ℕ, Bool, true, false, List, Option, Some, None, Result, Ok, Err, if◌then◌else◌}
+use Rattle.std.specs.Prelude.{◌≡◌, ◌⊎◌, ◌==◌, ℕ, Bool, true, false, List, Option, Some, None, Result, Ok, Err}
+use Rattle.std.specs.Prelude.{if◌then◌else◌}
 use Rattle.dbc_complete.specs.Completed.{CannotBeCompleted, IsCompleted, NamedText}
 use Rattle.dbc_lex.specs.declared.fault.ReadFault.{ReadFault}
 use Rattle.office_types.specs.PlainName.{IsPlainName}
@@ -22,7 +23,7 @@ sheet_requested net number = if number == 0 then Live net else Release net numbe
 abbrev pub IsCompletedOutcome : Option NamedText → Bool → List ℕ → Outcome → Type 0
 IsCompletedOutcome original j1939 text o =
     ((made lines : List ℕ) × IsCompleted original j1939 text made lines × (o ≡ and_errors (success made) lines))
-    ⊎ ((fault : ReadFault) × CannotBeCompleted original text × (o ≡ fault_errors (fault_line fault)))
+    ⊎ ((fault : ReadFault) × CannotBeCompleted original j1939 text fault × (o ≡ fault_errors (fault_line fault)))
 
 -- the text alone, if nothing is wanted besides
 abbrev pub IsTextOutcome : Option NamedText → Bool → List ℕ → Outcome → Type 0

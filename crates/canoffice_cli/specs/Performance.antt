@@ -74,7 +74,8 @@ IsExportedBy files input before after path net number None j1939 o =
     IsExportWith before after path net number None j1939 o
 IsExportedBy files input before after path net number (Some file) j1939 o =
     IsOfFile (AreKept before after)
-    (λ bytes. IsExportWith before after path net number (Some (record { name = shown_path file.now; bytes = bytes })) j1939)
+    (λ bytes. IsExportWith before after path net number
+    (Some (record { name = shown_path file.now; bytes = bytes })) j1939)
     file.now (source_at files input file.now) o
 
 abbrev pub IsExported : Files → Holding → Databases → Databases → List ℕ → List ℕ → ℕ → Extras → Outcome → Type 0
@@ -89,7 +90,8 @@ IsDone files input terminal desks before after (Apply database script explain ma
 IsDone files input terminal desks before after (Chart length signals) o =
     IsChartOutcome length (map (λ s. s.now) signals.items) o × AreKept before after
 IsDone files input terminal desks before after (Check file explain lint) o =
-    IsFileOutcome files input before after (record { task = task.Check lint; path = file; advice = requested explain }) o
+    IsFileOutcome files input before after
+    (record { task = task.Check lint; path = file; advice = requested explain }) o
 IsDone files input terminal desks before after (Compare old new) o =
     IsOfTwoFiles (IsCompareOutcome old.now new.now) files input old.now new.now o × AreKept before after
 IsDone files input terminal desks before after (CompareReleases place net old new) o =
@@ -105,7 +107,8 @@ IsDone files input terminal desks before after (Requests place team) o =
 IsDone files input terminal desks before after (Send sending script) o =
     IsOfFile ⊤ (IsSendOutcome files desks sending) script.now (source_at files input script.now) o
     × AreKept before after
-IsDone files input terminal desks before after (Serve database port count explain) o = IsServeOutcome before after database.now count o
+IsDone files input terminal desks before after (Serve database port count explain) o =
+    IsServeOutcome before after database.now count o
 IsDone files input terminal desks before after (Show place net what name) o =
     IsShowOutcome desks before after place (option_map (λ word. word.now) net) what
     (option_map (λ word. word.now) name) o
@@ -134,7 +137,8 @@ IsAnswered words files input terminal desks before after o =
     IsEnteredAnswer (entered (words_meant words)) files input terminal desks before after o
 
 -- a run of the program: the outcome of its words is delivered, or that memory ran out
-abbrev pub IsPerformed : List (List ℕ) → Files → Holding → Bool → Desks → Databases → Databases → Writing → Writing → Status
+abbrev pub IsPerformed : List (List ℕ) → Files → Holding → Bool → Desks → Databases → Databases → Writing → Writing
+    → Status
     → Type 0
 IsPerformed words files input terminal desks before after output errors status =
     (o : Outcome) × ((o ≡ memory_lost) ⊎ IsAnswered words files input terminal desks before after o)

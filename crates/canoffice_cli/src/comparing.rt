@@ -186,8 +186,8 @@ fn compare_look(alloc: Global, net: &str, old: u32, new: u32) -> Result<Option<L
 
 /// Prints what changed from the release of the first number to that of the second, as the office at the place has them,
 /// where 0 stands for the live sheet; or that one of them, or the network, isn't there. The status says whether they
-/// are equal. Where NET hasn't the form of a network's name, no database is opened and no desk is asked; where there is
-/// no database, none is made. The error is out of memory for the report, or for what a desk answers.
+/// are equal. Where NET hasn't the form of a network's name, no database is opened and no request is sent; where there
+/// is no database, none is made. The error is out of memory for the report, or for what a desk answers.
 pub fn compare_releases_report<D: Databases, K: Desks>(
     alloc: Global,
     databases: &mut D,

@@ -170,8 +170,8 @@ pub(crate) fn look_report<D: Databases, K: Desks>(
 }
 
 /// Prints what the office at the place shows of the network that the word names, or its networks where there is no
-/// word; or that it isn't there. Where a word hasn't the form of what it names, no database is opened and no desk is
-/// asked; where there is no database, none is made. The error is out of memory for the report, or for what a desk
+/// word; or that it isn't there. Where a word hasn't the form of what it names, no database is opened and no request
+/// is sent; where there is no database, none is made. The error is out of memory for the report, or for what a desk
 /// answers.
 pub fn show_report<D: Databases, K: Desks>(
     alloc: Global,

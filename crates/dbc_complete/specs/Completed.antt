@@ -6,7 +6,8 @@ use Rattle.dbc_grammar.specs.Reads.{Reads, ReadsAs, ReadsOnlyAs}
 use Rattle.dbc_keep.specs.J1939.{IsUnreadable, KeepsJ1939}
 use Rattle.dbc_keep.specs.Staying.{KeepsStaying, left_out}
 use Rattle.dbc_read.specs.Passed.{start_and_keyword}
-use Rattle.dbc_read.specs.Reading.{ReadsAsNothing}
+use Rattle.dbc_lex.specs.declared.fault.ReadFault.{ReadFault}
+use Rattle.dbc_read.specs.Reading.{IsReadFault}
 use Rattle.dbc_read.specs.declared.passed.Passed.{Passed}
 use Rattle.dbc_sheet.specs.declared.sheet.Sheet.{Sheet}
 
@@ -32,8 +33,8 @@ abbrev pub IsWithJ1939 : Bool → List ℕ → Sheet → List ℕ → Type 0
 IsWithJ1939 false text s made = made ≡ text
 IsWithJ1939 true text s made = KeepsJ1939 text made s
 
--- The text reads as a sheet. The one that is made reads as this sheet alone, and has what is wanted: first the statements
--- of the original, and then the attributes.
+-- The text reads as a sheet. The one that is made reads as this sheet alone, and has what is wanted: first the
+-- statements of the original, and then the attributes.
 pub record IsCompleted (original : Option NamedText) (j1939 : Bool) (text made lines : List ℕ) : Type 0 where
   pub sheet : Sheet
   pub reads : Reads text sheet
@@ -42,14 +43,25 @@ pub record IsCompleted (original : Option NamedText) (j1939 : Bool) (text made l
   pub with_original : IsWithOriginal original text sheet staying lines
   pub with_j1939 : IsWithJ1939 j1939 staying sheet made
 
--- there is an original, and it reads as no sheet
-abbrev pub IsOriginalFault : Option NamedText → Type 0
-IsOriginalFault None = ⊥
-IsOriginalFault (Some original) = ReadsAsNothing original.bytes
+-- there is an original, it reads as no sheet, and the fault is that of `read`
+abbrev pub IsOriginalFault : Option NamedText → ReadFault → Type 0
+IsOriginalFault None fault = ⊥
+IsOriginalFault (Some original) fault = IsReadFault original.bytes fault
 
--- the text or the original reads as no sheet, or the text with the statements of the original doesn't with the attributes
-abbrev pub CannotBeCompleted : Option NamedText → List ℕ → Type 0
-CannotBeCompleted original text =
-    ReadsAsNothing text ⊎ IsOriginalFault original
-    ⊎ ((sheet : Sheet) × (staying lines : List ℕ) × IsWithOriginal original text sheet staying lines
-    × IsUnreadable staying sheet)
+-- The attributes are wanted, and the text reads as a sheet. With the statements of the original, if there is one, it
+-- still does, but no longer with the attributes.
+pub record IsAttributeFault (original : Option NamedText) (j1939 : Bool) (text : List ℕ) : Type 0 where
+  pub wanted : j1939 ≡ true
+  pub sheet : Sheet
+  pub reads : Reads text sheet
+  pub staying : List ℕ
+  pub lines : List ℕ
+  pub only : ReadsOnlyAs staying sheet
+  pub with_original : IsWithOriginal original text sheet staying lines
+  pub unreadable : IsUnreadable staying sheet
+
+-- The text or the original reads as no sheet, and the fault is that of `read`; or the text no longer does with the
+-- attributes.
+abbrev pub CannotBeCompleted : Option NamedText → Bool → List ℕ → ReadFault → Type 0
+CannotBeCompleted original j1939 text fault =
+    IsReadFault text fault ⊎ IsOriginalFault original fault ⊎ IsAttributeFault original j1939 text

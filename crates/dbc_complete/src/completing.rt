@@ -1,5 +1,5 @@
 //! The text of a sheet with statements of an original, and with the attributes of SAE J1939.
-ghost use Rattle.std.specs.Prelude.{◌≡◌, IfErr, IfOk, List, ℕ, option_map};
+ghost use Rattle.std.specs.Prelude.{◌≡◌, IfErr, IfOk, List, ℕ, option_map, true};
 ghost use Rattle.dbc_complete.specs.Completed.{CannotBeCompleted, IsCompleted, IsOriginalFault, IsWithJ1939};
 ghost use Rattle.dbc_complete.specs.Completed.{IsWithOriginal, named_text};
 ghost use Rattle.dbc_grammar.specs.Reads.{ReadsOnlyAs};
@@ -47,7 +47,7 @@ fn with_original(alloc: Global, original: Source, sheet: &Sheet) -> Result<Compl
         (λ made. IsWithOriginal (Some (named_text original.entry)) text sheet.now made.text.items
         made.left_out.items) }
     ensures fault { IfErr result (λ fault. UnlessMemory fault.code
-        (IsOriginalFault (Some (named_text original.entry)))) }
+        (IsOriginalFault (Some (named_text original.entry)) fault)) }
 {
     let reading = read(alloc, original.text)?;
     let (text, others) = text_with_staying(alloc, original.text, &reading, sheet)?;
@@ -67,7 +67,7 @@ fn with_staying(
     ensures made { IfOk result (λ made. IsWithOriginal (option_map named_text original.entry)
         text.items sheet.now made.text.items made.left_out.items) }
     ensures fault { IfErr result (λ fault. UnlessMemory fault.code
-        (IsOriginalFault (option_map named_text original.entry))) }
+        (IsOriginalFault (option_map named_text original.entry) fault)) }
 {
     match original {
         Some(original) => with_original(alloc, original, sheet),
@@ -90,6 +90,7 @@ fn with_j1939(
     ensures made { IfOk result (λ made. IsWithJ1939 wanted text.items sheet.now made.items) }
     ensures fault { IfErr result (λ fault. UnlessMemory fault.code
         (IsUnreadable text.items sheet.now)) }
+    ensures wanted { IfErr result (λ fault. UnlessMemory fault.code (wanted ≡ true)) }
 {
     if wanted {
         return text_with_j1939(alloc, &text, sheet);
@@ -103,7 +104,8 @@ pub fn complete(alloc: Global, text: Vec<u8>, besides: Besides) -> Result<Comple
     ensures made { IfOk result (λ made. IsCompleted (option_map named_text besides.entry.original)
         besides.entry.j1939 text.items made.text.items made.left_out.items) }
     ensures fault { IfErr result (λ fault. UnlessMemory fault.code
-        (CannotBeCompleted (option_map named_text besides.entry.original) text.items)) }
+        (CannotBeCompleted (option_map named_text besides.entry.original) besides.entry.j1939
+        text.items fault)) }
 {
     let reading = read(alloc, &text)?;
     let sheet = &reading.sheet;

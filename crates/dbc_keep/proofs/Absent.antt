@@ -1,5 +1,6 @@
 -- What of the things that are cited a sheet doesn't have.
-use Rattle.std.proofs.Common.{◌≡◌, ◌≤◌, ◌++◌, ◌-◌, ℕ, true, false, List, [], ◌∷◌, Option, Some, None, refl, sym, ap, ◌∙◌}
+use Rattle.std.proofs.Common.{◌≡◌, ◌≤◌, ◌++◌, ◌-◌, ℕ, true, false, List, [], ◌∷◌, Option, Some, None, refl, sym, ap}
+use Rattle.std.proofs.Common.{◌∙◌}
 use Rattle.std.proofs.Common.{arith, drop, get_or, length, take}
 use Rattle.std.proofs.lemmas.List.{take_all}
 use Rattle.std.specs.List.{flat_map}
@@ -10,7 +11,8 @@ use Rattle.dbc_grammar.specs.declared.token.TokenKind.TheVariants.{Mark, Name, N
 use Rattle.dbc_sheet.specs.declared.sheet.Sheet.{Sheet}
 use Rattle.dbc_words.specs.Name.{no_node}
 use Rattle.dbc_keep.specs.Staying.{all_seen, seen}
-use Rattle.dbc_keep_law.specs.Staying.{Citation, CitesNode, CitesSignal, Word, absent, first_absent, is_name_word, is_word}
+use Rattle.dbc_keep_law.specs.Staying.{Citation, CitesNode, CitesSignal, Word, absent, first_absent, is_name_word}
+use Rattle.dbc_keep_law.specs.Staying.{is_word}
 use Rattle.dbc_keep_law.specs.Staying.{node_cited, or_else, signal_cited}
 use Rattle.dbc_keep_law.specs.declared.reason.Reason.{Reason}
 
@@ -29,7 +31,8 @@ pub absent_append : (s : Sheet) (cs ds : List Citation)
     → first_absent s (cs ++ ds) ≡ or_else (first_absent s cs) (first_absent s ds)
 absent_append s [] ds = refl
 absent_append s (c ∷ cs) ds =
-    ap (or_else (absent s c)) (absent_append s cs ds) ∙ sym (or_assoc (absent s c) (first_absent s cs) (first_absent s ds))
+    ap (or_else (absent s c)) (absent_append s cs ds)
+    ∙ sym (or_assoc (absent s c) (first_absent s cs) (first_absent s ds))
 
 -- ---- words that name something
 

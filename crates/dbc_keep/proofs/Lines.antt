@@ -22,7 +22,8 @@ there_by source place p ps false e more = rw e more
 there_is : (source : List ℕ) (passed : List Passed) (place : ℕ)
     → lines_at place (all_found source passed) ≡ lines_there source place passed
 there_is source [] place = refl
-there_is source (p ∷ ps) place = there_by source place p ps (place_of p.keyword == place) refl (there_is source ps place)
+there_is source (p ∷ ps) place =
+    there_by source place p ps (place_of p.keyword == place) refl (there_is source ps place)
 
 any_by : (source : List ℕ) (place : ℕ) (says : Line → Bool) (p : Passed) (ps : List Passed) (b : Bool)
     → (place_of p.keyword == place) ≡ b
@@ -38,7 +39,8 @@ any_is source place says (p ∷ ps) =
     any_by source place says p ps (place_of p.keyword == place) refl (any_is source place says ps)
 
 declared_is : (s : Sheet) (source : List ℕ) (passed : List Passed) (place : ℕ) (says : Line → Bool) (line : Line)
-    → unless_said s says (lines_at place (all_found source passed)) line ≡ declared_lines s source passed place says line
+    → unless_said s says (lines_at place (all_found source passed)) line
+    ≡ declared_lines s source passed place says line
 declared_is s source passed place says line =
     ap (λ b. if has_spn s && not b then line ∷ [] else []) (any_is source place says passed)
 
@@ -96,7 +98,8 @@ module _ (s : Sheet) (source : List ℕ) (passed : List Passed) where
   one = sheet_lines s source passed
 
   abbrev two : List Line
-  two = one ++ comment_lines [] s.comment ++ flat_map node_comment s.nodes ++ flat_map message_comments s.messages ++ at 5
+  two = one ++ comment_lines [] s.comment ++ flat_map node_comment s.nodes ++ flat_map message_comments s.messages
+      ++ at 5
 
   abbrev three : List Line
   three = two ++ at 6 ++ definition ++ at 7 ++ default
@@ -126,7 +129,8 @@ module _ (s : Sheet) (source : List ℕ) (passed : List Passed) where
   are_regrouped : one ++ comments ++ declarations ++ attributes ++ texts ++ types ≡ assembled s at definition default
   are_regrouped =
       ap (λ (l : List Line). l ++ declarations ++ attributes ++ texts ++ types)
-      (join4 one (comment_lines [] s.comment) (flat_map node_comment s.nodes) (flat_map message_comments s.messages) (at 5))
+      (join4 one (comment_lines [] s.comment) (flat_map node_comment s.nodes) (flat_map message_comments s.messages)
+      (at 5))
       ∙ ap (λ (l : List Line). l ++ attributes ++ texts ++ types) (join4 two (at 6) definition (at 7) default)
       ∙ ap (λ (l : List Line). l ++ texts ++ types) (join2 three (at 8) (each_signal spn_lines s))
       ∙ ap (λ (l : List Line). l ++ types)

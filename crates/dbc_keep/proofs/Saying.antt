@@ -1,4 +1,4 @@
--- Whether a statement declares the attribute with suspect parameter numbers is seen by its second and third tokens.
+-- Whether a statement declares the attribute with suspect parameter numbers is seen by its first three tokens.
 use Rattle.std.proofs.Common.{◌≡◌, ◌==◌, ◌&&◌, ℕ, Bool, true, false, List, [], ◌∷◌, drop, codes, refl, sym, ap, ◌∙◌}
 use Rattle.std.specs.Str.{bytes_eq}
 use Rattle.dbc_words.specs.declared.keyword.Keyword.{Keyword}
@@ -16,6 +16,12 @@ use Rattle.dbc_read.specs.declared.passed.Passed.{Passed}
 
 abbrev pub spn_text : List ℕ
 spn_text = codes "\"SPN\""
+
+abbrev pub definition_text : List ℕ
+definition_text = codes "BA_DEF_"
+
+abbrev pub default_text : List ℕ
+default_text = codes "BA_DEF_DEF_"
 
 abbrev pub signal_text : List ℕ
 signal_text = codes "SG_"
@@ -39,29 +45,33 @@ closed_other t e = rw (closed_text t e) refl
 module _ (source : List ℕ) (t : Token) where
   third_by : (u v : Token) (us : List Token) (b : Bool) → is_open v ≡ b → is_open u ≡ true
       → defines_spn (line_of source (t ∷ to_mark (u ∷ v ∷ us)))
-      ≡ (bytes_eq u.text signal_text && bytes_eq v.text spn_text)
+      ≡ (bytes_eq t.text definition_text && (bytes_eq u.text signal_text && bytes_eq v.text spn_text))
   third_by u v us true e h = rw (h, e) refl
   third_by u v us false e h = rw (h, e) refl
 
   second_by : (u : Token) (us : List Token) (b : Bool) → is_open u ≡ b
       → defines_spn (line_of source (t ∷ to_mark (u ∷ us)))
-      ≡ (bytes_eq u.text signal_text && starts (has_text spn_text) us)
-  second_by u [] true e = rw e (sym (none_of (bytes_eq u.text signal_text)))
+      ≡ (bytes_eq t.text definition_text && (bytes_eq u.text signal_text && starts (has_text spn_text) us))
+  second_by u [] true e =
+      rw (e, none_of (bytes_eq u.text signal_text)) (sym (none_of (bytes_eq t.text definition_text)))
   second_by u (v ∷ us) true e = third_by u v us (is_open v) refl e
-  second_by u us false e = rw (e, closed_other u e) refl
+  second_by u us false e = rw (e, closed_other u e) (sym (none_of (bytes_eq t.text definition_text)))
 
   defines_by_words : (ts : List Token) → defines_spn (line_of source (t ∷ to_mark ts))
-      ≡ (starts (has_text signal_text) ts && starts (has_text spn_text) (drop 1 ts))
-  defines_by_words [] = refl
+      ≡ (bytes_eq t.text definition_text
+      && (starts (has_text signal_text) ts && starts (has_text spn_text) (drop 1 ts)))
+  defines_by_words [] = sym (none_of (bytes_eq t.text definition_text))
   defines_by_words (u ∷ us) = second_by u us (is_open u) refl
 
   default_by : (u : Token) (us : List Token) (b : Bool) → is_open u ≡ b
-      → defaults_spn (line_of source (t ∷ to_mark (u ∷ us))) ≡ bytes_eq u.text spn_text
+      → defaults_spn (line_of source (t ∷ to_mark (u ∷ us)))
+      ≡ (bytes_eq t.text default_text && bytes_eq u.text spn_text)
   default_by u us true e = rw e refl
   default_by u us false e = rw e refl
 
-  defaults_by_words : (ts : List Token) → defaults_spn (line_of source (t ∷ to_mark ts)) ≡ starts (has_text spn_text) ts
-  defaults_by_words [] = refl
+  defaults_by_words : (ts : List Token) → defaults_spn (line_of source (t ∷ to_mark ts))
+      ≡ (bytes_eq t.text default_text && starts (has_text spn_text) ts)
+  defaults_by_words [] = sym (none_of (bytes_eq t.text default_text))
   defaults_by_words (u ∷ us) = default_by u us (is_open u) refl
 
 -- ---- of a statement of the place
@@ -75,9 +85,15 @@ default_to_mark Message h ts = absurd cc
 default_to_mark k h ts = refl
 
 module _ (source : List ℕ) (one : Passed) (tokens : List Token) (there : tokens_at source one.at ≡ tokens) where
+  abbrev defines : List Token → Bool
+  defines ts = starts (has_text definition_text) ts
+      && (starts (has_text signal_text) (drop 1 ts) && starts (has_text spn_text) (drop 1 (drop 1 ts)))
+
+  abbrev defaults : List Token → Bool
+  defaults ts = starts (has_text default_text) ts && starts (has_text spn_text) (drop 1 ts)
+
   defines_there : (ts : List Token) → tokens ≡ ts → (place_of one.keyword == 6) ≡ true
-      → defines_spn (found_in source one).line
-      ≡ (starts (has_text signal_text) (drop 1 ts) && starts (has_text spn_text) (drop 1 (drop 1 ts)))
+      → defines_spn (found_in source one).line ≡ defines ts
   defines_there [] e h = ap (λ (ts : List Token). defines_spn (line_of source (run_of one.keyword ts))) (there ∙ e)
   defines_there (t ∷ ts) e h =
       ap (λ (ts : List Token). defines_spn (line_of source (run_of one.keyword ts))) (there ∙ e)
@@ -85,26 +101,40 @@ module _ (source : List ℕ) (one : Passed) (tokens : List Token) (there : token
       ∙ defines_by_words source t ts
 
   defaults_there : (ts : List Token) → tokens ≡ ts → (place_of one.keyword == 7) ≡ true
-      → defaults_spn (found_in source one).line ≡ starts (has_text spn_text) (drop 1 ts)
+      → defaults_spn (found_in source one).line ≡ defaults ts
   defaults_there [] e h = ap (λ (ts : List Token). defaults_spn (line_of source (run_of one.keyword ts))) (there ∙ e)
   defaults_there (t ∷ ts) e h =
       ap (λ (ts : List Token). defaults_spn (line_of source (run_of one.keyword ts))) (there ∙ e)
       ∙ ap (λ (ts : List Token). defaults_spn (line_of source (t ∷ ts))) (default_to_mark one.keyword h ts)
       ∙ defaults_by_words source t ts
 
-  pub says_defines : (place_of one.keyword == 6) ≡ true
-      → says_there source 6 defines_spn one
-      ≡ (starts (has_text signal_text) (drop 1 tokens) && starts (has_text spn_text) (drop 1 (drop 1 tokens)))
+  says_defines : (place_of one.keyword == 6) ≡ true → says_there source 6 defines_spn one ≡ defines tokens
   says_defines h = rw h (defines_there tokens refl h)
 
-  pub says_default : (place_of one.keyword == 7) ≡ true
-      → says_there source 7 defaults_spn one ≡ starts (has_text spn_text) (drop 1 tokens)
+  says_default : (place_of one.keyword == 7) ≡ true → says_there source 7 defaults_spn one ≡ defaults tokens
   says_default h = rw h (defaults_there tokens refl h)
 
-  pub no_signal : (place_of one.keyword == 6) ≡ true → starts (has_text signal_text) (drop 1 tokens) ≡ false
-      → says_there source 6 defines_spn one ≡ false
-  no_signal h e = says_defines h ∙ rw e refl
+  -- of the definition
 
-  pub signal_named : (place_of one.keyword == 6) ≡ true → starts (has_text signal_text) (drop 1 tokens) ≡ true
+  pub no_definition : (place_of one.keyword == 6) ≡ true → starts (has_text definition_text) tokens ≡ false
+      → says_there source 6 defines_spn one ≡ false
+  no_definition h e = says_defines h ∙ rw e refl
+
+  pub no_signal : (place_of one.keyword == 6) ≡ true → starts (has_text definition_text) tokens ≡ true
+      → starts (has_text signal_text) (drop 1 tokens) ≡ false → says_there source 6 defines_spn one ≡ false
+  no_signal h d e = says_defines h ∙ rw (d, e) refl
+
+  pub signal_named : (place_of one.keyword == 6) ≡ true → starts (has_text definition_text) tokens ≡ true
+      → starts (has_text signal_text) (drop 1 tokens) ≡ true
       → says_there source 6 defines_spn one ≡ starts (has_text spn_text) (drop 1 (drop 1 tokens))
-  signal_named h e = says_defines h ∙ rw e refl
+  signal_named h d e = says_defines h ∙ rw (d, e) refl
+
+  -- of the default
+
+  pub no_default : (place_of one.keyword == 7) ≡ true → starts (has_text default_text) tokens ≡ false
+      → says_there source 7 defaults_spn one ≡ false
+  no_default h e = says_default h ∙ rw e refl
+
+  pub default_named : (place_of one.keyword == 7) ≡ true → starts (has_text default_text) tokens ≡ true
+      → says_there source 7 defaults_spn one ≡ starts (has_text spn_text) (drop 1 tokens)
+  default_named h d = says_default h ∙ rw d refl

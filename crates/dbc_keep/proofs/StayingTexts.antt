@@ -45,7 +45,8 @@ by_tokens s source k (t ∷ ts) =
     ap (reason_by s k) (pieces_words source t.end (others_of k ts)) ∙ by_keyword s k ts
 
 pub reason_there : (s : Sheet) (source : List ℕ) (one : Passed)
-    → reason s (found_in source one) ≡ reason_by s one.keyword (map token_word (to_mark (drop 1 (tokens_at source one.at))))
+    → reason s (found_in source one)
+    ≡ reason_by s one.keyword (map token_word (to_mark (drop 1 (tokens_at source one.at))))
 reason_there s source one = by_tokens s source one.keyword (tokens_at source one.at)
 
 pub message_stays : (s : Sheet) (source : List ℕ) (one : Passed) → one.keyword ≡ Message
@@ -110,7 +111,8 @@ module _ (source text : List ℕ) (o s : Sheet) (passed : List Passed)
       written ∙ ap (flat_map line_text) (lines_are s source (staying s source passed))
       ∙ ap (kept_text s) (staying_found s source passed)
 
-  of_text : StatementsAreFound → StatementsStay → Keeps text s (completed s (filter (stays s) (all_found source passed)))
+  of_text : StatementsAreFound → StatementsStay
+      → Keeps text s (completed s (filter (stays s) (all_found source passed)))
   of_text law stay =
       let k = keeps_found source o passed reads law in
       let ps = filter (stays s) (all_found source passed) in
@@ -127,5 +129,6 @@ module _ (source text : List ℕ) (o s : Sheet) (passed : List Passed)
 
   pub reads_only : StatementsAreFound → StatementsStay → KeptIsRead → ReadsAsOneAtMost → ReadsOnlyAs text s
   reads_only law stay read one =
-      let there : Reads text s = read text s (completed s (filter (stays s) (all_found source passed))) (of_text law stay) in
+      let there : Reads text s =
+      read text s (completed s (filter (stays s) (all_found source passed))) (of_text law stay) in
       record { reads = there; only = λ t (p, r). (one text t s p there.0 r there.1).0 }

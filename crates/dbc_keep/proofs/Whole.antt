@@ -28,7 +28,13 @@ module _ (source text : List ℕ) (s : Sheet) (passed : List Passed)
   text_is = written ∙ ap (flat_map line_text) (lines_are s source passed)
 
   pub is_kept : StatementsAreFound → IsKept source text
-  is_kept law = record { sheet = s; passages = all_found source passed; keeps = keeps_found source s passed reads law; text_is = text_is }
+  is_kept law =
+      record {
+        sheet = s;
+        passages = all_found source passed;
+        keeps = keeps_found source s passed reads law;
+        text_is = text_is;
+      }
 
   pub reads_only : StatementsAreFound → KeepsSheet → ReadsAsOneAtMost → ReadsOnlyAs text s
   reads_only law same one =

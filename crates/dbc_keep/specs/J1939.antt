@@ -1,6 +1,7 @@
 -- The statements by which other tools take the 29-bit messages of a sheet as messages of SAE J1939: the attributes
 -- `ProtocolType`, of the network, and `VFrameFormat`, of messages, as Vector's tools know them.
-use Rattle.std.specs.Prelude.{◌&&◌, ◌||◌, ◌++◌, ◌⊎◌, ℕ, Bool, true, false, List, [], map, drop, codes, nat_le, if◌then◌else◌}
+use Rattle.std.specs.Prelude.{◌&&◌, ◌||◌, ◌++◌, ◌⊎◌, ℕ, Bool, true, false, List, [], map, drop, codes, nat_le}
+use Rattle.std.specs.Prelude.{if◌then◌else◌}
 use Rattle.std.specs.Fmt.{decimal}
 use Rattle.std.specs.List.{flat_map, list_any}
 use Rattle.can_id.specs.Ident.{extended_flag}

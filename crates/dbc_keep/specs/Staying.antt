@@ -37,7 +37,8 @@ abbrev pub left_out : Sheet → List ℕ → List Passed → List LeftOut
 left_out s source passed = filter_map (left_out_of s source) passed
 
 -- The source has these skipped statements. The text is the canonical lines of the sheet with those of them that stay,
--- each once, place after place, with the declarations that the canonical lines add; and these are what is skipped of it.
+-- each once, place after place, with the declarations that the canonical lines add; and these are what is skipped of
+-- it.
 pub record KeepsStaying (source text : List ℕ) (o s : Sheet) : Type 0 where
   pub passages : List Passage
   pub of_source : Keeps source o passages

@@ -35,7 +35,9 @@ fn defines_spn(source: &[u8], one: Passed) -> bool
         return false;
     }
     let mut lexer = Lexer::at(source, one.at);
-    skip(&mut lexer);
+    if !is_next(&mut lexer, b"BA_DEF_") {
+        return false;
+    }
     if !is_next(&mut lexer, b"SG_") {
         return false;
     }
@@ -50,7 +52,9 @@ fn defaults_spn(source: &[u8], one: Passed) -> bool
         return false;
     }
     let mut lexer = Lexer::at(source, one.at);
-    skip(&mut lexer);
+    if !is_next(&mut lexer, b"BA_DEF_DEF_") {
+        return false;
+    }
     is_next(&mut lexer, b"\"SPN\"")
 }
 

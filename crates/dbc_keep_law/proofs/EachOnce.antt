@@ -1,5 +1,6 @@
 -- Each skipped statement is in the kept text once.
-use Rattle.std.proofs.Common.{◌≡◌, ◌==◌, ◌+◌, ◌<◌, ◌≤◌, ◌++◌, ℕ, Bool, true, false, List, [], ◌∷◌, filter, refl, sym, ap, subst, ◌∙◌}
+use Rattle.std.proofs.Common.{◌≡◌, ◌==◌, ◌+◌, ◌<◌, ◌≤◌, ◌++◌, ℕ, Bool, true, false, List, [], ◌∷◌, filter, refl, sym}
+use Rattle.std.proofs.Common.{ap, subst, ◌∙◌}
 use Rattle.std.proofs.Common.{append-nil, append_assoc, arith, IsPermutation}
 use Rattle.std.specs.Prelude.{nat_le}
 use Rattle.std.proofs.lemmas.Bool.Decides.{nat_tests}
@@ -75,7 +76,8 @@ record Splits (ps others done : List Passage) (n : ℕ) : Type 0 where
   is : IsPermutation (ps ++ others) (done ++ from_place n ps)
 
 module _ {ps : List Passage} where
-  next : {others done : List Passage} {n : ℕ} → Splits ps others done n → Splits ps others (done ++ at_place n ps) (n + 1)
+  next : {others done : List Passage} {n : ℕ} → Splits ps others done n
+      → Splits ps others (done ++ at_place n ps) (n + 1)
   next {others} {done} {n} h = record {
     is = subst (IsPermutation (ps ++ others)) (sym (append_assoc done (at_place n ps) (from_place (n + 1) ps)))
         (IsPermutation-trans _ _ _ h.is (IsPermutation-append_right done _ _ (step n ps)));
@@ -94,7 +96,8 @@ module _ {ps : List Passage} where
       (subst (IsPermutation ((ps ++ others) ++ more)) (append_assoc done rest more) front) in
       record {
         is = subst (IsPermutation (ps ++ (others ++ more))) (sym (append_assoc done more rest))
-            (IsPermutation-trans (ps ++ (others ++ more)) (done ++ (rest ++ more)) (done ++ (more ++ rest)) left swapped);
+            (IsPermutation-trans (ps ++ (others ++ more)) (done ++ (rest ++ more))
+            (done ++ (more ++ rest)) left swapped);
       }
 
 first_place : (k : Keyword) → nat_le 0 (place_of k) ≡ true

@@ -1,5 +1,6 @@
 -- Statements that can be passed over are read the same wherever their words stand.
-use Rattle.std.proofs.Common.{◌≡◌, ◌&&◌, ℕ, true, false, List, [], ◌∷◌, ◌++◌, Option, Some, None, option_map, codes, refl, sym, ap, subst, ◌∙◌, inl, inr}
+use Rattle.std.proofs.Common.{◌≡◌, ◌&&◌, ℕ, true, false, List, [], ◌∷◌, ◌++◌, Option, Some, None, option_map, codes}
+use Rattle.std.proofs.Common.{refl, sym, ap, subst, ◌∙◌, inl, inr}
 use Rattle.std.specs.List.{AllByRecursion}
 use Rattle.std.specs.Str.{bytes_eq}
 use Rattle.std.proofs.lemmas.Bool.{and_parts}
@@ -7,10 +8,16 @@ use Rattle.std.proofs.lemmas.List.{append_cancel_right}
 use Rattle.dbc_words.specs.Keyword.{KeywordGroup, Kept, Passed, Refused, keyword_group, keyword_text}
 use Rattle.base.specs.WholeNumber.{is_numeral, whole_of}
 use Rattle.dbc_words.specs.declared.keyword.Keyword.{Keyword}
-use Rattle.dbc_words.specs.declared.keyword.Keyword.TheVariants.{Version, NewSymbols, BitTiming, Nodes, ValueTable, Message, Signal, Comment, ValueTexts, SignalValueType, AttributeValue}
+use Rattle.dbc_words.specs.declared.keyword.Keyword.TheVariants.{Version, NewSymbols, BitTiming, Nodes, ValueTable}
+use Rattle.dbc_words.specs.declared.keyword.Keyword.TheVariants.{Message, Signal, Comment, ValueTexts, SignalValueType}
+use Rattle.dbc_words.specs.declared.keyword.Keyword.TheVariants.{AttributeValue}
 use Rattle.dbc_grammar.specs.Fields.{is_a, is_mark, is_key, key_of, cited_number}
 use Rattle.dbc_grammar.specs.Inside.{inside_of}
-use Rattle.dbc_grammar.specs.Grammar.{is_open, version_line, symbols_line, timing_line, nodes_line, table_line, message_line, file_comment, node_comment, message_comment, signal_comment, value_texts_line, is_spn_name, spn_line, skipped, passed_line, passed_value_texts, passed_attribute, independent_line, comment_line, other_line, line, first_word, statement}
+use Rattle.dbc_grammar.specs.Grammar.{is_open, version_line, symbols_line, timing_line, nodes_line, table_line}
+use Rattle.dbc_grammar.specs.Grammar.{message_line, file_comment, node_comment, message_comment, signal_comment}
+use Rattle.dbc_grammar.specs.Grammar.{value_texts_line, is_spn_name, spn_line, skipped, passed_line, passed_value_texts}
+use Rattle.dbc_grammar.specs.Grammar.{passed_attribute, independent_line, comment_line, other_line, line, first_word}
+use Rattle.dbc_grammar.specs.Grammar.{statement}
 use Rattle.dbc_grammar.specs.Rules.{Rule, one, either, many}
 use Rattle.dbc_grammar.specs.Statement.{
   Content,
@@ -73,7 +80,8 @@ one_end ts rest more a b =
 
 -- ---- an attribute value that isn't read
 
-attribute_each : (ts : List Token) (x : Content) (rest : List Token) → passed_attribute ts x rest → Frame Any passed_attribute ts x rest
+attribute_each : (ts : List Token) (x : Content) (rest : List Token) → passed_attribute ts x rest
+    → Frame Any passed_attribute ts x rest
 unfolding passed_attribute
 attribute_each ts x rest h =
     let f = framed_skipped.each ts x rest h.reads in
@@ -84,11 +92,14 @@ attribute_each ts x rest h =
           let there = f.moves moved others alike tt in
           record {
             unread = λ y more k.
-                let same = one_end (moved ++ others) others more (ending_skipped.each (moved ++ others) x others there) (ending_spn.each (moved ++ others) y more k) in
+                let same = one_end (moved ++ others) others more (ending_skipped.each (moved ++ others) x others there)
+                (ending_spn.each (moved ++ others) y more k) in
                 let g = framed_spn.each (moved ++ others) y more k in
-                let runs : moved ≡ g.run = append_cancel_right moved g.run others (g.parts ∙ ap (λ (l : List Token). g.run ++ l) (sym same)) in
+                let runs : moved ≡ g.run = append_cancel_right moved g.run others
+                (g.parts ∙ ap (λ (l : List Token). g.run ++ l) (sym same)) in
                 let back : Alike g.run f.run = subst (λ l. Alike l f.run) runs (alike_back f.run moved alike) in
-                let here : spn_line ts y rest = subst (λ l. spn_line l y rest) (sym f.parts) (g.moves f.run rest back tt) in
+                let here : spn_line ts y rest =
+                subst (λ l. spn_line l y rest) (sym f.parts) (g.moves f.run rest back tt) in
                 h.unread y rest here;
             reads = there;
           };
@@ -117,7 +128,8 @@ cannot c d e never can = never (subst CanPass e can)
 
 -- what the rule reads of such contents moves
 abbrev Moves : Rule Content → Type 0
-Moves rule = (ts : List Token) (c : Content) (rest : List Token) → rule ts c rest → CanPass c → Frame Next rule ts c rest
+Moves rule = (ts : List Token) (c : Content) (rest : List Token) → rule ts c rest → CanPass c
+    → Frame Next rule ts c rest
 
 moves_framed : {rule : Rule Content} → Framed Any rule → Moves rule
 moves_framed f ts c rest h can = frame_any (f.each ts c rest h)
@@ -186,7 +198,8 @@ moves_line ValueTable = moves_table
 moves_line Message = moves_either message_line independent_line moves_message moves_independent
 moves_line Signal = λ ts c rest h can. absurd h
 moves_line Comment = moves_comment
-moves_line ValueTexts = moves_either value_texts_line passed_value_texts (moves_framed framed_value_texts) (moves_framed framed_passed_value_texts)
+moves_line ValueTexts = moves_either value_texts_line passed_value_texts (moves_framed framed_value_texts)
+    (moves_framed framed_passed_value_texts)
 moves_line SignalValueType = moves_framed framed_value_type
 moves_line AttributeValue = moves_either spn_line passed_attribute (moves_framed framed_spn) moves_attribute
 moves_line k = moves_other (keyword_group k)
@@ -207,27 +220,37 @@ word_key t (Some k) x e = let same : (t.start, k) ≡ x = cc in ap (λ (x : ℕ 
 pub record Moved (ts : List Token) (s : Statement) (rest : List Token) : Type 0 where
   pub run : List Token
   pub parts : ts ≡ run ++ rest
-  pub moves : (moved others : List Token) → Alike run moved → Next others → Says (moved ++ others) s.keyword s.content others
+  pub moves : (moved others : List Token) → Alike run moved → Next others
+      → Says (moved ++ others) s.keyword s.content others
 
 says_there : (k : Keyword) (c : Content) (first : Token) (run moved others : List Token) → key_of first ≡ Some k
-    → ((m o : List Token) → Alike run m → Next o → line k (m ++ o) c o) → Alike (first ∷ run) moved → Next others → Says (moved ++ others) k c others
+    → ((m o : List Token) → Alike run m → Next o → line k (m ++ o) c o) → Alike (first ∷ run) moved → Next others
+    → Says (moved ++ others) k c others
 unfolding statement
 says_there k c first run [] others key reads alike n = absurd alike
 says_there k c first run (u ∷ moved) others key reads alike n =
-    let word : first_word u ≡ Some (u.start, k) = ap (option_map (λ (j : Keyword). (u.start, j))) (sym (blind_key_of first u alike.0 alike.1) ∙ key) in
+    let word : first_word u ≡ Some (u.start, k) =
+    ap (option_map (λ (j : Keyword). (u.start, j))) (sym (blind_key_of first u alike.0 alike.1) ∙ key) in
     record {
       is = record { start = u.start; keyword = k; content = c };
       there = record {
         value = (u.start, k);
         middle = moved ++ others;
         begins = record { first = u; front = refl; value = word };
-        goes_on = record { value = c; middle = others; begins = reads moved others alike.2 n; goes_on = record { value = refl; all = refl } };
+        goes_on =
+            record {
+              value = c;
+              middle = others;
+              begins = reads moved others alike.2 n;
+              goes_on = record { value = refl; all = refl };
+            };
       };
       keyword = refl;
       content = refl;
     }
 
-pub statement_moves : (ts : List Token) (s : Statement) (rest : List Token) → statement ts s rest → CanPass s.content → Moved ts s rest
+pub statement_moves : (ts : List Token) (s : Statement) (rest : List Token) → statement ts s rest → CanPass s.content
+    → Moved ts s rest
 unfolding statement
 statement_moves ts s rest h can =
     let t = h.begins.first in
@@ -244,5 +267,11 @@ statement_moves ts s rest h can =
       parts = h.begins.front ∙ ap (λ (l : List Token). t ∷ l) tail;
       moves = λ moved others alike n.
           let there = says_there k body.value t f.run moved others key f.moves alike n in
-          record { is = there.is; there = there.there; keyword = there.keyword ∙ sym keyword; content = there.content ∙ sym content };
+          record {
+            is = there.is;
+            there = there.there;
+            keyword = there.keyword ∙ sym keyword;
+            content = there.content
+                ∙ sym content;
+          };
     }

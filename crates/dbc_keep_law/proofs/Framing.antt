@@ -1,10 +1,14 @@
 -- A statement that can be passed over is read the same wherever its words stand, if the end or a keyword other than
 -- `SG_` follows it.
-use Rattle.std.proofs.Common.{◌≡◌, ℕ, Bool, true, not, List, [], ◌∷◌, ◌++◌, Option, Some, None, codes, refl, sym, ap, subst, ◌∙◌, append_assoc}
+use Rattle.std.proofs.Common.{◌≡◌, ℕ, Bool, true, not, List, [], ◌∷◌, ◌++◌, Option, Some, None, codes, refl, sym, ap}
+use Rattle.std.proofs.Common.{subst, ◌∙◌, append_assoc}
 use Rattle.dbc_words.specs.declared.keyword.Keyword.{Keyword}
 use Rattle.dbc_words.specs.declared.keyword.Keyword.TheVariants.{Nodes, Message, Signal, EnvironmentVariable}
-use Rattle.dbc_grammar.specs.Fields.{is_mark, is_key, key_of, key, mark, text_of, cited_name, cited_number, sign_of, number_of, type_of, independent_number, decimal, entry}
-use Rattle.dbc_grammar.specs.Grammar.{begins_next, next, is_open, node_comment, message_comment, signal_comment, value_texts_line, value_type_line, is_spn_name, spn_of, spn_line, skipped, passed_comment, passed_value_texts, independent_line}
+use Rattle.dbc_grammar.specs.Fields.{is_mark, is_key, key_of, key, mark, text_of, cited_name, cited_number, sign_of}
+use Rattle.dbc_grammar.specs.Fields.{number_of, type_of, independent_number, decimal, entry}
+use Rattle.dbc_grammar.specs.Grammar.{begins_next, next, is_open, node_comment, message_comment, signal_comment}
+use Rattle.dbc_grammar.specs.Grammar.{value_texts_line, value_type_line, is_spn_name, spn_of, spn_line, skipped}
+use Rattle.dbc_grammar.specs.Grammar.{passed_comment, passed_value_texts, independent_line}
 use Rattle.dbc_grammar.specs.Rules.{Rule, token, one, only, ◌>>=◌, done, followed, optional, many}
 use Rattle.dbc_grammar.specs.Statement.{Content, PassedOver}
 use Rattle.dbc_grammar.specs.Token.{Token}
@@ -49,7 +53,8 @@ alike_back (x ∷ xs) (y ∷ ys) h = (sym h.0, sym h.1, alike_back xs ys h.2)
 -- ---- rules that read the same of the same words
 
 -- what the rule reads is a run, and it reads the same of every run of the same words, if F holds of what follows
-pub record Frame {A : Type 0} (F : List Token → Type 0) (rule : Rule A) (ts : List Token) (x : A) (rest : List Token) : Type 0 where
+pub record Frame {A : Type 0} (F : List Token → Type 0) (rule : Rule A) (ts : List Token) (x : A)
+    (rest : List Token) : Type 0 where
   pub run : List Token
   pub parts : ts ≡ run ++ rest
   pub moves : (moved others : List Token) → Alike run moved → F others → rule (moved ++ others) x others
@@ -57,35 +62,51 @@ pub record Frame {A : Type 0} (F : List Token → Type 0) (rule : Rule A) (ts : 
 pub record Framed {A : Type 0} (F : List Token → Type 0) (rule : Rule A) : Type 0 where
   pub each : (ts : List Token) (x : A) (rest : List Token) → rule ts x rest → Frame F rule ts x rest
 
-pub frame_any : {A : Type 0} {F : List Token → Type 0} {rule : Rule A} {ts : List Token} {x : A} {rest : List Token} → Frame Any rule ts x rest → Frame F rule ts x rest
+pub frame_any : {A : Type 0} {F : List Token → Type 0} {rule : Rule A} {ts : List Token} {x : A} {rest : List Token}
+    → Frame Any rule ts x rest → Frame F rule ts x rest
 frame_any f = record { run = f.run; parts = f.parts; moves = λ moved others alike _. f.moves moved others alike tt }
 
 framed_any : {A : Type 0} {F : List Token → Type 0} {rule : Rule A} → Framed Any rule → Framed F rule
 framed_any f = record { each = λ ts x rest h. frame_any (f.each ts x rest h) }
 
-pub frame_map : {A : Type 0} {F : List Token → Type 0} {rule other : Rule A} {ts : List Token} {x : A} {rest : List Token}
-    → ((us : List Token) (y : A) (more : List Token) → rule us y more → other us y more) → Frame F rule ts x rest → Frame F other ts x rest
-frame_map {x} f h = record { run = h.run; parts = h.parts; moves = λ moved others alike g. f (moved ++ others) x others (h.moves moved others alike g) }
+pub frame_map : {A : Type 0} {F : List Token → Type 0} {rule other : Rule A} {ts : List Token} {x : A}
+    {rest : List Token}
+    → ((us : List Token) (y : A) (more : List Token) → rule us y more → other us y more) → Frame F rule ts x rest
+    → Frame F other ts x rest
+frame_map {x} f h =
+    record {
+      run = h.run;
+      parts = h.parts;
+      moves = λ moved others alike g. f (moved ++ others) x others (h.moves moved others alike g);
+    }
 
 -- the meaning of a token is that of its word
 abbrev Blind : {A : Type 0} → (Token → A) → Type 0
 Blind says = (t u : Token) → t.kind ≡ u.kind → t.text ≡ u.text → says t ≡ says u
 
-token_moves : {A : Type 0} (says : Token → Option A) → Blind says → (t : Token) (x : A) → says t ≡ Some x → (moved others : List Token) → Alike (t ∷ []) moved
+token_moves : {A : Type 0} (says : Token → Option A) → Blind says → (t : Token) (x : A) → says t ≡ Some x
+    → (moved others : List Token) → Alike (t ∷ []) moved
     → token says (moved ++ others) x others
 token_moves says blind t x e [] others alike = absurd alike
-token_moves says blind t x e (u ∷ []) others alike = record { first = u; front = refl; value = sym (blind t u alike.0 alike.1) ∙ e }
+token_moves says blind t x e (u ∷ []) others alike =
+    record { first = u; front = refl; value = sym (blind t u alike.0 alike.1) ∙ e }
 token_moves says blind t x e (u ∷ v ∷ moved) others alike = absurd alike.2
 
 framed_token : {A : Type 0} (says : Token → Option A) → Blind says → Framed Any (token says)
 framed_token says blind = record {
-  each = λ ts x rest h. record { run = h.first ∷ []; parts = h.front; moves = λ moved others alike _. token_moves says blind h.first x h.value moved others alike };
+  each = λ ts x rest h.
+      record {
+        run = h.first ∷ [];
+        parts = h.front;
+        moves = λ moved others alike _. token_moves says blind h.first x h.value moved others alike;
+      };
 }
 
 framed_one : (test : Token → Bool) → Blind test → Framed Any (one test)
 framed_one test blind = framed_token (λ t. only (test t) tt) (λ t u k w. ap (λ b. only b tt) (blind t u k w))
 
-framed_then : {A B : Type 0} {F : List Token → Type 0} {r : Rule A} {q : A → Rule B} → Framed Any r → ((x : A) → Framed F (q x)) → Framed F (r >>= q)
+framed_then : {A B : Type 0} {F : List Token → Type 0} {r : Rule A} {q : A → Rule B} → Framed Any r
+    → ((x : A) → Framed F (q x)) → Framed F (r >>= q)
 framed_then {r} {q} first second = record {
   each = λ ts y rest h.
       let a = first.each ts h.value h.middle h.begins in
@@ -95,7 +116,8 @@ framed_then {r} {q} first second = record {
         parts = a.parts ∙ ap (λ (l : List Token). a.run ++ l) b.parts ∙ sym (append_assoc a.run b.run rest);
         moves = λ moved others alike f.
             let s = split a.run b.run moved alike in
-            let e : s.first ++ (s.second ++ others) ≡ moved ++ others = sym (append_assoc s.first s.second others) ∙ ap (λ (l : List Token). l ++ others) (sym s.parts) in
+            let e : s.first ++ (s.second ++ others) ≡ moved ++ others =
+            sym (append_assoc s.first s.second others) ∙ ap (λ (l : List Token). l ++ others) (sym s.parts) in
             subst (λ (l : List Token). (r >>= q) l y others) e (record {
               value = h.value;
               middle = s.second ++ others;
@@ -105,27 +127,41 @@ framed_then {r} {q} first second = record {
       };
 }
 
-done_moves : {A : Type 0} (x y : A) → y ≡ x → (moved others : List Token) → Alike [] moved → done x (moved ++ others) y others
+done_moves : {A : Type 0} (x y : A) → y ≡ x → (moved others : List Token) → Alike [] moved
+    → done x (moved ++ others) y others
 done_moves x y e [] others alike = record { value = e; all = refl }
 done_moves x y e (u ∷ moved) others alike = absurd alike
 
 framed_done : {A : Type 0} (x : A) → Framed Any (done x)
-framed_done x = record { each = λ ts y rest h. record { run = []; parts = sym h.all; moves = λ moved others alike _. done_moves x y h.value moved others alike } }
+framed_done x =
+    record {
+      each = λ ts y rest h.
+          record { run = []; parts = sym h.all; moves = λ moved others alike _. done_moves x y h.value moved others alike };
+    }
 
-followed_moves : (test : List Token → Bool) (x : Unit {0}) (moved others : List Token) → Alike [] moved → test others ≡ true → followed test (moved ++ others) x others
+followed_moves : (test : List Token → Bool) (x : Unit {0}) (moved others : List Token) → Alike [] moved
+    → test others ≡ true → followed test (moved ++ others) x others
 followed_moves test x [] others alike h = record { passes = h; all = refl }
 followed_moves test x (u ∷ moved) others alike h = absurd alike
 
 framed_followed : (test : List Token → Bool) → Framed (λ ts. test ts ≡ true) (followed test)
-framed_followed test = record { each = λ ts x rest h. record { run = []; parts = sym h.all; moves = λ moved others alike f. followed_moves test x moved others alike f } }
+framed_followed test =
+    record {
+      each = λ ts x rest h.
+          record { run = []; parts = sym h.all; moves = λ moved others alike f. followed_moves test x moved others alike f };
+    }
 
-none_moves : {A : Type 0} (r : Rule A) (moved others : List Token) → Alike [] moved → optional r (moved ++ others) None others
+none_moves : {A : Type 0} (r : Rule A) (moved others : List Token) → Alike [] moved
+    → optional r (moved ++ others) None others
 none_moves r [] others alike = refl
 none_moves r (u ∷ moved) others alike = absurd alike
 
-optional_each : {A : Type 0} (r : Rule A) → Framed Any r → (ts : List Token) (x : Option A) (rest : List Token) → optional r ts x rest → Frame Any (optional r) ts x rest
-optional_each r f ts None rest h = record { run = []; parts = sym h; moves = λ moved others alike _. none_moves r moved others alike }
-optional_each r f ts (Some x) rest h = let a = f.each ts x rest h in record { run = a.run; parts = a.parts; moves = a.moves }
+optional_each : {A : Type 0} (r : Rule A) → Framed Any r → (ts : List Token) (x : Option A) (rest : List Token)
+    → optional r ts x rest → Frame Any (optional r) ts x rest
+optional_each r f ts None rest h =
+    record { run = []; parts = sym h; moves = λ moved others alike _. none_moves r moved others alike }
+optional_each r f ts (Some x) rest h = let a = f.each ts x rest h in
+    record { run = a.run; parts = a.parts; moves = a.moves }
 
 framed_optional : {A : Type 0} {r : Rule A} → Framed Any r → Framed Any (optional r)
 framed_optional {r} f = record { each = optional_each r f }
@@ -134,8 +170,10 @@ nil_moves : {A : Type 0} (r : Rule A) (moved others : List Token) → Alike [] m
 nil_moves r [] others alike = refl
 nil_moves r (u ∷ moved) others alike = absurd alike
 
-many_each : {A : Type 0} (r : Rule A) → Framed Any r → (ts : List Token) (xs : List A) (rest : List Token) → many r ts xs rest → Frame Any (many r) ts xs rest
-many_each r f ts [] rest h = record { run = []; parts = sym h; moves = λ moved others alike _. nil_moves r moved others alike }
+many_each : {A : Type 0} (r : Rule A) → Framed Any r → (ts : List Token) (xs : List A) (rest : List Token)
+    → many r ts xs rest → Frame Any (many r) ts xs rest
+many_each r f ts [] rest h =
+    record { run = []; parts = sym h; moves = λ moved others alike _. nil_moves r moved others alike }
 many_each r f ts (x ∷ xs) rest (middle, here, more) =
     let a = f.each ts x middle here in
     let b = many_each r f middle xs rest more in
@@ -144,9 +182,13 @@ many_each r f ts (x ∷ xs) rest (middle, here, more) =
       parts = a.parts ∙ ap (λ (l : List Token). a.run ++ l) b.parts ∙ sym (append_assoc a.run b.run rest);
       moves = λ moved others alike _.
           let s = split a.run b.run moved alike in
-          let e : s.first ++ (s.second ++ others) ≡ moved ++ others = sym (append_assoc s.first s.second others) ∙ ap (λ (l : List Token). l ++ others) (sym s.parts) in
-          subst (λ (l : List Token). many r l (x ∷ xs) others) e
-          (s.second ++ others, a.moves s.first (s.second ++ others) s.first_alike tt, b.moves s.second others s.second_alike tt);
+          let e : s.first ++ (s.second ++ others) ≡ moved ++ others =
+          sym (append_assoc s.first s.second others) ∙ ap (λ (l : List Token). l ++ others) (sym s.parts) in
+          subst (λ (l : List Token). many r l (x ∷ xs) others) e (
+            s.second ++ others,
+            a.moves s.first (s.second ++ others) s.first_alike tt,
+            b.moves s.second others s.second_alike tt,
+          );
     }
 
 framed_many : {A : Type 0} {r : Rule A} → Framed Any r → Framed Any (many r)
@@ -206,11 +248,13 @@ framed_end c = framed_then (framed_one (is_mark (codes ";")) (blind_mark (codes 
 
 framed_decimal : Framed Any decimal
 unfolding decimal
-framed_decimal = framed_then (framed_optional (framed_token sign_of blind_sign)) (λ minus. framed_then (framed_token _ (blind_value _)) (λ n. framed_done n))
+framed_decimal = framed_then (framed_optional (framed_token sign_of blind_sign))
+    (λ minus. framed_then (framed_token _ (blind_value _)) (λ n. framed_done n))
 
 framed_entry : Framed Any entry
 unfolding entry
-framed_entry = framed_then framed_decimal (λ value. framed_then (framed_token text_of blind_text) (λ text. framed_done _))
+framed_entry = framed_then framed_decimal
+    (λ value. framed_then (framed_token text_of blind_text) (λ text. framed_done _))
 
 pub framed_skipped : Framed Any skipped
 unfolding skipped
@@ -243,7 +287,8 @@ framed_signal_comment =
 
 pub framed_passed_comment : Framed Any passed_comment
 unfolding passed_comment
-framed_passed_comment = framed_then (framed_one (is_key EnvironmentVariable) (blind_key EnvironmentVariable)) (λ word. framed_then framed_skipped (λ passed. framed_done passed))
+framed_passed_comment = framed_then (framed_one (is_key EnvironmentVariable) (blind_key EnvironmentVariable))
+    (λ word. framed_then framed_skipped (λ passed. framed_done passed))
 
 pub framed_value_texts : Framed Any value_texts_line
 unfolding value_texts_line
@@ -255,7 +300,8 @@ framed_value_texts =
 
 pub framed_passed_value_texts : Framed Any passed_value_texts
 unfolding passed_value_texts
-framed_passed_value_texts = framed_then (framed_token cited_name blind_name) (λ name. framed_then framed_skipped (λ passed. framed_done passed))
+framed_passed_value_texts = framed_then (framed_token cited_name blind_name)
+    (λ name. framed_then framed_skipped (λ passed. framed_done passed))
 
 pub framed_value_type : Framed Any value_type_line
 unfolding value_type_line
@@ -292,6 +338,11 @@ framed_independent =
             parts = sym (same ∙ h.begins.all);
             moves = λ moved others alike f.
                 let a = followed_moves next h.value moved others alike f in
-                record { value = h.value; middle = others; begins = a; goes_on = record { value = h.goes_on.value; all = refl } };
+                record {
+                  value = h.value;
+                  middle = others;
+                  begins = a;
+                  goes_on = record { value = h.goes_on.value; all = refl };
+                };
           };
     }

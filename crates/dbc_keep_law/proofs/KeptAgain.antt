@@ -1,13 +1,17 @@
 -- Formatting a kept text again, with what is passed over in it, changes nothing.
-use Rattle.std.proofs.Common.{◌≡◌, ◌==◌, ◌&&◌, ◌++◌, ℕ, Bool, true, false, not, List, [], ◌∷◌, map, Some, if◌then◌else◌, refl, ap, ◌∙◌, append-nil, append_assoc}
+use Rattle.std.proofs.Common.{◌≡◌, ◌==◌, ◌&&◌, ◌++◌, ℕ, Bool, true, false, not, List, [], ◌∷◌, map, Some, if◌then◌else◌}
+use Rattle.std.proofs.Common.{refl, ap, ◌∙◌, append-nil, append_assoc}
 use Rattle.std.specs.List.{filter_map, flat_map, list_any}
 use Rattle.std.proofs.lemmas.Bool.{eqb-true}
 use Rattle.std.proofs.lemmas.List.Elements.{filter-append, filter_map-append}
 use Rattle.std.proofs.lemmas.List.Folds.{list_any-append}
 use Rattle.dbc_sheet.specs.declared.sheet.Sheet.{Sheet}
-use Rattle.dbc_grammar.specs.Canon.{Line, comment_lines, each_signal, message_comments, message_lines, node_comment, nodes_line, spn_default, spn_definition, spn_lines, symbols_line, table_line, timing_line, type_lines, value_lines, version_line}
+use Rattle.dbc_grammar.specs.Canon.{Line, comment_lines, each_signal, message_comments, message_lines, node_comment}
+use Rattle.dbc_grammar.specs.Canon.{nodes_line, spn_default, spn_definition, spn_lines, symbols_line, table_line}
+use Rattle.dbc_grammar.specs.Canon.{timing_line, type_lines, value_lines, version_line}
 use Rattle.dbc_grammar.specs.Statement.{Content, CommentIs, Dropped, NodesAre, PassedOver, VersionIs}
-use Rattle.dbc_keep_law.specs.Kept.{at_place, completed, default_passage, defaults_spn, definition_passage, defines_spn, has_spn, kept_lines, lines_at, place_of, unless_said}
+use Rattle.dbc_keep_law.specs.Kept.{at_place, completed, default_passage, defaults_spn, definition_passage, defines_spn}
+use Rattle.dbc_keep_law.specs.Kept.{has_spn, kept_lines, lines_at, place_of, unless_said}
 use Rattle.dbc_keep_law.specs.Passages.{Passage}
 use Rattle.dbc_law.proofs.Contents as sheet_contents
 use Rattle.dbc_keep_law.proofs.KeptDivides.{passages}
@@ -34,16 +38,19 @@ none_of : (cs : List Content) → Choose (map canonical cs) []
 none_of [] = record { is = refl }
 none_of (c ∷ cs) = record { is = (none_of cs).is }
 
-all_by : (place : ℕ) (e : Entry) (es : List Entry) (b : Bool) → (place_of e.passage.keyword == place) ≡ b → chosen (units_at place es) ≡ at_place place (passages es)
+all_by : (place : ℕ) (e : Entry) (es : List Entry) (b : Bool) → (place_of e.passage.keyword == place) ≡ b
+    → chosen (units_at place es) ≡ at_place place (passages es)
     → chosen (units_at place (e ∷ es)) ≡ at_place place (passages (e ∷ es))
 all_by place e es true q more = rw q (ap (λ (l : List Passage). e.passage ∷ l) more)
 all_by place e es false q more = rw q more
 
 all_of : (place : ℕ) (es : List Entry) → Choose (units_at place es) (at_place place (passages es))
 all_of place [] = record { is = refl }
-all_of place (e ∷ es) = record { is = all_by place e es (place_of e.passage.keyword == place) refl (all_of place es).is }
+all_of place (e ∷ es) =
+    record { is = all_by place e es (place_of e.passage.keyword == place) refl (all_of place es).is }
 
-said_of : (b : Bool) (c : Content) (p : Passage) → Choose (if b then record { content = c; passage = Some p } ∷ [] else []) (if b then p ∷ [] else [])
+said_of : (b : Bool) (c : Content) (p : Passage)
+    → Choose (if b then record { content = c; passage = Some p } ∷ [] else []) (if b then p ∷ [] else [])
 said_of true c p = record { is = refl }
 said_of false c p = record { is = refl }
 
@@ -66,7 +73,8 @@ kept_chosen s es =
     also all_of 6 es also said_of b6 PassedOver definition_passage
     also all_of 7 es also said_of b7 PassedOver default_passage
     also all_of 8 es and_none spns
-    and_none values also all_of 9 es also all_of 10 es also all_of 11 es also all_of 12 es also all_of 13 es also all_of 14 es
+    and_none values also all_of 9 es also all_of 10 es also all_of 11 es also all_of 12 es also all_of 13 es
+    also all_of 14 es
     and_none types also all_of 15 es also all_of 16 es).is
 
 -- ---- those of one place
@@ -75,20 +83,27 @@ record Place (place : ℕ) (ps qs : List Passage) : Type 0 where
   is : at_place place ps ≡ qs
 
 infixl 10 ◌then◌
-◌then◌ : {place : ℕ} {ps qs xs ys : List Passage} → Place place ps xs → Place place qs ys → Place place (ps ++ qs) (xs ++ ys)
-◌then◌ {place} {ps} {qs} a b = record { is = filter-append (λ (p : Passage). place_of p.keyword == place) ps qs ∙ (λ i. a.is i ++ b.is i) }
+◌then◌ : {place : ℕ} {ps qs xs ys : List Passage} → Place place ps xs → Place place qs ys
+    → Place place (ps ++ qs) (xs ++ ys)
+◌then◌ {place} {ps} {qs} a b =
+    record { is = filter-append (λ (p : Passage). place_of p.keyword == place) ps qs ∙ (λ i. a.is i ++ b.is i) }
 
-there_by : (i j : ℕ) (p : Passage) (ps : List Passage) (c : Bool) → (j == i) ≡ c → place_of p.keyword ≡ j → at_place i ps ≡ (if c then ps else [])
+there_by : (i j : ℕ) (p : Passage) (ps : List Passage) (c : Bool) → (j == i) ≡ c → place_of p.keyword ≡ j
+    → at_place i ps ≡ (if c then ps else [])
     → at_place i (p ∷ ps) ≡ (if c then p ∷ ps else [])
-there_by i j p ps true e same more = let here : (place_of p.keyword == i) ≡ true = ap (λ n. n == i) same ∙ e in rw here (ap (λ (l : List Passage). p ∷ l) more)
-there_by i j p ps false e same more = let here : (place_of p.keyword == i) ≡ false = ap (λ n. n == i) same ∙ e in rw here more
+there_by i j p ps true e same more = let here : (place_of p.keyword == i) ≡ true = ap (λ n. n == i) same ∙ e in
+    rw here (ap (λ (l : List Passage). p ∷ l) more)
+there_by i j p ps false e same more = let here : (place_of p.keyword == i) ≡ false = ap (λ n. n == i) same ∙ e in
+    rw here more
 
-at_by : (i j : ℕ) (p : Passage) (ps : List Passage) (b c : Bool) → (place_of p.keyword == j) ≡ b → (j == i) ≡ c → at_place i (at_place j ps) ≡ (if c then at_place j ps else [])
+at_by : (i j : ℕ) (p : Passage) (ps : List Passage) (b c : Bool) → (place_of p.keyword == j) ≡ b → (j == i) ≡ c
+    → at_place i (at_place j ps) ≡ (if c then at_place j ps else [])
     → at_place i (at_place j (p ∷ ps)) ≡ (if c then at_place j (p ∷ ps) else [])
 at_by i j p ps false c q e more = rw q more
 at_by i j p ps true c q e more = rw q (there_by i j p (at_place j ps) c e (eqb-true (place_of p.keyword) j q) more)
 
-at_at : (i j : ℕ) (c : Bool) → (j == i) ≡ c → (ps : List Passage) → at_place i (at_place j ps) ≡ (if c then at_place j ps else [])
+at_at : (i j : ℕ) (c : Bool) → (j == i) ≡ c → (ps : List Passage)
+    → at_place i (at_place j ps) ≡ (if c then at_place j ps else [])
 at_at i j true e [] = refl
 at_at i j false e [] = refl
 at_at i j c e (p ∷ ps) = at_by i j p ps (place_of p.keyword == j) c refl e (at_at i j c e ps)
@@ -96,13 +111,15 @@ at_at i j c e (p ∷ ps) = at_by i j p ps (place_of p.keyword == j) c refl e (at
 of_place : (i j : ℕ) (ps : List Passage) → Place i (at_place j ps) (if j == i then at_place j ps else [])
 of_place i j ps = record { is = at_at i j (j == i) refl ps }
 
-of_said_by : (i : ℕ) (b c : Bool) (p : Passage) → (place_of p.keyword == i) ≡ c → at_place i (if b then p ∷ [] else []) ≡ (if c && b then p ∷ [] else [])
+of_said_by : (i : ℕ) (b c : Bool) (p : Passage) → (place_of p.keyword == i) ≡ c
+    → at_place i (if b then p ∷ [] else []) ≡ (if c && b then p ∷ [] else [])
 of_said_by i true true p e = rw e refl
 of_said_by i true false p e = rw e refl
 of_said_by i false true p e = refl
 of_said_by i false false p e = refl
 
-of_said : (i : ℕ) (b : Bool) (p : Passage) → Place i (if b then p ∷ [] else []) (if (place_of p.keyword == i) && b then p ∷ [] else [])
+of_said : (i : ℕ) (b : Bool) (p : Passage)
+    → Place i (if b then p ∷ [] else []) (if (place_of p.keyword == i) && b then p ∷ [] else [])
 of_said i b p = record { is = of_said_by i b (place_of p.keyword == i) p refl }
 
 module _ (s : Sheet) (ps : List Passage) where
@@ -118,14 +135,17 @@ module _ (s : Sheet) (ps : List Passage) where
   abbrev all_at : ℕ → List Passage
   all_at i =
       at i 0 ++ at i 1 ++ at i 2 ++ at i 3 ++ at i 4 ++ at i 5
-      ++ at i 6 ++ (if (6 == i) && b6 then definition_passage ∷ [] else []) ++ at i 7 ++ (if (7 == i) && b7 then default_passage ∷ [] else [])
+      ++ at i 6 ++ (if (6 == i) && b6 then definition_passage ∷ [] else []) ++ at i 7
+      ++ (if (7 == i) && b7 then default_passage ∷ [] else [])
       ++ at i 8 ++ at i 9 ++ at i 10 ++ at i 11 ++ at i 12 ++ at i 13 ++ at i 14 ++ at i 15 ++ at i 16
 
   placed : (i : ℕ) → at_place i (completed s ps) ≡ all_at i
   placed i =
-      (of_place i 0 ps then of_place i 1 ps then of_place i 2 ps then of_place i 3 ps then of_place i 4 ps then of_place i 5 ps
+      (of_place i 0 ps then of_place i 1 ps then of_place i 2 ps then of_place i 3 ps then of_place i 4 ps
+      then of_place i 5 ps
       then of_place i 6 ps then of_said i b6 definition_passage then of_place i 7 ps then of_said i b7 default_passage
-      then of_place i 8 ps then of_place i 9 ps then of_place i 10 ps then of_place i 11 ps then of_place i 12 ps then of_place i 13 ps then of_place i 14 ps
+      then of_place i 8 ps then of_place i 9 ps then of_place i 10 ps then of_place i 11 ps then of_place i 12 ps
+      then of_place i 13 ps then of_place i 14 ps
       then of_place i 15 ps then of_place i 16 ps).is
 
   placed_0 : at_place 0 (completed s ps) ≡ at_place 0 ps
@@ -184,7 +204,8 @@ module _ (s : Sheet) (ps : List Passage) where
 abbrev line_in : Passage → Line
 line_in p = p.line
 
-lines_with : (xs : List Passage) (b : Bool) (p : Passage) → map line_in (xs ++ (if b then p ∷ [] else [])) ≡ map line_in xs ++ (if b then p.line ∷ [] else [])
+lines_with : (xs : List Passage) (b : Bool) (p : Passage)
+    → map line_in (xs ++ (if b then p ∷ [] else [])) ≡ map line_in xs ++ (if b then p.line ∷ [] else [])
 lines_with [] true p = refl
 lines_with [] false p = refl
 lines_with (x ∷ xs) b p = ap (λ (l : List Line). x.line ∷ l) (lines_with xs b p)
@@ -195,11 +216,15 @@ any_total says kept l h true e = list_any-append says kept [] ∙ rw e refl
 any_total says kept l h false e = list_any-append says kept (l ∷ []) ∙ rw (e, h) refl
 
 not_again : (some : Bool) (says : Line → Bool) (kept : List Line) (l : Line) → says l ≡ true
-    → (if some && not (list_any says (kept ++ (if some && not (list_any says kept) then l ∷ [] else []))) then l ∷ [] else []) ≡ []
+    → (if some && not (list_any says (kept ++ (if some && not (list_any says kept) then l ∷ [] else [])))
+    then l ∷ [] else []) ≡ []
 not_again false says kept l h = refl
-not_again true says kept l h = ap (λ b. if not b then l ∷ [] else []) (any_total says kept l h (list_any says kept) refl)
+not_again true says kept l h =
+    ap (λ b. if not b then l ∷ [] else []) (any_total says kept l h (list_any says kept) refl)
 
-abbrev assemble : Sheet → List Line → List Line → List Line → List Line → List Line → List Line → List Line → List Line → List Line → List Line → List Line → List Line → List Line → List Line → List Line → List Line → List Line → List Line → List Line → List Line
+abbrev assemble : Sheet → List Line → List Line → List Line → List Line → List Line → List Line → List Line → List Line
+    → List Line → List Line → List Line → List Line → List Line → List Line → List Line → List Line → List Line
+    → List Line → List Line → List Line
 assemble s l0 l1 l2 l3 l4 l5 l6 l7 l8 l9 l10 l11 l12 l13 l14 l15 l16 d6 d7 =
     version_line s ∷ symbols_line ∷ timing_line ∷ nodes_line s
     ∷ map table_line s.tables ++ flat_map message_lines s.messages
@@ -222,9 +247,11 @@ module _ (s : Sheet) (l0 l1 l2 l3 l4 l5 l6 l7 l8 l9 l10 l11 l12 l13 l14 l15 l16 
       ++ comment_lines [] s.comment ++ flat_map node_comment s.nodes ++ flat_map message_comments s.messages ++ l5
 
   abbrev from_seven : List Line → List Line
-  from_seven x = x ++ l8 ++ each_signal spn_lines s ++ each_signal value_lines s ++ l9 ++ l10 ++ l11 ++ l12 ++ l13 ++ l14 ++ each_signal type_lines s ++ l15 ++ l16
+  from_seven x = x ++ l8 ++ each_signal spn_lines s ++ each_signal value_lines s ++ l9 ++ l10 ++ l11 ++ l12 ++ l13
+      ++ l14 ++ each_signal type_lines s ++ l15 ++ l16
 
-  moved_in : assemble s l0 l1 l2 l3 l4 l5 (l6 ++ d6) (l7 ++ d7) l8 l9 l10 l11 l12 l13 l14 l15 l16 [] [] ≡ assemble s l0 l1 l2 l3 l4 l5 l6 l7 l8 l9 l10 l11 l12 l13 l14 l15 l16 d6 d7
+  moved_in : assemble s l0 l1 l2 l3 l4 l5 (l6 ++ d6) (l7 ++ d7) l8 l9 l10 l11 l12 l13 l14 l15 l16 [] []
+      ≡ assemble s l0 l1 l2 l3 l4 l5 l6 l7 l8 l9 l10 l11 l12 l13 l14 l15 l16 d6 d7
   moved_in =
       ap (λ (x : List Line). from_seven (x ++ (l7 ++ d7) ++ [])) (shift to_six l6 d6)
       ∙ ap from_seven (shift (to_six ++ l6 ++ d6) l7 d7)
@@ -237,9 +264,11 @@ lines_again s ps =
     let e7 : lines_at 7 c ≡ lines_at 7 ps ++ unless_said s defaults_spn (lines_at 7 ps) spn_default =
     ap (map line_in) (placed_7 s ps) ∙ lines_with (at_place 7 ps) (b7 s ps) default_passage in
     let n6 : unless_said s defines_spn (lines_at 6 c) spn_definition ≡ [] =
-    ap (λ ls. unless_said s defines_spn ls spn_definition) e6 ∙ not_again (has_spn s) defines_spn (lines_at 6 ps) spn_definition refl in
+    ap (λ ls. unless_said s defines_spn ls spn_definition) e6
+    ∙ not_again (has_spn s) defines_spn (lines_at 6 ps) spn_definition refl in
     let n7 : unless_said s defaults_spn (lines_at 7 c) spn_default ≡ [] =
-    ap (λ ls. unless_said s defaults_spn ls spn_default) e7 ∙ not_again (has_spn s) defaults_spn (lines_at 7 ps) spn_default refl in
+    ap (λ ls. unless_said s defaults_spn ls spn_default) e7
+    ∙ not_again (has_spn s) defaults_spn (lines_at 7 ps) spn_default refl in
     let e0 : lines_at 0 c ≡ lines_at 0 ps = ap (map line_in) (placed_0 s ps) in
     let e1 : lines_at 1 c ≡ lines_at 1 ps = ap (map line_in) (placed_1 s ps) in
     let e2 : lines_at 2 c ≡ lines_at 2 ps = ap (map line_in) (placed_2 s ps) in
@@ -255,6 +284,15 @@ lines_again s ps =
     let e14 : lines_at 14 c ≡ lines_at 14 ps = ap (map line_in) (placed_14 s ps) in
     let e15 : lines_at 15 c ≡ lines_at 15 ps = ap (map line_in) (placed_15 s ps) in
     let e16 : lines_at 16 c ≡ lines_at 16 ps = ap (map line_in) (placed_16 s ps) in
-    let inside : kept_lines s c ≡ assemble s (lines_at 0 ps) (lines_at 1 ps) (lines_at 2 ps) (lines_at 3 ps) (lines_at 4 ps) (lines_at 5 ps) (lines_at 6 ps ++ unless_said s defines_spn (lines_at 6 ps) spn_definition) (lines_at 7 ps ++ unless_said s defaults_spn (lines_at 7 ps) spn_default) (lines_at 8 ps) (lines_at 9 ps) (lines_at 10 ps) (lines_at 11 ps) (lines_at 12 ps) (lines_at 13 ps) (lines_at 14 ps) (lines_at 15 ps) (lines_at 16 ps) [] [] =
-    λ i. assemble s (e0 i) (e1 i) (e2 i) (e3 i) (e4 i) (e5 i) (e6 i) (e7 i) (e8 i) (e9 i) (e10 i) (e11 i) (e12 i) (e13 i) (e14 i) (e15 i) (e16 i) (n6 i) (n7 i) in
-    inside ∙ moved_in s (lines_at 0 ps) (lines_at 1 ps) (lines_at 2 ps) (lines_at 3 ps) (lines_at 4 ps) (lines_at 5 ps) (lines_at 6 ps) (lines_at 7 ps) (lines_at 8 ps) (lines_at 9 ps) (lines_at 10 ps) (lines_at 11 ps) (lines_at 12 ps) (lines_at 13 ps) (lines_at 14 ps) (lines_at 15 ps) (lines_at 16 ps) (unless_said s defines_spn (lines_at 6 ps) spn_definition) (unless_said s defaults_spn (lines_at 7 ps) spn_default)
+    let inside : kept_lines s c ≡ assemble s (lines_at 0 ps) (lines_at 1 ps) (lines_at 2 ps) (lines_at 3 ps)
+    (lines_at 4 ps) (lines_at 5 ps) (lines_at 6 ps ++ unless_said s defines_spn (lines_at 6 ps) spn_definition)
+    (lines_at 7 ps ++ unless_said s defaults_spn (lines_at 7 ps) spn_default) (lines_at 8 ps) (lines_at 9 ps)
+    (lines_at 10 ps) (lines_at 11 ps) (lines_at 12 ps) (lines_at 13 ps) (lines_at 14 ps) (lines_at 15 ps)
+    (lines_at 16 ps) [] [] =
+    λ i. assemble s (e0 i) (e1 i) (e2 i) (e3 i) (e4 i) (e5 i) (e6 i) (e7 i) (e8 i) (e9 i) (e10 i) (e11 i) (e12 i)
+    (e13 i) (e14 i) (e15 i) (e16 i) (n6 i) (n7 i) in
+    inside ∙ moved_in s (lines_at 0 ps) (lines_at 1 ps) (lines_at 2 ps) (lines_at 3 ps) (lines_at 4 ps) (lines_at 5 ps)
+    (lines_at 6 ps) (lines_at 7 ps) (lines_at 8 ps) (lines_at 9 ps) (lines_at 10 ps) (lines_at 11 ps)
+    (lines_at 12 ps) (lines_at 13 ps) (lines_at 14 ps) (lines_at 15 ps) (lines_at 16 ps)
+    (unless_said s defines_spn (lines_at 6 ps) spn_definition)
+    (unless_said s defaults_spn (lines_at 7 ps) spn_default)

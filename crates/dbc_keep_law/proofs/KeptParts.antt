@@ -1,5 +1,6 @@
 -- The parts of a kept text: those of canonical lines, and the passed statements, verbatim.
-use Rattle.std.proofs.Common.{◌≡◌, ◌==◌, ◌&&◌, ◌++◌, ℕ, Bool, true, false, not, List, [], ◌∷◌, map, filter, Option, Some, None, if◌then◌else◌, refl, sym, ap, subst, ◌∙◌}
+use Rattle.std.proofs.Common.{◌≡◌, ◌==◌, ◌&&◌, ◌++◌, ℕ, Bool, true, false, not, List, [], ◌∷◌, map, filter, Option}
+use Rattle.std.proofs.Common.{Some, None, if◌then◌else◌, refl, sym, ap, subst, ◌∙◌}
 use Rattle.std.specs.List.{AllByRecursion, flat_map, list_any}
 use Rattle.dbc_sheet.specs.Form.{IsMessage, IsNode, IsSheet}
 use Rattle.dbc_words.specs.declared.keyword.Keyword.TheVariants as keyword
@@ -53,25 +54,38 @@ abbrev pub part_of : List ℕ → Rule Unit1
 part_of text = λ ts u rest. PartOf text ts u rest
 
 record Divide (text : List ℕ) (ls : List Line) (us : List Unit1) : Type 0 where
-  divided : (ts rest : List Token) → many (exact_line text) ts ls rest → next rest ≡ true → many (part_of text) ts us rest × (next ts ≡ true)
+  divided : (ts rest : List Token) → many (exact_line text) ts ls rest → next rest ≡ true
+      → many (part_of text) ts us rest × (next ts ≡ true)
 
-are_lines : (text : List ℕ) (ts : List Token) (ls : List Line) (rest : List Token) → many (exact_line text) ts ls rest → many line ts ls rest
+are_lines : (text : List ℕ) (ts : List Token) (ls : List Line) (rest : List Token) → many (exact_line text) ts ls rest
+    → many line ts ls rest
 are_lines text ts [] rest h = h
 are_lines text ts (l ∷ ls) rest (middle, first, more) = (middle, first.is_line, are_lines text middle ls rest more)
 
-are_parts : (text : List ℕ) (ts : List Token) (cs : List Content) (rest : List Token) → many means ts cs rest → many (part_of text) ts (map canonical cs) rest
+are_parts : (text : List ℕ) (ts : List Token) (cs : List Content) (rest : List Token) → many means ts cs rest
+    → many (part_of text) ts (map canonical cs) rest
 are_parts text ts [] rest h = h
 are_parts text ts (c ∷ cs) rest (middle, first, more) =
     let (t, run, e) = statements_are_runs ts first.is middle first.there in
-    let here = subst (λ l. statement l first.is middle) e first.there in
-    (middle, record { part = record { run = t ∷ run; is = first.is }; parts = e; is = here; content = first.content; passage = tt }, are_parts text middle cs rest more)
+    let here = subst (λ l. statement l first.is middle) e first.there in (
+      middle,
+      record {
+        part = record { run = t ∷ run; is = first.is };
+        parts = e;
+        is = here;
+        content = first.content;
+        passage = tt;
+      },
+      are_parts text middle cs rest more,
+    )
 
 abbrev entries_at : ℕ → List Entry → List Entry
 entries_at place es = filter (λ (e : Entry). place_of e.passage.keyword == place) es
 
 module _ {text : List ℕ} where
   infixl 10 ◌also◌
-  ◌also◌ : {ls ms : List Line} {us vs : List Unit1} → Divide text ls us → Divide text ms vs → Divide text (ls ++ ms) (us ++ vs)
+  ◌also◌ : {ls ms : List Line} {us vs : List Unit1} → Divide text ls us → Divide text ms vs
+      → Divide text (ls ++ ms) (us ++ vs)
   ◌also◌ {ls} {ms} {us} {vs} first second = record {
     divided = λ ts rest are n.
         let (middle, front, after) = many_parts (exact_line text) ts ls ms rest are in
@@ -94,7 +108,8 @@ module _ {text : List ℕ} where
 
   -- ---- passed statements
 
-  of_says : (p : Passage) (c : Content) → first_gap p.line ≡ [] → ((ts rest : List Token) → line ts p.line rest → next rest ≡ true → Says ts p.keyword c rest)
+  of_says : (p : Passage) (c : Content) → first_gap p.line ≡ []
+      → ((ts rest : List Token) → line ts p.line rest → next rest ≡ true → Says ts p.keyword c rest)
       → Divide text (p.line ∷ []) (record { content = c; passage = Some p } ∷ [])
   of_says p c tight reads = record {
     divided = λ ts rest (middle, x, same) n.
@@ -102,34 +117,46 @@ module _ {text : List ℕ} where
         let here = subst (λ l. statement l there.is middle) x.parts there.there in
         let part : Part = record { run = x.run; is = there.is } in
         let bytes = line_from text x.at x.run p.line x.same tight in
-        let passage : passage_of text part ≡ p = λ i. record { keyword = there.keyword i; line = bytes i } in
-        ((middle, record { part = part; parts = x.parts; is = here; content = there.content; passage = passage }, same), statements_repeat.before ts there.is middle there.there);
+        let passage : passage_of text part ≡ p = λ i. record { keyword = there.keyword i; line = bytes i } in (
+          (middle, record { part = part; parts = x.parts; is = here; content = there.content; passage = passage }, same),
+          statements_repeat.before ts there.is middle there.there,
+        );
   }
 
-  at_by : (place : ℕ) (e : Entry) (es : List Entry) (b : Bool) → (place_of e.passage.keyword == place) ≡ b → Divide text (e.passage.line ∷ []) (passed_unit e ∷ [])
+  at_by : (place : ℕ) (e : Entry) (es : List Entry) (b : Bool) → (place_of e.passage.keyword == place) ≡ b
+      → Divide text (e.passage.line ∷ []) (passed_unit e ∷ [])
       → Divide text (lines_at place (passages es)) (map passed_unit (entries_at place es))
       → Divide text (lines_at place (passages (e ∷ es))) (map passed_unit (entries_at place (e ∷ es)))
   at_by place e es true q h more = rw q (h also more)
   at_by place e es false q h more = rw q more
 
-  of_entries : (place : ℕ) (es : List Entry) → AllByRecursion Stands es → Divide text (lines_at place (passages es)) (map passed_unit (entries_at place es))
+  of_entries : (place : ℕ) (es : List Entry) → AllByRecursion Stands es
+      → Divide text (lines_at place (passages es)) (map passed_unit (entries_at place es))
   of_entries place [] h = no_units
   of_entries place (e ∷ es) h =
-      at_by place e es (place_of e.passage.keyword == place) refl (of_says e.passage e.content h.0.tight h.0.reads) (of_entries place es h.1)
+      at_by place e es (place_of e.passage.keyword == place) refl (of_says e.passage e.content h.0.tight h.0.reads)
+      (of_entries place es h.1)
 
-  of_if : (b : Bool) (l : Line) (u : Unit1) → Divide text (l ∷ []) (u ∷ []) → Divide text (if b then l ∷ [] else []) (if b then u ∷ [] else [])
+  of_if : (b : Bool) (l : Line) (u : Unit1) → Divide text (l ∷ []) (u ∷ [])
+      → Divide text (if b then l ∷ [] else []) (if b then u ∷ [] else [])
   of_if true l u h = h
   of_if false l u h = no_units
 
 -- ---- the declarations of the attribute, which are passed over too
 
 abbrev pub definition_unit : Unit1
-definition_unit = record { content = PassedOver; passage = Some (record { keyword = keyword.AttributeDefinition; line = spn_definition }) }
+definition_unit =
+    record {
+      content = PassedOver;
+      passage = Some (record { keyword = keyword.AttributeDefinition; line = spn_definition });
+    }
 
 abbrev pub default_unit : Unit1
-default_unit = record { content = PassedOver; passage = Some (record { keyword = keyword.AttributeDefault; line = spn_default }) }
+default_unit =
+    record { content = PassedOver; passage = Some (record { keyword = keyword.AttributeDefault; line = spn_default }) }
 
-definition_says : (ts rest : List Token) → line ts spn_definition rest → next rest ≡ true → Says ts keyword.AttributeDefinition PassedOver rest
+definition_says : (ts rest : List Token) → line ts spn_definition rest → next rest ≡ true
+    → Says ts keyword.AttributeDefinition PassedOver rest
 unfolding statement
 definition_says ts rest (middle, f, after) n = record {
   is = record { start = f.start; keyword = keyword.AttributeDefinition; content = PassedOver };
@@ -137,13 +164,20 @@ definition_says ts rest (middle, f, after) n = record {
     value = (f.start, keyword.AttributeDefinition);
     middle = middle;
     begins = record { first = _; front = f.front; value = refl };
-    goes_on = record { value = PassedOver; middle = rest; begins = definition_reads middle rest after n; goes_on = record { value = refl; all = refl } };
+    goes_on =
+        record {
+          value = PassedOver;
+          middle = rest;
+          begins = definition_reads middle rest after n;
+          goes_on = record { value = refl; all = refl };
+        };
   };
   keyword = refl;
   content = refl;
 }
 
-default_says : (ts rest : List Token) → line ts spn_default rest → next rest ≡ true → Says ts keyword.AttributeDefault PassedOver rest
+default_says : (ts rest : List Token) → line ts spn_default rest → next rest ≡ true
+    → Says ts keyword.AttributeDefault PassedOver rest
 unfolding statement
 default_says ts rest (middle, f, after) n = record {
   is = record { start = f.start; keyword = keyword.AttributeDefault; content = PassedOver };
@@ -151,7 +185,13 @@ default_says ts rest (middle, f, after) n = record {
     value = (f.start, keyword.AttributeDefault);
     middle = middle;
     begins = record { first = _; front = f.front; value = refl };
-    goes_on = record { value = PassedOver; middle = rest; begins = default_reads middle rest after n; goes_on = record { value = refl; all = refl } };
+    goes_on =
+        record {
+          value = PassedOver;
+          middle = rest;
+          begins = default_reads middle rest after n;
+          goes_on = record { value = refl; all = refl };
+        };
   };
   keyword = refl;
   content = refl;
@@ -170,7 +210,8 @@ kept_units s es =
     map canonical (VersionIs s.version ∷ Dropped ∷ Dropped ∷ NodesAre (sheet_contents.node_names s) ∷ [])
     ++ map canonical (map sheet_contents.table s.tables) ++ map canonical (map sheet_contents.message s.messages)
     ++ units_at 0 es ++ units_at 1 es ++ units_at 2 es ++ units_at 3 es ++ units_at 4 es
-    ++ map canonical (sheet_contents.comments CommentIs s.comment) ++ map canonical (flat_map sheet_contents.node_comments s.nodes)
+    ++ map canonical (sheet_contents.comments CommentIs s.comment)
+    ++ map canonical (flat_map sheet_contents.node_comments s.nodes)
     ++ map canonical (flat_map sheet_contents.message_comments s.messages) ++ units_at 5 es
     ++ units_at 6 es ++ said_units s defines_spn (lines_at 6 (passages es)) definition_unit
     ++ units_at 7 es ++ said_units s defaults_spn (lines_at 7 (passages es)) default_unit
@@ -179,7 +220,8 @@ kept_units s es =
     ++ units_at 9 es ++ units_at 10 es ++ units_at 11 es ++ units_at 12 es ++ units_at 13 es ++ units_at 14 es
     ++ map canonical (sheet_contents.each_signal sheet_contents.value_types s) ++ units_at 15 es ++ units_at 16 es
 
-kept_divide : (text : List ℕ) (s : Sheet) → IsSheet s → (es : List Entry) → AllByRecursion Stands es → Divide text (kept_lines s (passages es)) (kept_units s es)
+kept_divide : (text : List ℕ) (s : Sheet) → IsSheet s → (es : List Entry) → AllByRecursion Stands es
+    → Divide text (kept_lines s (passages es)) (kept_units s es)
 kept_divide text s h es k =
     of_writes (heading_writes s h)
     also of_writes (tables_write s.tables h.tables)
@@ -190,13 +232,19 @@ kept_divide text s h es k =
     also of_entries 3 es k
     also of_entries 4 es k
     also of_writes (file_comment_writes s.comment)
-    also of_writes (writes_each IsNode node_comment sheet_contents.node_comments (λ n _. node_comment_writes n) s.nodes h.nodes)
-    also of_writes (writes_each IsMessage message_comments sheet_contents.message_comments message_comments_write s.messages h.messages)
+    also of_writes
+    (writes_each IsNode node_comment sheet_contents.node_comments (λ n _. node_comment_writes n) s.nodes h.nodes)
+    also of_writes
+    (writes_each IsMessage message_comments sheet_contents.message_comments message_comments_write s.messages
+    h.messages)
     also of_entries 5 es k
     also of_entries 6 es k
-    also of_if _ spn_definition definition_unit (of_says (record { keyword = keyword.AttributeDefinition; line = spn_definition }) PassedOver refl definition_says)
+    also of_if _ spn_definition definition_unit
+    (of_says (record { keyword = keyword.AttributeDefinition; line = spn_definition }) PassedOver refl
+    definition_says)
     also of_entries 7 es k
-    also of_if _ spn_default default_unit (of_says (record { keyword = keyword.AttributeDefault; line = spn_default }) PassedOver refl default_says)
+    also of_if _ spn_default default_unit
+    (of_says (record { keyword = keyword.AttributeDefault; line = spn_default }) PassedOver refl default_says)
     also of_entries 8 es k
     also of_writes (spns_write s h)
     also of_writes (value_texts_write s h)
@@ -216,7 +264,8 @@ pub record HasUnits (text : List ℕ) (us : List Unit1) : Type 0 where
   pub has_tokens : HasTokens 0 text tokens
   pub units : many (part_of text) tokens us []
 
-pub kept_parts : (s : Sheet) → IsSheet s → (es : List Entry) → AllByRecursion Stands es → HasUnits (kept_text s (passages es)) (kept_units s es)
+pub kept_parts : (s : Sheet) → IsSheet s → (es : List Entry) → AllByRecursion Stands es
+    → HasUnits (kept_text s (passages es)) (kept_units s es)
 kept_parts s h es k =
     let text = kept_text s (passages es) in
     let (tokens, has, are) = lines_exact text [] 0 (kept_lines s (passages es)) refl refl (kept_whole s h es k).each in

@@ -1,5 +1,6 @@
 -- The statements of a kept text say its sheet.
-use Rattle.std.proofs.Common.{◌≡◌, ◌==◌, ℕ, Bool, true, false, not, ◌||◌, List, [], ◌∷◌, ◌++◌, map, filter, Option, Some, None, unwrap_or, refl, sym, ap, subst, ◌∙◌, IsPermutation}
+use Rattle.std.proofs.Common.{◌≡◌, ◌==◌, ℕ, Bool, true, false, not, ◌||◌, List, [], ◌∷◌, ◌++◌, map, filter, Option}
+use Rattle.std.proofs.Common.{Some, None, unwrap_or, refl, sym, ap, subst, ◌∙◌, IsPermutation}
 use Rattle.std.specs.List.{AllByRecursion, filter_map, flat_map, last_or, list_any}
 use Rattle.std.specs.Str.{bytes_eq}
 use Rattle.std.proofs.lemmas.List.Elements.{filter-append}
@@ -15,7 +16,10 @@ use Rattle.dbc_sheet.specs.declared.value_table.ValueTable.{ValueTable}
 use Rattle.dbc_sheet.specs.declared.value_texts.ValueText.{ValueText}
 use Rattle.dbc_words.specs.declared.value_type.ValueType.{ValueType}
 use Rattle.dbc_words.specs.declared.value_type.ValueType.TheVariants.{Integer}
-use Rattle.dbc_grammar.specs.Saying.{SignalKey, Says, comment_in, each_in, has_message, has_node, has_signal, is_passed, keys_of, last_at, message_comment_in, message_in, messages_of, node_comment_in, node_names_of, nodes_in, same_signal, signal_comment_in, spn_in, table_in, value_texts_in, value_type_in, version_in, whole_message, whole_node, whole_signal}
+use Rattle.dbc_grammar.specs.Saying.{SignalKey, Says, comment_in, each_in, has_message, has_node, has_signal, is_passed}
+use Rattle.dbc_grammar.specs.Saying.{keys_of, last_at, message_comment_in, message_in, messages_of, node_comment_in}
+use Rattle.dbc_grammar.specs.Saying.{node_names_of, nodes_in, same_signal, signal_comment_in, spn_in, table_in}
+use Rattle.dbc_grammar.specs.Saying.{value_texts_in, value_type_in, version_in, whole_message, whole_node, whole_signal}
 use Rattle.dbc_grammar.specs.Statement.{
   Cited,
   Content,
@@ -42,7 +46,8 @@ use Rattle.dbc_keep_law.proofs.Unheard.{heard}
 
 -- ---- what statements say is what their contents say
 
-says_by : (ss ts : List Statement) (s : Sheet) → ((X : Type 0) (kind : Content → Option X) → each_in kind ss ≡ each_in kind ts) → Says ss s → Says ts s
+says_by : (ss ts : List Statement) (s : Sheet)
+    → ((X : Type 0) (kind : Content → Option X) → each_in kind ss ≡ each_in kind ts) → Says ss s → Says ts s
 says_by ss ts s same h = record {
   is_sheet = h.is_sheet;
   version = h.version ∙ ap (λ vs. unwrap_or (last_or None vs) []) (same (List ℕ) version_in);
@@ -54,7 +59,12 @@ says_by ss ts s same h = record {
   where
     nodes_same : map (whole_node ss) (node_names_of ss) ≡ map (whole_node ts) (node_names_of ts)
     nodes_same = λ i.
-        map (λ name. record { name = name; comment = unwrap_or (last_at bytes_eq name None (same (List ℕ × List ℕ) node_comment_in i)) [] })
+        map (λ name.
+        record {
+          name = name;
+          comment = unwrap_or
+              (last_at bytes_eq name None (same (List ℕ × List ℕ) node_comment_in i)) [];
+        })
         (flat_map (λ (names : List (List ℕ)). names) (same (List (List ℕ)) nodes_in i))
 
     messages_same : map (whole_message ss) (messages_of ss) ≡ map (whole_message ts) (messages_of ts)
@@ -64,7 +74,9 @@ says_by ss ts s same h = record {
           name = line.name;
           length = line.length;
           transmitter = line.transmitter;
-          comment = unwrap_or (last_at (λ a b. a == b) (dbc_number line.ident) None (same (ℕ × List ℕ) message_comment_in i)) [];
+          comment =
+              unwrap_or (last_at (λ a b. a == b) (dbc_number line.ident) None (same (ℕ × List ℕ) message_comment_in i))
+              [];
           signals = map (λ (x : SignalLine). record {
             name = x.name;
             layout = x.layout;
@@ -76,27 +88,40 @@ says_by ss ts s same h = record {
             maximum = x.maximum;
             unit = x.unit;
             receivers = x.receivers;
-            comment = unwrap_or (last_at same_signal (dbc_number line.ident, x.name) None (same (SignalKey × List ℕ) signal_comment_in i)) [];
-            spn = unwrap_or (last_at same_signal (dbc_number line.ident, x.name) None (same (SignalKey × ℕ) spn_in i)) 0;
-            values = unwrap_or (last_at same_signal (dbc_number line.ident, x.name) None (same (SignalKey × List ValueText) value_texts_in i)) [];
-            value_type = unwrap_or (last_at same_signal (dbc_number line.ident, x.name) None (same (SignalKey × ValueType) value_type_in i)) Integer;
+            comment =
+                unwrap_or
+                (last_at same_signal (dbc_number line.ident, x.name) None
+                (same (SignalKey × List ℕ) signal_comment_in i)) [];
+            spn = unwrap_or (last_at same_signal (dbc_number line.ident, x.name) None (same (SignalKey × ℕ) spn_in i))
+                0;
+            values =
+                unwrap_or
+                (last_at same_signal (dbc_number line.ident, x.name) None
+                (same (SignalKey × List ValueText) value_texts_in i)) [];
+            value_type =
+                unwrap_or
+                (last_at same_signal (dbc_number line.ident, x.name) None
+                (same (SignalKey × ValueType) value_type_in i)) Integer;
           }) line.signals;
         }) (same MessageLine message_in i)
 
 pub contents_decide : (ss ts : List Statement) (s : Sheet) → contents_of ss ≡ contents_of ts → Says ss s → Says ts s
-contents_decide ss ts s e h = says_by ss ts s (λ X kind. each_in-contents kind ss ∙ ap (filter_map kind) e ∙ sym (each_in-contents kind ts)) h
+contents_decide ss ts s e h = says_by ss ts s
+    (λ X kind. each_in-contents kind ss ∙ ap (filter_map kind) e ∙ sym (each_in-contents kind ts)) h
 
 -- ---- contents without some of them
 
 abbrev pub drop : (Content → Bool) → List Content → List Content
 drop gone cs = filter (λ c. not (gone c)) cs
 
-heard_by : (gone : Content → Bool) (s : Statement) (ss : List Statement) (b : Bool) → gone s.content ≡ b → contents_of (heard gone ss) ≡ drop gone (contents_of ss)
+heard_by : (gone : Content → Bool) (s : Statement) (ss : List Statement) (b : Bool) → gone s.content ≡ b
+    → contents_of (heard gone ss) ≡ drop gone (contents_of ss)
     → contents_of (heard gone (s ∷ ss)) ≡ drop gone (contents_of (s ∷ ss))
 heard_by gone s ss true e more = rw e more
 heard_by gone s ss false e more = rw e (ap (λ (cs : List Content). s.content ∷ cs) more)
 
-pub heard_contents : (gone : Content → Bool) (ss : List Statement) → contents_of (heard gone ss) ≡ drop gone (contents_of ss)
+pub heard_contents : (gone : Content → Bool) (ss : List Statement)
+    → contents_of (heard gone ss) ≡ drop gone (contents_of ss)
 heard_contents gone [] = refl
 heard_contents gone (s ∷ ss) = heard_by gone s ss (gone s.content) refl (heard_contents gone ss)
 
@@ -104,7 +129,8 @@ pub record Strip (gone : Content → Bool) (cs ds : List Content) : Type 0 where
   pub is : drop gone cs ≡ ds
 
 infixl 10 ◌and_also◌
-pub ◌and_also◌ : {gone : Content → Bool} {cs ds xs ys : List Content} → Strip gone cs xs → Strip gone ds ys → Strip gone (cs ++ ds) (xs ++ ys)
+pub ◌and_also◌ : {gone : Content → Bool} {cs ds xs ys : List Content} → Strip gone cs xs → Strip gone ds ys
+    → Strip gone (cs ++ ds) (xs ++ ys)
 ◌and_also◌ {gone} {cs} {ds} a b = record { is = filter-append (λ c. not (gone c)) cs ds ∙ (λ i. a.is i ++ b.is i) }
 
 pub all_gone : (gone : Content → Bool) (cs : List Content) → AllByRecursion (λ c. gone c ≡ true) cs → Strip gone cs []
@@ -176,7 +202,8 @@ any_map : {A B : Type 0} (p : B → Bool) (f : A → B) (xs : List A) → list_a
 any_map p f [] = refl
 any_map p f (x ∷ xs) = ap (λ b. p (f x) || b) (any_map p f xs)
 
-any_flat : {A B : Type 0} (p : B → Bool) (f : A → List B) (xs : List A) → list_any p (flat_map f xs) ≡ list_any (λ x. list_any p (f x)) xs
+any_flat : {A B : Type 0} (p : B → Bool) (f : A → List B) (xs : List A)
+    → list_any p (flat_map f xs) ≡ list_any (λ x. list_any p (f x)) xs
 any_flat p f [] = refl
 any_flat p f (x ∷ xs) = list_any-append p (f x) (flat_map f xs) ∙ ap (λ b. list_any p (f x) || b) (any_flat p f xs)
 
@@ -184,14 +211,16 @@ any_same : {A : Type 0} (p q : A → Bool) → ((x : A) → p x ≡ q x) → (xs
 any_same p q h [] = refl
 any_same p q h (x ∷ xs) = λ i. h x i || any_same p q h xs i
 
-names_again : (ss : List Statement) (names : List (List ℕ)) → map (λ (n : Node). n.name) (map (whole_node ss) names) ≡ names
+names_again : (ss : List Statement) (names : List (List ℕ))
+    → map (λ (n : Node). n.name) (map (whole_node ss) names) ≡ names
 names_again ss [] = refl
 names_again ss (n ∷ names) = ap (λ (l : List (List ℕ)). n ∷ l) (names_again ss names)
 
 abbrev pub line_key : ℕ → SignalLine → SignalKey
 line_key number x = (number, x.name)
 
-keys_again : (ss : List Statement) (number : ℕ) (xs : List SignalLine) → map (line_key number) xs ≡ map (key_in number) (map (whole_signal ss number) xs)
+keys_again : (ss : List Statement) (number : ℕ) (xs : List SignalLine)
+    → map (line_key number) xs ≡ map (key_in number) (map (whole_signal ss number) xs)
 keys_again ss number [] = refl
 keys_again ss number (x ∷ xs) = ap (λ (l : List SignalKey). line_key number x ∷ l) (keys_again ss number xs)
 
@@ -209,7 +238,8 @@ says_agree ss s h = record { nodes = nodes_agree; messages = messages_agree; sig
     messages_agree (Some number) =
         any_map (λ n. n == number) (λ (m : MessageLine). dbc_number m.ident) (messages_of ss)
         ∙ sym (any_map (λ (m : Message). number_of m == number) (whole_message ss) (messages_of ss))
-        ∙ list_any-IsPermutation (λ (m : Message). number_of m == number) (map (whole_message ss) (messages_of ss)) s.messages h.messages
+        ∙ list_any-IsPermutation (λ (m : Message). number_of m == number)
+        (map (whole_message ss) (messages_of ss)) s.messages h.messages
         ∙ sym (any_map (λ n. n == number) number_of s.messages)
 
     signals_agree : (cited : Cited) (name : List ℕ) → has_signal ss cited name ≡ signal_there s cited name
@@ -218,7 +248,9 @@ says_agree ss s h = record { nodes = nodes_agree; messages = messages_agree; sig
         let p : SignalKey → Bool = λ key. same_signal key (number, name) in
         let keys : Message → List SignalKey = λ m. map (key_in (number_of m)) m.signals in
         any_flat p keys_of (messages_of ss)
-        ∙ any_same (λ m. list_any p (keys_of m)) (λ m. list_any p (keys (whole_message ss m))) (λ m. ap (list_any p) (keys_again ss (dbc_number m.ident) m.signals)) (messages_of ss)
+        ∙ any_same (λ m. list_any p (keys_of m)) (λ m. list_any p (keys (whole_message ss m)))
+        (λ m. ap (list_any p) (keys_again ss (dbc_number m.ident) m.signals)) (messages_of ss)
         ∙ sym (any_map (λ m. list_any p (keys m)) (whole_message ss) (messages_of ss))
-        ∙ list_any-IsPermutation (λ m. list_any p (keys m)) (map (whole_message ss) (messages_of ss)) s.messages h.messages
+        ∙ list_any-IsPermutation (λ m. list_any p (keys m))
+        (map (whole_message ss) (messages_of ss)) s.messages h.messages
         ∙ sym (any_flat p keys s.messages)

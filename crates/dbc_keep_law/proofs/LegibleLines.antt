@@ -34,7 +34,8 @@ legible_whole (p ∷ ps) h = (
   record {
     gap = h.0.gap;
     spelled = h.0.spelled;
-    longest = λ more. word_longest p.kind p.text (pieces_text ps ++ 10 ∷ more) h.0.spelled (ends_before p.kind (pieces_text ps) (10 ∷ more) h.0.ends refl);
+    longest = λ more. word_longest p.kind p.text (pieces_text ps ++ 10 ∷ more) h.0.spelled
+        (ends_before p.kind (pieces_text ps) (10 ∷ more) h.0.ends refl);
   },
   legible_whole ps h.1,
 )
@@ -43,7 +44,8 @@ pub legible_lines_whole : (ls : List Line) → AllByRecursion AreLegible ls → 
 legible_lines_whole [] h = tt
 legible_lines_whole (l ∷ ls) h = (legible_whole l h.0, legible_lines_whole ls h.1)
 
-pub whole_append : (ls ks : List Line) → AllByRecursion AreWhole ls → AllByRecursion AreWhole ks → AllByRecursion AreWhole (ls ++ ks)
+pub whole_append : (ls ks : List Line) → AllByRecursion AreWhole ls → AllByRecursion AreWhole ks
+    → AllByRecursion AreWhole (ls ++ ks)
 whole_append [] ks h k = k
 whole_append (l ∷ ls) ks h k = (h.0, whole_append ls ks h.1 k)
 
@@ -52,7 +54,8 @@ whole_append (l ∷ ls) ks h k = (h.0, whole_append ls ks h.1 k)
 gap_append : (gap more : List ℕ) → IsGap gap → IsGap more → IsGap (gap ++ more)
 gap_append gap more h k = list_all-append is_gap gap more ∙ and_from (list_all is_gap gap) (list_all is_gap more) h k
 
-pub after_gap : (offset : ℕ) (gap bytes : List ℕ) (ts : List Token) → IsGap gap → HasTokens (offset + length gap) bytes ts → HasTokens offset (gap ++ bytes) ts
+pub after_gap : (offset : ℕ) (gap bytes : List ℕ) (ts : List Token) → IsGap gap
+    → HasTokens (offset + length gap) bytes ts → HasTokens offset (gap ++ bytes) ts
 after_gap offset gap bytes [] h has = gap_append gap bytes h has
 after_gap offset gap bytes (t ∷ ts) h (rest, first, others) = (
   rest,
@@ -72,7 +75,8 @@ abbrev pub end_of : ℕ → List Piece → ℕ
 end_of offset [] = offset
 end_of offset (p ∷ ps) = end_of (offset + length p.gap + length p.text) ps
 
-pieces_have : (offset : ℕ) (ps : List Piece) (more : List ℕ) (ts : List Token) → AreWhole ps → HasTokens (end_of offset ps) (10 ∷ more) ts
+pieces_have : (offset : ℕ) (ps : List Piece) (more : List ℕ) (ts : List Token) → AreWhole ps
+    → HasTokens (end_of offset ps) (10 ∷ more) ts
     → (us : List Token) × HasTokens offset (pieces_text ps ++ 10 ∷ more) us × line us ps ts
 pieces_have offset [] more ts whole has = (ts, has, refl)
 pieces_have offset (p ∷ ps) more ts whole has =
@@ -97,11 +101,13 @@ pieces_have offset (p ∷ ps) more ts whole has =
       (us, record { start = start; end = end; front = refl }, rest_is),
     )
 
-pub whole_lines_have : (offset : ℕ) (ls : List Line) → AllByRecursion AreWhole ls → (ts : List Token) × HasTokens offset (flat_map line_text ls) ts × lines ts ls []
+pub whole_lines_have : (offset : ℕ) (ls : List Line) → AllByRecursion AreWhole ls
+    → (ts : List Token) × HasTokens offset (flat_map line_text ls) ts × lines ts ls []
 whole_lines_have offset [] whole = ([], refl, refl)
 whole_lines_have offset (l ∷ ls) whole =
     let more = flat_map line_text ls in
     let (ts, has, rest_is) = whole_lines_have (end_of offset l + 1) ls whole.1 in
-    let (us, here, front) = pieces_have offset l more ts whole.0 (after_gap (end_of offset l) (10 ∷ []) more ts refl has) in
+    let (us, here, front) = pieces_have offset l more ts whole.0
+    (after_gap (end_of offset l) (10 ∷ []) more ts refl has) in
     let parts : line_text l ++ more ≡ pieces_text l ++ 10 ∷ more = simp append_assoc in
     (us, subst (λ v. HasTokens offset v us) (sym parts) here, (ts, front, rest_is))

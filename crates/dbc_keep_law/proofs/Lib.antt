@@ -12,6 +12,7 @@ mod KeptDivides
 mod KeptSays
 mod KeptReads
 mod Found
+mod DeclaringRows
 mod NothingKept
 mod KeptParts
 mod KeptAgain

@@ -1,5 +1,6 @@
 -- A token that is the longest where it is stays so if the line ends after some of the bytes that follow.
-use Rattle.std.proofs.Common.{◌≡◌, ◌==◌, ◌≤◌, ℕ, Bool, true, false, not, List, [], ◌∷◌, ◌++◌, length, refl, sym, ap, subst, ◌∙◌, append_assoc, arith}
+use Rattle.std.proofs.Common.{◌≡◌, ◌==◌, ◌≤◌, ℕ, Bool, true, false, not, List, [], ◌∷◌, ◌++◌, length, refl, sym, ap}
+use Rattle.std.proofs.Common.{subst, ◌∙◌, append_assoc, arith}
 use Rattle.std.specs.List.{list_all}
 use Rattle.std.specs.Char.{is_ascii_digit}
 use Rattle.std.proofs.lemmas.Bool.{and_from, and_parts}
@@ -21,7 +22,8 @@ use Rattle.dbc_law.proofs.TokenEnds.{word_longest}
 abbrev goes_on : ℕ → Bool
 goes_on b = not (b == 10)
 
-all_pass : (p q : ℕ → Bool) → ((b : ℕ) → p b ≡ true → q b ≡ true) → (bs : List ℕ) → list_all p bs ≡ true → list_all q bs ≡ true
+all_pass : (p q : ℕ → Bool) → ((b : ℕ) → p b ≡ true → q b ≡ true) → (bs : List ℕ) → list_all p bs ≡ true
+    → list_all q bs ≡ true
 all_pass p q h [] e = refl
 all_pass p q h (b ∷ bs) e =
     let parts = and_parts (p b) (list_all p bs) e in
@@ -51,7 +53,8 @@ fraction_goes (b ∷ bs) h =
     let parts = and_parts (b == 46) (are_digits bs) h in
     and_from (goes_on b) (list_all goes_on bs) (point_goes b parts.0) (digits_go bs parts.1)
 
-power_goes_by : (b : ℕ) (bs : List ℕ) (sign : Bool) → is_sign b ≡ sign → is_power (b ∷ bs) ≡ true → list_all goes_on (b ∷ bs) ≡ true
+power_goes_by : (b : ℕ) (bs : List ℕ) (sign : Bool) → is_sign b ≡ sign → is_power (b ∷ bs) ≡ true
+    → list_all goes_on (b ∷ bs) ≡ true
 power_goes_by b bs true e h =
     let n : is_numeral bs ≡ true = rw e at h in
     and_from (goes_on b) (list_all goes_on bs) (sign_goes b e) (digits_go bs (numeral_parts bs n).1)
@@ -69,7 +72,8 @@ exponent_goes (b ∷ bs) h =
     let parts = and_parts (is_letter_e b) (is_power bs) h in
     and_from (goes_on b) (list_all goes_on bs) (e_goes b parts.0) (power_goes bs parts.1)
 
-both_go : (xs ys : List ℕ) → list_all goes_on xs ≡ true → list_all goes_on ys ≡ true → list_all goes_on (xs ++ ys) ≡ true
+both_go : (xs ys : List ℕ) → list_all goes_on xs ≡ true → list_all goes_on ys ≡ true
+    → list_all goes_on (xs ++ ys) ≡ true
 both_go xs ys h k = list_all-append goes_on xs ys ∙ and_from (list_all goes_on xs) (list_all goes_on ys) h k
 
 name_goes : (word : List ℕ) → Spells Name word → list_all goes_on word ≡ true
@@ -77,17 +81,20 @@ name_goes word s = all_pass continues_identifier goes_on letter_goes word (name_
 
 number_goes : (word : List ℕ) → Spells Number word → list_all goes_on word ≡ true
 number_goes word (s, token) =
-    let tail = both_go s.fraction s.exponent (fraction_goes s.fraction token.fraction) (exponent_goes s.exponent token.exponent) in
+    let tail = both_go s.fraction s.exponent (fraction_goes s.fraction token.fraction)
+    (exponent_goes s.exponent token.exponent) in
     let whole = digits_go s.whole (numeral_parts s.whole token.whole).1 in
     subst (λ v. list_all goes_on v ≡ true) (sym token.parts) (both_go s.whole (s.fraction ++ s.exponent) whole tail)
 
 -- ---- bytes without a line's end that come first come before it
 
-cut : (word rest front more : List ℕ) → list_all goes_on word ≡ true → front ++ 10 ∷ more ≡ word ++ rest → (tail : List ℕ) × (front ≡ word ++ tail)
+cut : (word rest front more : List ℕ) → list_all goes_on word ≡ true → front ++ 10 ∷ more ≡ word ++ rest
+    → (tail : List ℕ) × (front ≡ word ++ tail)
 cut [] rest front more h e = (front, refl)
 cut (b ∷ word) rest [] more h e =
     let same : 10 ≡ b = cc in
-    let no : goes_on 10 ≡ true = subst (λ v. goes_on v ≡ true) (sym same) (and_parts (goes_on b) (list_all goes_on word) h).0 in
+    let no : goes_on 10 ≡ true = subst (λ v. goes_on v ≡ true) (sym same)
+    (and_parts (goes_on b) (list_all goes_on word) h).0 in
     absurd cc
 cut (b ∷ word) rest (c ∷ front) more h e =
     let same : c ≡ b = cc in
@@ -97,18 +104,22 @@ cut (b ∷ word) rest (c ∷ front) more h e =
 
 -- ---- the longest
 
-at_end : (word inner rest more : List ℕ) (w r : List ℕ) (n : ℕ) (kind : TokenKind) → Spells kind w → list_all goes_on w ≡ true
+at_end : (word inner rest more : List ℕ) (w r : List ℕ) (n : ℕ) (kind : TokenKind) → Spells kind w
+    → list_all goes_on w ≡ true
     → IsLongest n (word ++ (inner ++ rest)) → word ++ (inner ++ 10 ∷ more) ≡ w ++ r → length w ≤ n
 at_end word inner rest more w r n kind s h longest e =
     let regroup : (word ++ inner) ++ 10 ∷ more ≡ w ++ r = append_assoc word inner (10 ∷ more) ∙ e in
     let (tail, parts) = cut w r (word ++ inner) more h regroup in
-    let here : word ++ (inner ++ rest) ≡ w ++ (tail ++ rest) = sym (append_assoc word inner rest) ∙ ap (λ v. v ++ rest) parts ∙ append_assoc w tail rest in
+    let here : word ++ (inner ++ rest) ≡ w ++ (tail ++ rest) =
+    sym (append_assoc word inner rest) ∙ ap (λ v. v ++ rest) parts ∙ append_assoc w tail rest in
     longest kind w (tail ++ rest) s here
 
 same_kind_here : (k l : TokenKind) (word w xs r : List ℕ) → Spells k word → Spells l w → word ++ xs ≡ w ++ r → k ≡ l
-same_kind_here k l word w xs r s t e = one_kind k l (word ++ xs) (w ++ r) (begins_further k word xs s) (begins_further l w r t) e
+same_kind_here k l word w xs r s t e =
+    one_kind k l (word ++ xs) (w ++ r) (begins_further k word xs s) (begins_further l w r t) e
 
-pub longest_before_end : (kind : TokenKind) (word inner rest more : List ℕ) → Spells kind word → IsLongest (length word) (word ++ (inner ++ rest))
+pub longest_before_end : (kind : TokenKind) (word inner rest more : List ℕ) → Spells kind word
+    → IsLongest (length word) (word ++ (inner ++ rest))
     → IsLongest (length word) (word ++ (inner ++ 10 ∷ more))
 longest_before_end Text word inner rest more s longest = word_longest Text word (inner ++ 10 ∷ more) s tt
 longest_before_end Mark word inner rest more s longest = word_longest Mark word (inner ++ 10 ∷ more) s tt

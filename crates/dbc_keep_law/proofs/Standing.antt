@@ -28,7 +28,8 @@ entry_of source part = record { passage = passage_of source part; content = part
 pub record Stands (e : Entry) : Type 0 where
   pub whole : AreWhole e.passage.line
   pub writes : Writes (e.passage.line ∷ []) (e.content ∷ [])
-  pub reads : (ts rest : List Token) → line ts e.passage.line rest → next rest ≡ true → Says ts e.passage.keyword e.content rest
+  pub reads : (ts rest : List Token) → line ts e.passage.line rest → next rest ≡ true
+      → Says ts e.passage.keyword e.content rest
   pub tight : first_gap e.passage.line ≡ []
 
 -- ---- the tokens of its line
@@ -38,21 +39,33 @@ record Words (run ts end : List Token) : Type 0 where
   parts : ts ≡ moved ++ end
   alike : Alike run moved
 
-pieces_alike : (source : List ℕ) (at : ℕ) (run ts end : List Token) → line ts (pieces_from source at run) end → Words run ts end
+pieces_alike : (source : List ℕ) (at : ℕ) (run ts end : List Token) → line ts (pieces_from source at run) end
+    → Words run ts end
 pieces_alike source at [] ts end h = record { moved = []; parts = sym h; alike = tt }
 pieces_alike source at (t ∷ run) ts end (middle, f, more) =
     let m = pieces_alike source t.end run middle end more in
     let u : Token = record { kind = t.kind; start = f.start; end = f.end; text = t.text } in
-    record { moved = u ∷ m.moved; parts = f.front ∙ ap (λ (l : List Token). u ∷ l) m.parts; alike = (refl, refl, m.alike) }
+    record {
+      moved = u ∷ m.moved;
+      parts = f.front
+          ∙ ap (λ (l : List Token). u ∷ l) m.parts;
+      alike = (refl, refl, m.alike);
+    }
 
 line_alike : (source : List ℕ) (run ts end : List Token) → line ts (line_of source run) end → Words run ts end
 line_alike source [] ts end h = record { moved = []; parts = sym h; alike = tt }
 line_alike source (t ∷ run) ts end (middle, f, more) =
     let m = pieces_alike source t.end run middle end more in
     let u : Token = record { kind = t.kind; start = f.start; end = f.end; text = t.text } in
-    record { moved = u ∷ m.moved; parts = f.front ∙ ap (λ (l : List Token). u ∷ l) m.parts; alike = (refl, refl, m.alike) }
+    record {
+      moved = u ∷ m.moved;
+      parts = f.front
+          ∙ ap (λ (l : List Token). u ∷ l) m.parts;
+      alike = (refl, refl, m.alike);
+    }
 
-line_whole : (source : List ℕ) (offset : ℕ) (run : List Token) → AreWhole (pieces_from source offset run) → AreWhole (line_of source run)
+line_whole : (source : List ℕ) (offset : ℕ) (run : List Token) → AreWhole (pieces_from source offset run)
+    → AreWhole (line_of source run)
 line_whole source offset [] h = tt
 line_whole source offset (t ∷ run) h =
     let none : t.start - t.start ≡ 0 = omega arith in
@@ -60,8 +73,10 @@ line_whole source offset (t ∷ run) h =
 
 -- ---- the statement
 
-line_reads : (source : List ℕ) (part : Part) (rest : List Token) → statement (part.run ++ rest) part.is rest → CanPass part.is.content
-    → (ts end : List Token) → line ts (line_of source part.run) end → next end ≡ true → Says ts part.is.keyword part.is.content end
+line_reads : (source : List ℕ) (part : Part) (rest : List Token) → statement (part.run ++ rest) part.is rest
+    → CanPass part.is.content
+    → (ts end : List Token) → line ts (line_of source part.run) end → next end ≡ true
+    → Says ts part.is.keyword part.is.content end
 line_reads source part rest h can ts end is_line n =
     let m = statement_moves (part.run ++ rest) part.is rest h can in
     let runs : m.run ≡ part.run = append_cancel_right m.run part.run rest (sym m.parts) in
@@ -70,12 +85,15 @@ line_reads source part rest h can ts end is_line n =
     let here : statement ts there.is end = subst (λ l. statement l there.is end) (sym words.parts) there.there in
     record { is = there.is; there = here; keyword = there.keyword; content = there.content }
 
-line_writes : (source : List ℕ) (part : Part) (rest : List Token) → statement (part.run ++ rest) part.is rest → CanPass part.is.content
+line_writes : (source : List ℕ) (part : Part) (rest : List Token) → statement (part.run ++ rest) part.is rest
+    → CanPass part.is.content
     → Writes (line_of source part.run ∷ []) (part.is.content ∷ [])
 line_writes source part rest h can = record {
   written = λ ts after (end, is_line, same) n.
-      let there = line_reads source part rest h can ts end is_line (ap next (sym same) ∙ n) in
-      ((end, record { is = there.is; there = there.there; content = there.content }, same), statements_repeat.before ts there.is end there.there);
+      let there = line_reads source part rest h can ts end is_line (ap next (sym same) ∙ n) in (
+        (end, record { is = there.is; there = there.there; content = there.content }, same),
+        statements_repeat.before ts there.is end there.there,
+      );
 }
 
 line_tight : (source : List ℕ) (run : List Token) → first_gap (line_of source run) ≡ []
@@ -84,8 +102,10 @@ line_tight source (t ∷ run) = let none : t.start - t.start ≡ 0 = omega arith
 
 -- ---- all of them
 
-stand_in : (source front bytes : List ℕ) (offset : ℕ) (ts : List Token) (parts : List Part) → source ≡ front ++ bytes → length front ≡ offset
-    → HasTokens offset bytes ts → AreParts ts parts → AllByRecursion (λ part. CanPass part.is.content → Stands (entry_of source part)) parts
+stand_in : (source front bytes : List ℕ) (offset : ℕ) (ts : List Token) (parts : List Part) → source ≡ front ++ bytes
+    → length front ≡ offset
+    → HasTokens offset bytes ts → AreParts ts parts
+    → AllByRecursion (λ part. CanPass part.is.content → Stands (entry_of source part)) parts
 stand_in source front bytes offset ts [] e at has are = tt
 stand_in source front bytes offset ts (part ∷ parts) e at has (rest, same, is, others) =
     let here = subst (HasTokens offset bytes) same has in

@@ -20,7 +20,8 @@ use Rattle.dbc_grammar.specs.Division.{AreParts, Part}
 use Rattle.dbc_grammar.specs.Fields.{cited_number, is_a, is_key, same_kind}
 use Rattle.dbc_grammar.specs.Grammar.{comment_line, file_comment, independent_line, is_open, is_spn_name, line}
 use Rattle.dbc_grammar.specs.Grammar.{message_comment, message_line, node_comment, other_line, passed_attribute}
-use Rattle.dbc_grammar.specs.Grammar.{passed_comment, passed_line, passed_value_texts, signal_comment, skipped, spn_line}
+use Rattle.dbc_grammar.specs.Grammar.{passed_comment, passed_line, passed_value_texts, signal_comment, skipped}
+use Rattle.dbc_grammar.specs.Grammar.{spn_line}
 use Rattle.dbc_grammar.specs.Grammar.{statement, value_texts_line, value_type_line}
 use Rattle.dbc_grammar.specs.Inside.{inside_of}
 use Rattle.dbc_grammar.specs.Reads.{Reads}
@@ -282,7 +283,8 @@ module _ (source : List ℕ) (s : Sheet) where
     abbrev staying : List Part → List Entry
     staying parts = filter stay (map (entry_of source) (filter gone parts))
 
-    stay_by : (part : Part) (parts : List Part) (b : Bool) → stays s (passage_of source part) ≡ b → CanPass part.is.content
+    stay_by : (part : Part) (parts : List Part) (b : Bool) → stays s (passage_of source part) ≡ b
+        → CanPass part.is.content
         → Stands (entry_of source part) → Stays part → AreEntries s (staying parts)
         → AreEntries s (filter stay (entry_of source part ∷ map (entry_of source) (filter gone parts)))
     stay_by part parts true e can stands stays_so more =

@@ -108,7 +108,8 @@ spn_goes : reason_by sheet AttributeValue (text (codes "\"SPN\"") ∷ name (code
     ∷ name (codes "Speed") ∷ number (codes "600000") ∷ end ∷ []) ≡ Some SheetSays
 spn_goes = refl
 
-spn_of_message_stays : reason_by sheet AttributeValue (text (codes "\"SPN\"") ∷ name (codes "BO_") ∷ number (codes "100")
+spn_of_message_stays : reason_by sheet AttributeValue
+    (text (codes "\"SPN\"") ∷ name (codes "BO_") ∷ number (codes "100")
     ∷ number (codes "1") ∷ end ∷ []) ≡ None
 spn_of_message_stays = refl
 
@@ -150,8 +151,8 @@ relation_of_none : reason_by sheet RelationAttributeValue (text (codes "\"Delay\
     ∷ name (codes "Other") ∷ number (codes "100") ∷ number (codes "5") ∷ end ∷ []) ≡ Some NoNode
 relation_of_none = refl
 
--- CM_ EV_ Variable ".."; stays; CM_ SG_ 100 Speed ".."; is the sheet's to say; CM_ SG_ 100 Torque ".."; cites nothing that is
--- there
+-- CM_ EV_ Variable ".."; stays; CM_ SG_ 100 Speed ".."; is the sheet's to say; CM_ SG_ 100 Torque ".."; cites nothing
+-- that is there
 variable_comment_stays : reason_by sheet Comment (name (codes "EV_") ∷ name (codes "Variable") ∷ text (codes "\"\"")
     ∷ end ∷ []) ≡ None
 variable_comment_stays = refl
@@ -173,6 +174,7 @@ texts_go : reason_by sheet ValueTexts (number (codes "100") ∷ name (codes "Spe
     ∷ text (codes "\"off\"") ∷ end ∷ []) ≡ Some SheetSays
 texts_go = refl
 
-type_goes : reason_by sheet SignalValueType (number (codes "100") ∷ name (codes "Speed") ∷ number (codes "1") ∷ end ∷ [])
+type_goes : reason_by sheet SignalValueType
+    (number (codes "100") ∷ name (codes "Speed") ∷ number (codes "1") ∷ end ∷ [])
     ≡ Some SheetSays
 type_goes = refl

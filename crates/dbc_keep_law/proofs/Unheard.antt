@@ -1,5 +1,7 @@
 -- Statements that are passed over say nothing: without them, or some of them, the others say the same sheet.
-use Rattle.std.proofs.Common.{◌≡◌, ◌==◌, ℕ, nat_eq, Bool, true, false, not, ◌||◌, List, [], ◌∷◌, ◌++◌, map, filter, Option, Some, None, unwrap_or, if◌then◌else◌, refl, sym, ap, subst, ◌∙◌, IsPermutation, arith}
+use Rattle.std.proofs.Common.{◌≡◌, ◌==◌, ℕ, nat_eq, Bool, true, false, not, ◌||◌, List, [], ◌∷◌, ◌++◌, map, filter}
+use Rattle.std.proofs.Common.{Option, Some, None, unwrap_or, if◌then◌else◌, refl, sym, ap, subst, ◌∙◌, IsPermutation}
+use Rattle.std.proofs.Common.{arith}
 use Rattle.std.specs.List.{AllByRecursion, cons_option, flat_map, last_or, list_any}
 use Rattle.std.specs.Str.{bytes_eq}
 use Rattle.std.proofs.lemmas.Bool.{and_from, and_parts, eqb-true}
@@ -63,8 +65,10 @@ heard gone ss = filter (λ (s : Statement). not (gone s.content)) ss
 
 -- ---- one kind, of which those contents say nothing
 
-module _ {X : Type 0} (kind : Content → Option X) (gone : Content → Bool) (none : (c : Content) → gone c ≡ true → kind c ≡ None) where
-  silent_by : (s : Statement) (ss : List Statement) (b : Bool) → gone s.content ≡ b → each_in kind (heard gone ss) ≡ each_in kind ss
+module _ {X : Type 0} (kind : Content → Option X) (gone : Content → Bool)
+    (none : (c : Content) → gone c ≡ true → kind c ≡ None) where
+  silent_by : (s : Statement) (ss : List Statement) (b : Bool) → gone s.content ≡ b
+      → each_in kind (heard gone ss) ≡ each_in kind ss
       → each_in kind (heard gone (s ∷ ss)) ≡ each_in kind (s ∷ ss)
   silent_by s ss true e more = rw e (more ∙ ap (λ o. cons_option o (each_in kind ss)) (sym (none s.content e)))
   silent_by s ss false e more = rw e (ap (λ xs. cons_option (kind s.content) xs) more)
@@ -84,16 +88,19 @@ module _ {K V : Type 0} (same : K → K → Bool) (key : K) (kind : Content → 
   abbrev last_of : Option V → List Statement → Option V
   last_of o ss = last_at same key o (each_in kind ss)
 
-  skipped : (o : Option V) (x : Option (K × V)) (xs : List (K × V)) → Apart same key x → last_at same key o xs ≡ last_at same key o (cons_option x xs)
+  skipped : (o : Option V) (x : Option (K × V)) (xs : List (K × V)) → Apart same key x
+      → last_at same key o xs ≡ last_at same key o (cons_option x xs)
   skipped o None xs h = refl
   skipped o (Some p) xs h = sym (ap (λ b. last_at same key (if b then Some p.1 else o) xs) h)
 
-  both : (x : Option (K × V)) (xs ys : List (K × V)) → ((o : Option V) → last_at same key o xs ≡ last_at same key o ys) → (o : Option V)
+  both : (x : Option (K × V)) (xs ys : List (K × V)) → ((o : Option V) → last_at same key o xs ≡ last_at same key o ys)
+      → (o : Option V)
       → last_at same key o (cons_option x xs) ≡ last_at same key o (cons_option x ys)
   both None xs ys h o = h o
   both (Some p) xs ys h o = h (if same p.0 key then Some p.1 else o)
 
-  keyed_by : (s : Statement) (ss : List Statement) (b : Bool) → gone s.content ≡ b → ((o : Option V) → last_of o (heard gone ss) ≡ last_of o ss)
+  keyed_by : (s : Statement) (ss : List Statement) (b : Bool) → gone s.content ≡ b
+      → ((o : Option V) → last_of o (heard gone ss) ≡ last_of o ss)
       → (o : Option V) → last_of o (heard gone (s ∷ ss)) ≡ last_of o (s ∷ ss)
   keyed_by s ss true e more o = rw e (more o ∙ skipped o (kind s.content) (each_in kind ss) (apart s.content e))
   keyed_by s ss false e more o = rw e (both (kind s.content) (each_in kind (heard gone ss)) (each_in kind ss) more o)
@@ -104,7 +111,8 @@ module _ {K V : Type 0} (same : K → K → Bool) (key : K) (kind : Content → 
 
 -- ---- what a passed content says
 
-false_by : {K : Type 0} (has : K → Bool) (same : K → K → Bool) → ((a b : K) → same a b ≡ true → a ≡ b) → (x key : K) → not (has x) ≡ true → has key ≡ true
+false_by : {K : Type 0} (has : K → Bool) (same : K → K → Bool) → ((a b : K) → same a b ≡ true → a ≡ b) → (x key : K)
+    → not (has x) ≡ true → has key ≡ true
     → same x key ≡ false
 false_by has same equal x key h there = by_answer (same x key) refl
   where
@@ -204,7 +212,8 @@ module _ (ss : List Statement) where
   no_message_in Dropped h = refl
   no_message_in PassedOver h = refl
 
-  apart_node_comment_in : (key : List ℕ) → has_node ss key ≡ true → (c : Content) → is_passed ss c ≡ true → Apart bytes_eq key (node_comment_in c)
+  apart_node_comment_in : (key : List ℕ) → has_node ss key ≡ true → (c : Content) → is_passed ss c ≡ true
+      → Apart bytes_eq key (node_comment_in c)
   apart_node_comment_in key there (VersionIs t) h = tt
   apart_node_comment_in key there (NodesAre ns) h = tt
   apart_node_comment_in key there (TableIs n es) h = tt
@@ -219,7 +228,8 @@ module _ (ss : List Statement) where
   apart_node_comment_in key there Dropped h = tt
   apart_node_comment_in key there PassedOver h = tt
 
-  apart_message_comment_in : (key : ℕ) → has_message ss (Some key) ≡ true → (c : Content) → is_passed ss c ≡ true → Apart nat_eq key (message_comment_in c)
+  apart_message_comment_in : (key : ℕ) → has_message ss (Some key) ≡ true → (c : Content) → is_passed ss c ≡ true
+      → Apart nat_eq key (message_comment_in c)
   apart_message_comment_in key there (VersionIs t) h = tt
   apart_message_comment_in key there (NodesAre ns) h = tt
   apart_message_comment_in key there (TableIs n es) h = tt
@@ -227,7 +237,8 @@ module _ (ss : List Statement) where
   apart_message_comment_in key there (CommentIs t) h = tt
   apart_message_comment_in key there (NodeCommentIs n t) h = tt
   apart_message_comment_in key there (MessageCommentIs None t) h = tt
-  apart_message_comment_in key there (MessageCommentIs (Some n) t) h = false_by (λ k. has_message ss (Some k)) nat_eq numbers_equal n key h there
+  apart_message_comment_in key there (MessageCommentIs (Some n) t) h =
+      false_by (λ k. has_message ss (Some k)) nat_eq numbers_equal n key h there
   apart_message_comment_in key there (SignalCommentIs cited n t) h = tt
   apart_message_comment_in key there (ValueTextsAre cited n vs) h = tt
   apart_message_comment_in key there (ValueTypeIs cited n v) h = tt
@@ -235,7 +246,8 @@ module _ (ss : List Statement) where
   apart_message_comment_in key there Dropped h = tt
   apart_message_comment_in key there PassedOver h = tt
 
-  apart_signal_comment_in : (key : SignalKey) → has_signal ss (Some key.0) key.1 ≡ true → (c : Content) → is_passed ss c ≡ true → Apart same_signal key (signal_comment_in c)
+  apart_signal_comment_in : (key : SignalKey) → has_signal ss (Some key.0) key.1 ≡ true → (c : Content)
+      → is_passed ss c ≡ true → Apart same_signal key (signal_comment_in c)
   apart_signal_comment_in key there (VersionIs t) h = tt
   apart_signal_comment_in key there (NodesAre ns) h = tt
   apart_signal_comment_in key there (TableIs n es) h = tt
@@ -244,14 +256,16 @@ module _ (ss : List Statement) where
   apart_signal_comment_in key there (NodeCommentIs n t) h = tt
   apart_signal_comment_in key there (MessageCommentIs cited t) h = tt
   apart_signal_comment_in key there (SignalCommentIs None n t) h = tt
-  apart_signal_comment_in key there (SignalCommentIs (Some m) n t) h = false_by (λ (k : SignalKey). has_signal ss (Some k.0) k.1) same_signal keys_equal (m, n) key h there
+  apart_signal_comment_in key there (SignalCommentIs (Some m) n t) h =
+      false_by (λ (k : SignalKey). has_signal ss (Some k.0) k.1) same_signal keys_equal (m, n) key h there
   apart_signal_comment_in key there (ValueTextsAre cited n vs) h = tt
   apart_signal_comment_in key there (ValueTypeIs cited n v) h = tt
   apart_signal_comment_in key there (SpnIs cited n p) h = tt
   apart_signal_comment_in key there Dropped h = tt
   apart_signal_comment_in key there PassedOver h = tt
 
-  apart_value_texts_in : (key : SignalKey) → has_signal ss (Some key.0) key.1 ≡ true → (c : Content) → is_passed ss c ≡ true → Apart same_signal key (value_texts_in c)
+  apart_value_texts_in : (key : SignalKey) → has_signal ss (Some key.0) key.1 ≡ true → (c : Content)
+      → is_passed ss c ≡ true → Apart same_signal key (value_texts_in c)
   apart_value_texts_in key there (VersionIs t) h = tt
   apart_value_texts_in key there (NodesAre ns) h = tt
   apart_value_texts_in key there (TableIs n es) h = tt
@@ -261,13 +275,15 @@ module _ (ss : List Statement) where
   apart_value_texts_in key there (MessageCommentIs cited t) h = tt
   apart_value_texts_in key there (SignalCommentIs cited n t) h = tt
   apart_value_texts_in key there (ValueTextsAre None n vs) h = tt
-  apart_value_texts_in key there (ValueTextsAre (Some m) n vs) h = false_by (λ (k : SignalKey). has_signal ss (Some k.0) k.1) same_signal keys_equal (m, n) key h there
+  apart_value_texts_in key there (ValueTextsAre (Some m) n vs) h =
+      false_by (λ (k : SignalKey). has_signal ss (Some k.0) k.1) same_signal keys_equal (m, n) key h there
   apart_value_texts_in key there (ValueTypeIs cited n v) h = tt
   apart_value_texts_in key there (SpnIs cited n p) h = tt
   apart_value_texts_in key there Dropped h = tt
   apart_value_texts_in key there PassedOver h = tt
 
-  apart_value_type_in : (key : SignalKey) → has_signal ss (Some key.0) key.1 ≡ true → (c : Content) → is_passed ss c ≡ true → Apart same_signal key (value_type_in c)
+  apart_value_type_in : (key : SignalKey) → has_signal ss (Some key.0) key.1 ≡ true → (c : Content)
+      → is_passed ss c ≡ true → Apart same_signal key (value_type_in c)
   apart_value_type_in key there (VersionIs t) h = tt
   apart_value_type_in key there (NodesAre ns) h = tt
   apart_value_type_in key there (TableIs n es) h = tt
@@ -278,12 +294,14 @@ module _ (ss : List Statement) where
   apart_value_type_in key there (SignalCommentIs cited n t) h = tt
   apart_value_type_in key there (ValueTextsAre cited n vs) h = tt
   apart_value_type_in key there (ValueTypeIs None n v) h = tt
-  apart_value_type_in key there (ValueTypeIs (Some m) n v) h = false_by (λ (k : SignalKey). has_signal ss (Some k.0) k.1) same_signal keys_equal (m, n) key h there
+  apart_value_type_in key there (ValueTypeIs (Some m) n v) h =
+      false_by (λ (k : SignalKey). has_signal ss (Some k.0) k.1) same_signal keys_equal (m, n) key h there
   apart_value_type_in key there (SpnIs cited n p) h = tt
   apart_value_type_in key there Dropped h = tt
   apart_value_type_in key there PassedOver h = tt
 
-  apart_spn_in : (key : SignalKey) → has_signal ss (Some key.0) key.1 ≡ true → (c : Content) → is_passed ss c ≡ true → Apart same_signal key (spn_in c)
+  apart_spn_in : (key : SignalKey) → has_signal ss (Some key.0) key.1 ≡ true → (c : Content) → is_passed ss c ≡ true
+      → Apart same_signal key (spn_in c)
   apart_spn_in key there (VersionIs t) h = tt
   apart_spn_in key there (NodesAre ns) h = tt
   apart_spn_in key there (TableIs n es) h = tt
@@ -295,7 +313,8 @@ module _ (ss : List Statement) where
   apart_spn_in key there (ValueTextsAre cited n vs) h = tt
   apart_spn_in key there (ValueTypeIs cited n v) h = tt
   apart_spn_in key there (SpnIs None n p) h = tt
-  apart_spn_in key there (SpnIs (Some m) n p) h = false_by (λ (k : SignalKey). has_signal ss (Some k.0) k.1) same_signal keys_equal (m, n) key h there
+  apart_spn_in key there (SpnIs (Some m) n p) h =
+      false_by (λ (k : SignalKey). has_signal ss (Some k.0) k.1) same_signal keys_equal (m, n) key h there
   apart_spn_in key there Dropped h = tt
   apart_spn_in key there PassedOver h = tt
 
@@ -331,21 +350,25 @@ module _ {A B : Type 0} (P : B → Type 0) where
   all_of_map f [] h = tt
   all_of_map f (x ∷ xs) h = (h.0, all_of_map f xs h.1)
 
-pub all_of_append : {A : Type 0} (P : A → Type 0) (xs ys : List A) → AllByRecursion P (xs ++ ys) → AllByRecursion P xs × AllByRecursion P ys
+pub all_of_append : {A : Type 0} (P : A → Type 0) (xs ys : List A) → AllByRecursion P (xs ++ ys)
+    → AllByRecursion P xs × AllByRecursion P ys
 all_of_append P [] ys h = (tt, h)
 all_of_append P (x ∷ xs) ys h = let others = all_of_append P xs ys h.1 in ((h.0, others.0), others.1)
 
-map_same : {A B : Type 0} (P : A → Type 0) (f g : A → B) → ((x : A) → P x → f x ≡ g x) → (xs : List A) → AllByRecursion P xs → map f xs ≡ map g xs
+map_same : {A B : Type 0} (P : A → Type 0) (f g : A → B) → ((x : A) → P x → f x ≡ g x) → (xs : List A)
+    → AllByRecursion P xs → map f xs ≡ map g xs
 map_same P f g same [] h = refl
 map_same P f g same (x ∷ xs) h = λ i. same x h.0 i ∷ map_same P f g same xs h.1 i
 
 -- ---- the whole
 
-module _ (ss : List Statement) (gone : Content → Bool) (only : (c : Content) → gone c ≡ true → is_passed ss c ≡ true) where
+module _ (ss : List Statement) (gone : Content → Bool)
+    (only : (c : Content) → gone c ≡ true → is_passed ss c ≡ true) where
   abbrev hs : List Statement
   hs = heard gone ss
 
-  quiet : {X : Type 0} (kind : Content → Option X) → ((c : Content) → is_passed ss c ≡ true → kind c ≡ None) → each_in kind hs ≡ each_in kind ss
+  quiet : {X : Type 0} (kind : Content → Option X) → ((c : Content) → is_passed ss c ≡ true → kind c ≡ None)
+      → each_in kind hs ≡ each_in kind ss
   quiet kind none = silent kind gone (λ c e. none c (only c e)) ss
 
   pub same_names : node_names_of hs ≡ node_names_of ss
@@ -356,18 +379,22 @@ module _ (ss : List Statement) (gone : Content → Bool) (only : (c : Content) �
 
   same_node : (name : List ℕ) → has_node ss name ≡ true → whole_node hs name ≡ whole_node ss name
   same_node name there =
-      let q = keyed bytes_eq name node_comment_in gone (λ c e. apart_node_comment_in ss name there c (only c e)) ss None in
+      let q = keyed bytes_eq name node_comment_in gone
+      (λ c e. apart_node_comment_in ss name there c (only c e)) ss None in
       λ i. record { name = name; comment = unwrap_or (q i) [] }
 
   abbrev IsThere : ℕ → SignalLine → Type 0
   IsThere number line = has_signal ss (Some number) line.name ≡ true
 
-  same_signal_whole : (number : ℕ) (line : SignalLine) → IsThere number line → whole_signal hs number line ≡ whole_signal ss number line
+  same_signal_whole : (number : ℕ) (line : SignalLine) → IsThere number line
+      → whole_signal hs number line ≡ whole_signal ss number line
   same_signal_whole number line there =
       let key : SignalKey = (number, line.name) in
-      let c = keyed same_signal key signal_comment_in gone (λ c e. apart_signal_comment_in ss key there c (only c e)) ss None in
+      let c = keyed same_signal key signal_comment_in gone
+      (λ c e. apart_signal_comment_in ss key there c (only c e)) ss None in
       let p = keyed same_signal key spn_in gone (λ c e. apart_spn_in ss key there c (only c e)) ss None in
-      let v = keyed same_signal key value_texts_in gone (λ c e. apart_value_texts_in ss key there c (only c e)) ss None in
+      let v = keyed same_signal key value_texts_in gone
+      (λ c e. apart_value_texts_in ss key there c (only c e)) ss None in
       let t = keyed same_signal key value_type_in gone (λ c e. apart_value_type_in ss key there c (only c e)) ss None in
       λ i. record {
         name = line.name;
@@ -393,8 +420,10 @@ module _ (ss : List Statement) (gone : Content → Bool) (only : (c : Content) �
   same_message : (line : MessageLine) → AreThere line → whole_message hs line ≡ whole_message ss line
   same_message line there =
       let number = dbc_number line.ident in
-      let q = keyed nat_eq number message_comment_in gone (λ c e. apart_message_comment_in ss number there.message c (only c e)) ss None in
-      let signals = map_same (IsThere number) (whole_signal hs number) (whole_signal ss number) (same_signal_whole number) line.signals there.signals in
+      let q = keyed nat_eq number message_comment_in gone
+      (λ c e. apart_message_comment_in ss number there.message c (only c e)) ss None in
+      let signals = map_same (IsThere number) (whole_signal hs number) (whole_signal ss number)
+      (same_signal_whole number) line.signals there.signals in
       λ i. record {
         ident = line.ident;
         name = line.name;
@@ -408,27 +437,35 @@ module _ (ss : List Statement) (gone : Content → Bool) (only : (c : Content) �
   names_there = present bytes_eq name_itself (node_names_of ss)
 
   -- of some of the messages, whose numbers and keys are there
-  messages_there : (ms : List MessageLine) → AllByRecursion (λ n. has_message ss (Some n) ≡ true) (map (λ (m : MessageLine). dbc_number m.ident) ms)
-      → AllByRecursion (λ (k : SignalKey). has_signal ss (Some k.0) k.1 ≡ true) (flat_map keys_of ms) → AllByRecursion AreThere ms
+  messages_there : (ms : List MessageLine)
+      → AllByRecursion (λ n. has_message ss (Some n) ≡ true) (map (λ (m : MessageLine). dbc_number m.ident) ms)
+      → AllByRecursion (λ (k : SignalKey). has_signal ss (Some k.0) k.1 ≡ true) (flat_map keys_of ms)
+      → AllByRecursion AreThere ms
   messages_there [] numbers keys = tt
   messages_there (m ∷ ms) numbers keys =
       let number = dbc_number m.ident in
-      let parts = all_of_append (λ (k : SignalKey). has_signal ss (Some k.0) k.1 ≡ true) (keys_of m) (flat_map keys_of ms) keys in
-      let signals = all_of_map (λ (k : SignalKey). has_signal ss (Some k.0) k.1 ≡ true) (λ (s : SignalLine). (number, s.name)) m.signals parts.0 in
+      let parts = all_of_append (λ (k : SignalKey). has_signal ss (Some k.0) k.1 ≡ true) (keys_of m)
+      (flat_map keys_of ms) keys in
+      let signals = all_of_map (λ (k : SignalKey). has_signal ss (Some k.0) k.1 ≡ true)
+      (λ (s : SignalLine). (number, s.name)) m.signals parts.0 in
       (record { message = numbers.0; signals = signals }, messages_there ms numbers.1 parts.1)
 
   all_there : AllByRecursion AreThere (messages_of ss)
   all_there =
-      messages_there (messages_of ss) (present (λ a b. a == b) number_itself (map (λ (m : MessageLine). dbc_number m.ident) (messages_of ss)))
+      messages_there (messages_of ss)
+      (present (λ a b. a == b) number_itself (map (λ (m : MessageLine). dbc_number m.ident) (messages_of ss)))
       (present same_signal key_itself (signal_keys_of ss))
 
   nodes_same : map (whole_node hs) (node_names_of hs) ≡ map (whole_node ss) (node_names_of ss)
   nodes_same =
-      ap (map (whole_node hs)) same_names ∙ map_same (λ n. has_node ss n ≡ true) (whole_node hs) (whole_node ss) same_node (node_names_of ss) names_there
+      ap (map (whole_node hs)) same_names
+      ∙ map_same (λ n. has_node ss n ≡ true) (whole_node hs) (whole_node ss) same_node
+      (node_names_of ss) names_there
 
   messages_same : map (whole_message hs) (messages_of hs) ≡ map (whole_message ss) (messages_of ss)
   messages_same =
-      ap (map (whole_message hs)) same_messages ∙ map_same AreThere (whole_message hs) (whole_message ss) same_message (messages_of ss) all_there
+      ap (map (whole_message hs)) same_messages
+      ∙ map_same AreThere (whole_message hs) (whole_message ss) same_message (messages_of ss) all_there
 
   last_same : {V : Type 0} (v : V) (kind : Content → Option V) → ((c : Content) → is_passed ss c ≡ true → kind c ≡ None)
       → unwrap_or (last_or None (each_in kind hs)) v ≡ unwrap_or (last_or None (each_in kind ss)) v

@@ -1,5 +1,6 @@
 -- The line of a run of a source's tokens has the source's bytes, and its words are each the longest there.
-use Rattle.std.proofs.Common.{◌≡◌, ◌-◌, ℕ, List, [], ◌∷◌, ◌++◌, length, take, drop, refl, sym, ap, subst, ◌∙◌, append_assoc, arith}
+use Rattle.std.proofs.Common.{◌≡◌, ◌-◌, ℕ, List, [], ◌∷◌, ◌++◌, length, take, drop, refl, sym, ap, subst, ◌∙◌}
+use Rattle.std.proofs.Common.{append_assoc, arith}
 use Rattle.std.proofs.lemmas.List.{length-append, drop_at, take_at}
 use Rattle.dbc_grammar.specs.Canon.{Piece}
 use Rattle.dbc_grammar.specs.Token.{Token}
@@ -20,20 +21,37 @@ pub record IsVerbatim (source bytes : List ℕ) (ps : List Piece) (others : List
   pub whole : AreWhole ps
   pub has : HasTokens end after others
 
-pub verbatim : (offset : ℕ) (source front bytes : List ℕ) (run others : List Token) → source ≡ front ++ bytes → length front ≡ offset
+pub verbatim : (offset : ℕ) (source front bytes : List ℕ) (run others : List Token) → source ≡ front ++ bytes
+    → length front ≡ offset
     → HasTokens offset bytes (run ++ others) → IsVerbatim source bytes (pieces_from source offset run) others
-verbatim offset source front bytes [] others e at has = record { before = front; after = bytes; end = offset; source_is = e; end_is = at; bytes_are = refl; whole = tt; has = has }
+verbatim offset source front bytes [] others e at has =
+    record {
+      before = front;
+      after = bytes;
+      end = offset;
+      source_is = e;
+      end_is = at;
+      bytes_are = refl;
+      whole = tt;
+      has = has;
+    }
 verbatim offset source front bytes (t ∷ run) others e at (rest, f, more) =
     let next : source ≡ ((front ++ f.gap) ++ t.text) ++ rest = e ∙ ap (λ v. front ++ v) f.parts ∙ simp append_assoc in
-    let end : length ((front ++ f.gap) ++ t.text) ≡ t.end = omega (arith, at, f.start, f.end, length-append (front ++ f.gap) t.text, length-append front f.gap) in
+    let end : length ((front ++ f.gap) ++ t.text) ≡ t.end =
+    omega (arith, at, f.start, f.end, length-append (front ++ f.gap) t.text, length-append front f.gap) in
     let tail = verbatim t.end source ((front ++ f.gap) ++ t.text) rest run others next end more in
     let long : length f.gap ≡ t.start - offset = omega (arith, f.start) in
-    let here : drop offset source ≡ f.gap ++ (t.text ++ rest) = ap (drop offset) (e ∙ ap (λ v. front ++ v) f.parts) ∙ drop_at front (f.gap ++ (t.text ++ rest)) offset at in
-    let gap : take (t.start - offset) (drop offset source) ≡ f.gap = ap (take (t.start - offset)) here ∙ take_at f.gap (t.text ++ rest) (t.start - offset) long in
+    let here : drop offset source ≡ f.gap ++ (t.text ++ rest) =
+    ap (drop offset) (e ∙ ap (λ v. front ++ v) f.parts) ∙ drop_at front (f.gap ++ (t.text ++ rest)) offset at in
+    let gap : take (t.start - offset) (drop offset source) ≡ f.gap =
+    ap (take (t.start - offset)) here ∙ take_at f.gap (t.text ++ rest) (t.start - offset) long in
     let inner = pieces_text (pieces_from source t.end run) in
     let longest = subst (λ v. IsLongest (length t.text) (t.text ++ v)) tail.bytes_are f.longest in
-    let all : bytes ≡ (f.gap ++ t.text) ++ (inner ++ tail.after) = f.parts ∙ ap (λ v. f.gap ++ (t.text ++ v)) tail.bytes_are ∙ sym (append_assoc f.gap t.text (inner ++ tail.after)) in
-    let regroup : (f.gap ++ t.text) ++ (inner ++ tail.after) ≡ ((f.gap ++ t.text) ++ inner) ++ tail.after = sym (append_assoc (f.gap ++ t.text) inner tail.after) in
+    let all : bytes ≡ (f.gap ++ t.text) ++ (inner ++ tail.after) =
+    f.parts ∙ ap (λ v. f.gap ++ (t.text ++ v)) tail.bytes_are
+    ∙ sym (append_assoc f.gap t.text (inner ++ tail.after)) in
+    let regroup : (f.gap ++ t.text) ++ (inner ++ tail.after) ≡ ((f.gap ++ t.text) ++ inner) ++ tail.after =
+    sym (append_assoc (f.gap ++ t.text) inner tail.after) in
     record {
       before = tail.before;
       after = tail.after;

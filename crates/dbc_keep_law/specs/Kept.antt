@@ -3,7 +3,9 @@
 use Rattle.std.specs.Prelude.{ℕ, ◌==◌, Bool, false, ◌&&◌, not, List, [], ◌∷◌, ◌++◌, map, filter, codes, if◌then◌else◌}
 use Rattle.std.specs.List.{flat_map, list_any}
 use Rattle.std.specs.Str.{bytes_eq}
-use Rattle.dbc_grammar.specs.Canon.{Line, comment_lines, each_signal, line_text, message_comments, message_lines, node_comment, nodes_line, spn_default, spn_definition, spn_lines, symbols_line, table_line, timing_line, type_lines, value_lines, version_line}
+use Rattle.dbc_grammar.specs.Canon.{Line, comment_lines, each_signal, line_text, message_comments, message_lines}
+use Rattle.dbc_grammar.specs.Canon.{node_comment, nodes_line, spn_default, spn_definition, spn_lines, symbols_line}
+use Rattle.dbc_grammar.specs.Canon.{table_line, timing_line, type_lines, value_lines, version_line}
 use Rattle.dbc_words.specs.declared.keyword.Keyword.{Keyword}
 use Rattle.dbc_words.specs.declared.keyword.Keyword.TheVariants.{
   Message,
@@ -78,12 +80,13 @@ lines_at place ps = map (λ (p : Passage). p.line) (at_place place ps)
 
 -- `BA_DEF_ SG_ "SPN"`
 abbrev pub defines_spn : Line → Bool
-defines_spn (word ∷ object ∷ name ∷ rest) = bytes_eq object.text (codes "SG_") && bytes_eq name.text (codes "\"SPN\"")
+defines_spn (word ∷ object ∷ name ∷ rest) =
+    bytes_eq word.text (codes "BA_DEF_") && (bytes_eq object.text (codes "SG_") && bytes_eq name.text (codes "\"SPN\""))
 defines_spn line = false
 
 -- `BA_DEF_DEF_ "SPN"`
 abbrev pub defaults_spn : Line → Bool
-defaults_spn (word ∷ name ∷ rest) = bytes_eq name.text (codes "\"SPN\"")
+defaults_spn (word ∷ name ∷ rest) = bytes_eq word.text (codes "BA_DEF_DEF_") && bytes_eq name.text (codes "\"SPN\"")
 defaults_spn line = false
 
 abbrev pub has_spn : Sheet → Bool
@@ -98,18 +101,20 @@ kept_lines s ps =
     version_line s ∷ symbols_line ∷ timing_line ∷ nodes_line s
     ∷ map table_line s.tables ++ flat_map message_lines s.messages
     ++ lines_at 0 ps ++ lines_at 1 ps ++ lines_at 2 ps ++ lines_at 3 ps ++ lines_at 4 ps
-    ++ comment_lines [] s.comment ++ flat_map node_comment s.nodes ++ flat_map message_comments s.messages ++ lines_at 5 ps
+    ++ comment_lines [] s.comment ++ flat_map node_comment s.nodes ++ flat_map message_comments s.messages
+    ++ lines_at 5 ps
     ++ lines_at 6 ps ++ unless_said s defines_spn (lines_at 6 ps) spn_definition
     ++ lines_at 7 ps ++ unless_said s defaults_spn (lines_at 7 ps) spn_default
     ++ lines_at 8 ps ++ each_signal spn_lines s
-    ++ each_signal value_lines s ++ lines_at 9 ps ++ lines_at 10 ps ++ lines_at 11 ps ++ lines_at 12 ps ++ lines_at 13 ps ++ lines_at 14 ps
+    ++ each_signal value_lines s ++ lines_at 9 ps ++ lines_at 10 ps ++ lines_at 11 ps ++ lines_at 12 ps
+    ++ lines_at 13 ps ++ lines_at 14 ps
     ++ each_signal type_lines s ++ lines_at 15 ps ++ lines_at 16 ps
 
 abbrev pub kept_text : Sheet → List Passage → List ℕ
 kept_text s ps = flat_map line_text (kept_lines s ps)
 
--- The passed statements of a kept text: those that are kept, place after place, and the declarations that the canonical lines
--- add.
+-- The passed statements of a kept text: those that are kept, place after place, and the declarations that the
+-- canonical lines add.
 abbrev pub definition_passage : Passage
 definition_passage = record { keyword = AttributeDefinition; line = spn_definition }
 
@@ -127,5 +132,7 @@ declarations s ps = said s defines_spn (lines_at 6 ps) definition_passage
 abbrev pub completed : Sheet → List Passage → List Passage
 completed s ps =
     at_place 0 ps ++ at_place 1 ps ++ at_place 2 ps ++ at_place 3 ps ++ at_place 4 ps ++ at_place 5 ps
-    ++ at_place 6 ps ++ said s defines_spn (lines_at 6 ps) definition_passage ++ at_place 7 ps ++ said s defaults_spn (lines_at 7 ps) default_passage
-    ++ at_place 8 ps ++ at_place 9 ps ++ at_place 10 ps ++ at_place 11 ps ++ at_place 12 ps ++ at_place 13 ps ++ at_place 14 ps ++ at_place 15 ps ++ at_place 16 ps
+    ++ at_place 6 ps ++ said s defines_spn (lines_at 6 ps) definition_passage ++ at_place 7 ps
+    ++ said s defaults_spn (lines_at 7 ps) default_passage
+    ++ at_place 8 ps ++ at_place 9 ps ++ at_place 10 ps ++ at_place 11 ps ++ at_place 12 ps ++ at_place 13 ps
+    ++ at_place 14 ps ++ at_place 15 ps ++ at_place 16 ps

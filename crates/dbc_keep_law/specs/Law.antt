@@ -36,7 +36,8 @@ KeepsSheet = (source text : List ℕ) (s : Sheet) → IsKept source text → Rea
 
 -- its passed statements are those of the source, place after place, and the declarations that the canonical lines add
 abbrev pub KeepsPassed : Type 0
-KeepsPassed = (source text : List ℕ) (kept : IsKept source text) → Keeps text kept.sheet (completed kept.sheet kept.passages)
+KeepsPassed = (source text : List ℕ) (kept : IsKept source text)
+    → Keeps text kept.sheet (completed kept.sheet kept.passages)
 
 -- each of them once
 abbrev pub EachOnce : Type 0
@@ -59,8 +60,8 @@ abbrev pub StatementsAreFound : Type 0
 StatementsAreFound = (source : List ℕ) (s : Sheet) (passed : List (ℕ × Keyword)) → ReadsAs source s passed
     → Keeps source s (map (found source) passed)
 
--- The text of any sheet with the passed statements of a source that stay reads as that sheet, and its passed statements are
--- these, place after place, and the declarations that the canonical lines add.
+-- The text of any sheet with the passed statements of a source that stay reads as that sheet, and its passed statements
+-- are these, place after place, and the declarations that the canonical lines add.
 abbrev pub StatementsStay : Type 0
 StatementsStay = (source : List ℕ) (o : Sheet) (ps : List Passage) (s : Sheet) → Keeps source o ps → IsSheet s
     → Keeps (kept_text s (filter (stays s) ps)) s (completed s (filter (stays s) ps))

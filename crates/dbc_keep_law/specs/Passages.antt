@@ -10,7 +10,8 @@ use Rattle.dbc_words.specs.declared.keyword.Keyword.{Keyword}
 -- each token, and before it the bytes since the offset, or since the end of the token before
 abbrev pub pieces_from : List ℕ → ℕ → List Token → List Piece
 pieces_from source at [] = []
-pieces_from source at (t ∷ ts) = record { gap = take (t.start - at) (drop at source); kind = t.kind; text = t.text } ∷ pieces_from source t.end ts
+pieces_from source at (t ∷ ts) =
+    record { gap = take (t.start - at) (drop at source); kind = t.kind; text = t.text } ∷ pieces_from source t.end ts
 
 -- the bytes of the run from its first token to its last, as a line
 abbrev pub line_of : List ℕ → List Token → Line
@@ -30,4 +31,5 @@ statements_of parts = map (λ (p : Part). p.is) parts
 
 -- all of them, in their order
 abbrev pub passages_of : List ℕ → List Part → List Passage
-passages_of source parts = map (passage_of source) (filter (λ (p : Part). is_passed (statements_of parts) p.is.content) parts)
+passages_of source parts = map (passage_of source)
+    (filter (λ (p : Part). is_passed (statements_of parts) p.is.content) parts)

@@ -151,8 +151,8 @@ says_spn (a ∷ w ∷ ws) =
     (same_kind Text a.kind && bytes_eq (inside_of a.text) (codes "SPN")) && is_word (codes "SG_") w
 says_spn ws = false
 
--- Whether a statement of the keyword says something of the node, message or signal that it cites: a comment, unless it is
--- of an environment variable; texts of values, unless they are of one; a value type; and a suspect parameter number.
+-- Whether a statement of the keyword says something of the node, message or signal that it cites: a comment, unless it
+-- is of an environment variable; texts of values, unless they are of one; a value type; and a suspect parameter number.
 abbrev pub says : Keyword → List Word → Bool
 says Comment ws = not (first_word (is_word (codes "EV_")) ws)
 says ValueTexts ws = not (first_word is_name_word ws)

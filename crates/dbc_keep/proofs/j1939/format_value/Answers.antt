@@ -10,5 +10,6 @@ returns c =
     let long : nat_le extended_flag (number_of c.args.message.now) ≡ true =
     ap (nat_le extended_flag) (sym c.number-number.ensures) ∙ sym c.is_extended.ensures ∙ c.if-not-is_extended.false in
     rw long
-    (three c.args.text.now.items _ _ _ c.in_ok-extend_from_slice.ensures.items (rw c.number-number.ensures at c.in_ok-decimal.ensures)
+    (three c.args.text.now.items _ _ _ c.in_ok-extend_from_slice.ensures.items
+    (rw c.number-number.ensures at c.in_ok-decimal.ensures)
     c.in_ok-extend_from_slice-2.ensures.items)

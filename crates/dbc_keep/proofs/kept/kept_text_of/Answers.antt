@@ -25,7 +25,8 @@ returns-clause-reads c =
     let written : c.lines.new.text.items ≡ flat_map line_text (all_lines s source passed) =
     lines.text ∙ ap (λ v. v ++ flat_map line_text (all_lines s source passed)) c.new-text.ensures.items in
     let laws = c.kept_texts_read_as_their_sheets.ensures in
-    reads_only source c.lines.new.text.items s passed c.requires written laws.found laws.sheet c.texts_read_as_one_sheet.ensures
+    reads_only source c.lines.new.text.items s passed c.requires written laws.found laws.sheet
+    c.texts_read_as_one_sheet.ensures
 
 pub returns-clause-each : goal.returns-clause-each
 returns-clause-each c =
@@ -47,7 +48,8 @@ returns-clause-again c =
     let written : c.lines.new.text.items ≡ flat_map line_text (all_lines s source passed) =
     lines.text ∙ ap (λ v. v ++ flat_map line_text (all_lines s source passed)) c.new-text.ensures.items in
     let laws = c.kept_texts_read_as_their_sheets.ensures in
-    laws.again source c.lines.new.text.items (is_kept source c.lines.new.text.items s passed c.requires written laws.found)
+    laws.again source c.lines.new.text.items
+    (is_kept source c.lines.new.text.items s passed c.requires written laws.found)
 
 pub returns-clause-nothing : goal.returns-clause-nothing
 returns-clause-nothing c =

@@ -17,7 +17,8 @@ def unpacked(path):
 
 class Printing:
     """A command that only prints: its answer, or what is shown of a lost run, alone. Where the rules leave the text
-    open, as of what clap prints, there is no answer, and that of an undisturbed run counts."""
+    open, as of what clap prints, or another case compares it, as of a page, there is no answer here, and that of an
+    undisturbed run counts."""
 
     def __init__(self, words, files=None, answer=None):
         self.words, self.files, self.answer = words, files or {}, answer
@@ -442,6 +443,9 @@ COMMANDS = {
         ["show", "--port", str(FREE)], {}, Answer(b"", f"no desk answers on port {FREE}\n".encode(), 3)),
     "send_no_desk": Printing(
         ["send", "--port", str(FREE), "--tries", "1", "sent.txt"], SENT, Answer(b"", b"lost 72\n", 3)),
+    "page": Printing(["page", "lint.dbc"], LINT),
+    "page_db": Looking(EVERY_TABLE, ["page", "--db", "office.db", "truck"], None),
+    "page_release": Looking(EVERY_TABLE, ["page", "--db", "office.db", "truck", "1"], None),
     "requests": Looking(EVERY_TABLE, ["requests", "--db", "office.db", "engine"], Answer(REQUESTS)),
     "serve_taken": InNewDatabase(SERVE, {}, Answer(b"", b"cannot listen\n", 3)),
     "migrate": Migrating(

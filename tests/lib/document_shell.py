@@ -22,7 +22,7 @@ class Shell:
     def run(self, command):
         """Runs a command, and compares what it writes with what is shown."""
         word = command.text.split()[0]
-        if word not in ("./canoffice", "cat", "curl", "for", "sqlite3", "wait"):
+        if word not in ("./canoffice", "cat", "curl", "for", "grep", "sqlite3", "wait"):
             self.report(command.number, f"there is no rule for running {word}")
         elif start := START.fullmatch(command.text):
             self.end_serve()

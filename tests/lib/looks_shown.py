@@ -1,6 +1,6 @@
 """The looks of the program, each compared with what `looks_model` works out: from a database (`--db`), of a running desk
 (`--port`), and of it by HTTP. A look is the words of a run: `show` with a network, what is shown and a name, as far as
-they are there, or `requests` and a team.
+they are there, `requests` and a team, or `page` with a network and the number of a release, if there is one.
 """
 import socket, subprocess, sys, time
 
@@ -72,6 +72,9 @@ def target_of(look):
     subcommand, *words = look
     if subcommand == "requests":
         return f"/requests/{words[0]}"
+    if subcommand == "page":
+        net, *number = words
+        return f"/nets/{net}/releases/{number[0]}/page" if number else f"/nets/{net}/page"
     if not words:
         return "/nets"
     net, what, *name = *words, *["state"][len(words) - 1:]

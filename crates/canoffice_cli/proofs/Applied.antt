@@ -18,7 +18,8 @@ use Rattle.canoffice_cli.specs.Outcome.{outcome_of}
 use Rattle.canoffice_jobs.specs.declared.manner.Manner.{Manner}
 use Rattle.canoffice_cli.specs.declared.report.Report.{Report}
 
-module _ (files : Files) (dash : Dash) (manner : Manner) (GoesOn : List Answered → Option Lost → Type 0) (NothingDone : Type 0)
+module _ (files : Files) (dash : Dash) (manner : Manner) (GoesOn : List Answered → Option Lost → Type 0)
+    (NothingDone : Type 0)
     (script : List ℕ) where
   -- its arrivals were answered
   pub applied : (arrivals : List Arrival) (answers : List Answer) (lost : Option Lost) (r : Result Report AllocError)

@@ -32,5 +32,6 @@ pub of_original : (files : Files) (input : Holding) (before after : Databases) (
     → IfOk r (λ report. IsExportedBy files input before after path net number (Some file) j1939 (outcome_of report))
     → IfOk r (λ report. IsExportedBy files input before after path net number original j1939 (outcome_of report))
 of_original files input before after path net number original file j1939 r is exported =
-    subst (λ (o : Option (Bor (List ℕ))). IfOk r (λ report. IsExportedBy files input before after path net number o j1939 (outcome_of report)))
+    subst (λ (o : Option (Bor (List ℕ))).
+    IfOk r (λ report. IsExportedBy files input before after path net number o j1939 (outcome_of report)))
     (sym is) exported

@@ -262,14 +262,16 @@ echo_fits a (Reply (reply.Bundle rs)) are can =
 echo_fits a (Reply (reply.Refused why)) is can =
     let fits = (refusal_fits why is).0 in
     let both = length-append (codes "refused ") (refusal_text why) in
-    headed a.key a.request.command (Reply (reply.Refused why)) (short (Reply (reply.Refused why)) (omega (arith, fits, both)))
+    headed a.key a.request.command (Reply (reply.Refused why))
+    (short (Reply (reply.Refused why)) (omega (arith, fits, both)))
 echo_fits a (Reply reply.Done) is can = headed a.key a.request.command (Reply reply.Done) (omega arith)
 echo_fits a (Reply (reply.Number n)) is can = let fits = single_fits (Reply (reply.Number n)) is tt in
     headed a.key a.request.command (Reply (reply.Number n)) (short (Reply (reply.Number n)) (omega (arith, fits)))
 echo_fits a (Reply (reply.Start n)) is can = let fits = single_fits (Reply (reply.Start n)) is tt in
     headed a.key a.request.command (Reply (reply.Start n)) (short (Reply (reply.Start n)) (omega (arith, fits)))
 echo_fits a (Reply (reply.Counts new same)) is can = let fits = single_fits (Reply (reply.Counts new same)) is tt in
-    headed a.key a.request.command (Reply (reply.Counts new same)) (short (Reply (reply.Counts new same)) (omega (arith, fits)))
+    headed a.key a.request.command (Reply (reply.Counts new same))
+    (short (Reply (reply.Counts new same)) (omega (arith, fits)))
 echo_fits a (Reply (reply.Release n)) is can = let fits = single_fits (Reply (reply.Release n)) is tt in
     headed a.key a.request.command (Reply (reply.Release n)) (short (Reply (reply.Release n)) (omega (arith, fits)))
 echo_fits a KeyReused is can = headed a.key a.request.command KeyReused (omega arith)

@@ -11,7 +11,8 @@ use Rattle.canoffice_cli.specs.Databases.{Databases}
 use Rattle.canoffice_desks.specs.Desks.{Desks}
 use Rattle.canoffice_cli.specs.Performance.{IsAnswered, IsPerformed}
 
-pub performed : (words : List (List ℕ)) (files : Files) (input : Holding) (terminal : Bool) (desks : Desks) (before after : Databases)
+pub performed : (words : List (List ℕ)) (files : Files) (input : Holding) (terminal : Bool) (desks : Desks)
+    (before after : Databases)
     (output errors : Writing) (status : Status) (answer : Result Report AllocError)
     → IfOk answer (λ report. IsAnswered words files input terminal desks before after (outcome_of report))
     → IsDelivered (final_outcome answer) output errors status

@@ -41,4 +41,5 @@ pub of_stated : (files : Files) (t : FileTask) (name bytes stated : List ℕ)
 of_stated files (task.Apply database manner) name bytes stated is = (stated, is, no_reasons name stated)
 of_stated files (task.Check lint) name bytes stated is = is
 of_stated files (task.Format keep) name bytes stated is = is
+of_stated files (task.Page path) name bytes stated is = is
 of_stated files task.Table name bytes stated is = is

@@ -37,6 +37,8 @@ pub far_at_end : (strict : Bool) (arrivals : List Arrival) (zs : List Answer) �
     → length zs ≤ length arrivals → (IsTrue strict → NoneRefused zs) → IsFarEnough strict arrivals zs None
 far_at_end strict arrivals zs all some none = record { some = some; all = λ _. inl all; stops = λ s. inl (none s) }
 
-pub far_at_loss : (strict : Bool) (arrivals : List Arrival) (zs : List Answer) (lost : Lost) → length zs ≤ length arrivals
+pub far_at_loss : (strict : Bool) (arrivals : List Arrival) (zs : List Answer) (lost : Lost)
+    → length zs ≤ length arrivals
     → (IsTrue strict → NoneRefused zs) → IsFarEnough strict arrivals zs (Some lost)
-far_at_loss strict arrivals zs lost some none = record { some = some; all = λ never. absurd (none-some lost (sym never)); stops = λ s. inl (none s) }
+far_at_loss strict arrivals zs lost some none =
+    record { some = some; all = λ never. absurd (none-some lost (sym never)); stops = λ s. inl (none s) }

@@ -62,8 +62,8 @@ pub record IsFarEnough (strict : Bool) (arrivals : List Arrival) (answers : List
     pub all : lost ≡ None → (length answers ≡ length arrivals) ⊎ (IsTrue strict × EndsRefused answers)
     pub stops : IsTrue strict → NoneRefused answers ⊎ EndsRefused answers
 
--- The arrivals were answered in turn, as far as is due, and the answers are printed, and then why the next one was lost.
--- What was answered goes on with the history as `GoesOn` says.
+-- The arrivals were answered in turn, as far as is due, and the answers are printed, and then why the next one was
+-- lost. What was answered goes on with the history as `GoesOn` says.
 pub record AreAnswered (manner : Manner) (GoesOn : List Answered → Option Lost → Type 0) (arrivals : List Arrival)
     (o : Outcome) : Type 0 where
   pub answers : List Answer

@@ -45,6 +45,7 @@ IsStated files (task.Apply database manner) name bytes stated =
     IsStatedOf files name (dash_of database) 1 (lines_of bytes) stated
 IsStated files (task.Check lint) name bytes stated = IsExplained name bytes stated
 IsStated files (task.Format keep) name bytes stated = IsStatedOfFormat keep name bytes stated
+IsStated files (task.Page path) name bytes stated = stated ≡ []
 IsStated files task.Table name bytes stated = stated ≡ []
 
 -- the whole of what is stated: of a script also why its commands were refused
@@ -53,6 +54,7 @@ IsExplanation files (task.Apply database manner) name bytes text =
     (stated : List ℕ) × IsStated files (task.Apply database manner) name bytes stated × HasReasons name stated text
 IsExplanation files (task.Check lint) name bytes text = IsStated files (task.Check lint) name bytes text
 IsExplanation files (task.Format keep) name bytes text = IsStated files (task.Format keep) name bytes text
+IsExplanation files (task.Page path) name bytes text = IsStated files (task.Page path) name bytes text
 IsExplanation files task.Table name bytes text = IsStated files task.Table name bytes text
 
 -- the output and the status are the plain ones, and something is printed after the plain errors

@@ -17,6 +17,7 @@ pub mod Linted
 pub mod Formatted
 pub mod Compared
 pub mod Tabled
+pub mod Paged
 pub mod Reasons
 pub mod Explaining
 pub mod Delivery

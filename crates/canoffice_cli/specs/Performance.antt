@@ -19,6 +19,7 @@ use Rattle.canoffice_cli.specs.Formatted.{IsFormatted}
 use Rattle.canoffice_cli.specs.Linted.{IsCheckedOutcome}
 use Rattle.canoffice_cli.specs.Looked.{IsRequestsOutcome, IsShowOutcome}
 use Rattle.canoffice_cli.specs.Migrated.{IsMigrateOutcome}
+use Rattle.canoffice_cli.specs.Paged.{IsFilePageOutcome, IsPageOutcome}
 use Rattle.canoffice_cli.specs.Sent.{IsSendOutcome}
 use Rattle.canoffice_cli.specs.Served.{IsServeOutcome}
 use Rattle.canoffice_cli.specs.Tabled.{IsTableOutcome}
@@ -30,7 +31,8 @@ use Rattle.canoffice_cli.specs.declared.file_jobs.FileTask.{FileTask}
 use Rattle.canoffice_cli.specs.declared.file_jobs.FileTask.TheVariants as task
 use Rattle.canoffice_jobs.specs.declared.job.Job.{Job}
 use Rattle.canoffice_jobs.specs.declared.job.Job.TheVariants.{Apply, Chart, Check, Compare, CompareReleases, Export}
-use Rattle.canoffice_jobs.specs.declared.job.Job.TheVariants.{Format, Migrate, Requests, Send, Serve, Show, Table}
+use Rattle.canoffice_jobs.specs.declared.job.Job.TheVariants.{Format, Migrate, Page, PageFile, Requests, Send, Serve}
+use Rattle.canoffice_jobs.specs.declared.job.Job.TheVariants.{Show, Table}
 use Rattle.canoffice_jobs.specs.declared.job.JobFault.{JobFault}
 use Rattle.canoffice_jobs.specs.declared.job.JobFault.TheVariants.{Help, Usage, Memory}
 
@@ -53,6 +55,7 @@ IsTaskOutcome files before after (task.Apply database manner) bytes o =
 IsTaskOutcome files before after (task.Check lint) bytes o =
     IsCheckedOutcome (option_map (λ names. names.now) lint) bytes o × AreKept before after
 IsTaskOutcome files before after (task.Format keep) bytes o = IsFormatted keep bytes o × AreKept before after
+IsTaskOutcome files before after (task.Page path) bytes o = IsFilePageOutcome path.now bytes o × AreKept before after
 IsTaskOutcome files before after task.Table bytes o = IsTableOutcome bytes o × AreKept before after
 
 -- the same for a job, of whose file something may be stated
@@ -102,6 +105,10 @@ IsDone files input terminal desks before after (Format file explain keep) o =
     IsFileOutcome files input before after
     (record { task = task.Format keep; path = file; advice = requested explain }) o
 IsDone files input terminal desks before after (Migrate database) o = IsMigrateOutcome before after database.now o
+IsDone files input terminal desks before after (Page place net number) o =
+    IsPageOutcome desks before after place net.now number o
+IsDone files input terminal desks before after (PageFile file) o =
+    IsFileOutcome files input before after (record { task = task.Page file; path = file; advice = requested false }) o
 IsDone files input terminal desks before after (Requests place team) o =
     IsRequestsOutcome desks before after place team.now o
 IsDone files input terminal desks before after (Send sending script) o =

@@ -143,9 +143,9 @@ fn answer_all<S: Alter, W: Write>(
 
 /// Answers the arrivals in turn by the office on the connection, up to the first that is lost, and where it is strict,
 /// up to the first that is refused, and gives the connection back. A new office is made where the connection has no
-/// table. It is shown how far the script of the arrivals is, and why arrivals are refused is added to the reasons: where
-/// the office fails while that is read, the answer stands, and the next arrival is lost. The error is out of memory for
-/// the answers: then nothing arrived.
+/// table. It is shown how far the script of the arrivals is, and why arrivals are refused is added to the reasons:
+/// where the office fails while that is read, the answer stands, and the next arrival is lost. The error is out of
+/// memory for the answers: then nothing arrived.
 pub fn answer_on<S: Alter + Drop, W: Write>(
     alloc: Global,
     conn: Connection<S>,
@@ -191,9 +191,9 @@ pub fn answer_on<S: Alter + Drop, W: Write>(
     }
 }
 
-/// Answers the arrivals in turn by a new office in memory, up to one for which memory runs out, which is lost, and where
-/// it is strict, up to the first that is refused. Why arrivals are refused is added to the reasons. The error is out of
-/// memory for the answers.
+/// Answers the arrivals in turn by a new office in memory, up to one for which memory runs out, which is lost, and
+/// where it is strict, up to the first that is refused. Why arrivals are refused is added to the reasons. The error is
+/// out of memory for the answers.
 pub(crate) fn answer_in_memory<W: Write>(
     alloc: Global,
     script: &[u8],
@@ -277,8 +277,8 @@ pub(crate) fn lost_report(alloc: Global, lost: Lost) -> Result<Report, AllocErro
     Ok(Report::of_errors(alloc, text.into_bytes(), Status::Failed))
 }
 
-/// The line of each answer, or the echo of each of the first arrivals with it, put into the room in the place of what it
-/// has.
+/// The line of each answer, or the echo of each of the first arrivals with it, put into the room in the place of what
+/// it has.
 fn printed(
     echo: bool,
     arrivals: &[Arrival],

@@ -93,10 +93,10 @@ fn apply_in_database<F: FileSource, D: Databases, W: Write>(
 /// The whole script is read first, and each file that it names, line by line: if a line is wrong, the number of the
 /// first one is reported, and if a file can't be read, the path of the first one; then nothing is done. Else each
 /// arrival is answered in turn, up to the first that is lost, or in the strict manner up to the first that is refused,
-/// and the answers are printed, with `echo` each after what was requested. The status is `Success` whatever was refused,
-/// but `FaultFound` where the strict manner stopped; after the last one `lost` and its number if one was lost, with the
-/// status `Failed`. The error is out of memory for the report. Room for the lines of all answers is taken before the
-/// first arrival. Why requests are refused is added to the reasons.
+/// and the answers are printed, with `echo` each after what was requested. The status is `Success` whatever was
+/// refused, but `FaultFound` where the strict manner stopped; after the last one `lost` and its number if one was lost,
+/// with the status `Failed`. The error is out of memory for the report. Room for the lines of all answers is taken
+/// before the first arrival. Why requests are refused is added to the reasons.
 pub fn apply_script<F: FileSource, D: Databases, W: Write>(
     alloc: Global,
     script: &[u8],

@@ -28,9 +28,9 @@ pub trait Databases {
     ghost known: { Self → Known };
 
     /// Answers the arrivals in turn by the office in the database at the path, up to the first that is lost, and where
-    /// it is strict, up to the first that is refused. It is shown how far the script of the arrivals is, and why arrivals
-    /// are refused is added to the reasons. Opening the database, or closing it after the last answer, may be lost too.
-    /// The error is out of memory for the answers: then nothing arrived.
+    /// it is strict, up to the first that is refused. It is shown how far the script of the arrivals is, and why
+    /// arrivals are refused is added to the reasons. Opening the database, or closing it after the last answer, may be
+    /// lost too. The error is out of memory for the answers: then nothing arrived.
     fn answer<W: Write>(
         &mut self,
         alloc: Global,

@@ -105,6 +105,6 @@ pub(crate) fn stated<F: FileSource>(
             let dash = dash_of(database);
             office_advice::explained(alloc, source.name, source.text, dash, files)
         }
-        FileTask::Table => Ok(Vec::new(alloc)),
+        FileTask::Page(_) | FileTask::Table => Ok(Vec::new(alloc)),
     }
 }

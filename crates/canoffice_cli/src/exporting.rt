@@ -108,9 +108,9 @@ fn export_with<D: Databases>(
 }
 
 /// Prints the release of the network with this number, or for 0 its live sheet, as the office in the database of the
-/// path has it, with what is wanted besides; or that there is no such sheet. There is no such sheet where NET hasn't the
-/// form of a network's name: then the database isn't opened; nor where the database is absent: then it isn't made. The
-/// file of an original is read before. The error is out of memory for the report.
+/// path has it, with what is wanted besides; or that there is no such sheet. There is no such sheet where NET hasn't
+/// the form of a network's name: then the database isn't opened; nor where the database is absent: then it isn't made.
+/// The file of an original is read before. The error is out of memory for the report.
 pub fn export_report<F: FileSource + StandardInput, D: Databases>(
     alloc: Global,
     files: &F,

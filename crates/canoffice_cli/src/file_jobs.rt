@@ -15,6 +15,7 @@ use crate::explaining::{Advice, stated};
 use crate::files::{FileSource, PathFault, StandardInput, bytes_at};
 use crate::formatting::{format_report, kept_report};
 use crate::linting::checked;
+use crate::paging::file_page_report;
 use crate::progress::Progress;
 use crate::reasons::Reasons;
 use crate::report::{Report, Status, cannot_read};
@@ -33,6 +34,8 @@ pub(crate) enum FileTask<'a> {
     Check(Option<&'a str>),
     /// They are DBC text, which is printed in its canonical form, with the statements that are skipped or without.
     Format(bool),
+    /// They are DBC text, which is printed as one page that is named after this path.
+    Page(&'a str),
     /// They are DBC text, the table of whose messages is printed.
     Table,
 }
@@ -289,6 +292,7 @@ fn task_report<F: FileSource, D: Databases, W: Write>(
         }
         FileTask::Check(lint) => checked(alloc, bytes, lint),
         FileTask::Format(keep) => formatted_report(alloc, bytes, keep),
+        FileTask::Page(path) => file_page_report(alloc, path, bytes),
         FileTask::Table => table_report(alloc, bytes),
     }
 }

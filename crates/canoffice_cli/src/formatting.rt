@@ -31,9 +31,9 @@ pub(crate) fn fault_report(alloc: Global, fault: ReadFault) -> Result<Report, Al
     }
 }
 
-/// The canonical text of the sheet that the DBC text reads as, and in it the statements that are skipped: each verbatim, on
-/// a line of its own, at its place. A fault is reported as by [`format_report`]. A text that this printed is printed
-/// unchanged.
+/// The canonical text of the sheet that the DBC text reads as, and in it the statements that are skipped: each
+/// verbatim, on a line of its own, at its place. A fault is reported as by [`format_report`]. A text that this printed
+/// is printed unchanged.
 pub fn kept_report(alloc: Global, source: &[u8]) -> Result<Report, AllocError>
     ensures outcome { IfOk result (λ report. IsKeptOutcome source.now (outcome_of report)) }
     ensures unchanged { IfOk result (λ report. KeepsKept source.now (outcome_of report)) }

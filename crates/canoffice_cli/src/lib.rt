@@ -2,15 +2,15 @@
 //!
 //! - What the words of the command line request is in the crate `canoffice_jobs`.
 //! - `files` reads files and standard input: those of the machine, or those of a list in memory. `databases` has the
-//!   offices in databases, of which one in memory is here, and the crate `canoffice_desks` those that desks serve; those
-//!   of the machine are in the program itself.
-//! - `apply`, `sending`, `looking`, `exporting`, `migrating`, `serving`, `charting`, `checking`, `linting`, `comparing`,
-//!   `formatting` and `tabling` do the jobs. What the words of `show` and `requests` look up is in the crate
-//!   `canoffice_looks`.
-//!   `answering` answers the arrivals of a script, by an office in memory or on a connection to a database, `progress`
-//!   shows how far it is, and `room` is taken before for what is printed after.
-//! - `file_jobs` does the jobs that read a file, and `explaining` says what `--explain` adds to them; `reasons` has what
-//!   it adds of the commands of a script that are refused.
+//!   offices in databases, of which one in memory is here, and the crate `canoffice_desks` those that desks serve;
+//!   those of the machine are in the program itself.
+//! - `apply`, `sending`, `looking`, `exporting`, `migrating`, `serving`, `charting`, `checking`, `linting`,
+//!   `comparing`, `formatting`, `paging` and `tabling` do the jobs. What the words of `show`, `page` and `requests`
+//!   look up is in the crate `canoffice_looks`. `answering` answers the arrivals of a script, by an office in memory or
+//!   on a connection to a database, `progress` shows how far it is, and `room` is taken before for what is printed
+//!   after.
+//! - `file_jobs` does the jobs that read a file, and `explaining` says what `--explain` adds to them; `reasons` has
+//!   what it adds of the commands of a script that are refused.
 //! - `report` is the result of a run: bytes for standard output and standard error, and a `Status`.
 //! - `delivery` writes a report to the two streams.
 //! - `program` joins them: `perform` is a whole run.
@@ -35,6 +35,7 @@ mod lines;
 mod linting;
 mod looking;
 mod migrating;
+mod paging;
 mod program;
 mod progress;
 mod reasons;
@@ -62,6 +63,7 @@ pub use formatting::{format_report, kept_report};
 pub use linting::lint_report;
 pub use looking::{look_on, requests_report, show_report};
 pub use migrating::{migrate_on, migrate_report};
+pub use paging::{file_page_report, page_report};
 pub use program::{fault_report, perform, report_of};
 pub use progress::Progress;
 pub use reasons::Reasons;

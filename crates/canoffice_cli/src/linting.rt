@@ -29,8 +29,8 @@ fn remarked(
     }
 }
 
-/// The check of the DBC text, as of [`check_report`], and then a line for each remark whose kind the names choose. Where
-/// there is one the status is `FaultFound`. A text that reads as no sheet has none.
+/// The check of the DBC text, as of [`check_report`], and then a line for each remark whose kind the names choose.
+/// Where there is one the status is `FaultFound`. A text that reads as no sheet has none.
 pub fn lint_report(alloc: Global, source: &[u8], names: &str) -> Result<Report, AllocError>
     ensures { IfOk result (λ report. IsLintOutcome names.now source.now (outcome_of report)) }
 {

@@ -14,6 +14,7 @@ use crate::file_jobs::{FileJob, FileTask, file_report};
 use crate::files::{FileSource, StandardInput};
 use crate::looking::{requests_report, show_report};
 use crate::migrating::migrate_report;
+use crate::paging::page_report;
 use crate::progress::Progress;
 use crate::report::{Report, Status, help, usage};
 use crate::sending::send_report;
@@ -192,6 +193,13 @@ pub fn report_of<F: FileSource + StandardInput, D: Databases, K: Desks, W: Write
             file_report(alloc, job, files, databases, progress)
         }
         Job::Migrate { database } => migrate_report(alloc, databases, database, progress),
+        Job::Page { place, net, number } => {
+            page_report(alloc, databases, desks, *place, net, *number)
+        }
+        Job::PageFile { file } => {
+            let job = FileJob::new(FileTask::Page(file), file, Advice::Nothing);
+            file_report(alloc, job, files, databases, progress)
+        }
         Job::Requests { place, team } => requests_report(alloc, databases, desks, *place, team),
         Job::Send { sending, script } => {
             send_report(alloc, script, files, desks, *sending, progress)

@@ -11,8 +11,8 @@ use std::alloc::{AllocError, Global};
 pub enum Status {
     /// All went well: 0.
     Success,
-    /// A fault was found in what was checked, formatted or charted, or there is a remark on it, what was looked up isn't
-    /// there, or a script stopped at a refusal: 1.
+    /// A fault was found in what was checked, formatted or charted, or there is a remark on it, what was looked up
+    /// isn't there, or a script stopped at a refusal: 1.
     FaultFound,
     /// The command line or a script is wrong: 2.
     WrongInput,

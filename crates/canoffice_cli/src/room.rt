@@ -63,8 +63,8 @@ fn room_for(arrivals: &[Arrival]) -> Option<usize>
 }
 
 impl Room {
-    /// Room for the longest lines that can answer the arrivals, with `echo` for their longest echoes, and for the line of
-    /// a loss. The error is out of memory.
+    /// Room for the longest lines that can answer the arrivals, with `echo` for their longest echoes, and for the line
+    /// of a loss. The error is out of memory.
     pub(crate) fn for_answers(
         alloc: Global,
         arrivals: &[Arrival],

@@ -1,17 +1,18 @@
--- A command with one subcommand more.
-use Rattle.std.proofs.Common.{◌≡◌, ◌||◌, Bool, false, ap, ◌∙◌}
-use Rattle.clap.specs.Words.{App, AddsSubcommand, app_of, shape_of, with_subcommand}
-use Rattle.clap.specs.declared.builder.command.Command.TheViews.{out-Command}
+-- A command that was built.
+use Rattle.std.proofs.Common.{◌≡◌, false}
+use Rattle.std.specs.Prelude.{IfOk, Result, Ok, Err}
+use Rattle.std.specs.declared.alloc.AllocError.{AllocError}
+use Rattle.clap.specs.Words.{App, app_of}
 use Rattle.clap.specs.declared.builder.command.Command.{Command}
+use Rattle.clap.specs.declared.builder.command.Command.TheViews.{out-Command}
+use Rattle.canoffice_jobs.specs.Built.{IsBuilt}
 
-pub one_more : (old sub new : Command) (a b : App) → AddsSubcommand old sub new → (out-Command sub).has_globals ≡ false
-    → app_of old ≡ a → app_of sub ≡ b → app_of new ≡ with_subcommand a b.top
-one_more old sub new a b adds local is_a is_b =
-    adds.shape local ∙ ap (λ (x : App). with_subcommand x (shape_of sub)) is_a
-    ∙ ap (λ (x : App). with_subcommand a x.top) is_b
+pub app_of_built : (result : Result Command AllocError) (app : App) → IsBuilt result app
+    → IfOk result (λ c. app_of c ≡ app)
+app_of_built (Ok command) app is = is.0
+app_of_built (Err fault) app is = tt
 
--- where neither has a global argument, it has none
-pub one_more_local : (old sub new : Command) → AddsSubcommand old sub new → (out-Command old).has_globals ≡ false
-    → (out-Command sub).has_globals ≡ false → (out-Command new).has_globals ≡ false
-one_more_local old sub new adds none local =
-    adds.globals ∙ ap (λ (b : Bool). b || (out-Command sub).has_globals) none ∙ local
+pub built_local : (result : Result Command AllocError) (app : App) → IsBuilt result app
+    → IfOk result (λ c. (out-Command c).has_globals ≡ false)
+built_local (Ok command) app is = is.1
+built_local (Err fault) app is = tt

@@ -88,11 +88,21 @@ own_entered s called rest (inr (inr (inr (inr (inr (inr (inl same))))))) answers
     let database = needed s rest (codes "db") passes (ap (λ x. needs_value x.rules (codes "db")) same) in
     subst (λ n. IsEntered (Some (n, rows_after s.rules [] rest))) (sym name) ((λ _. database), tt)
 own_entered s called rest (inr (inr (inr (inr (inr (inr (inr (inl same)))))))) answers no_help passes =
+    let name : s.name ≡ codes "page" = ap (λ x. x.name) same in
+    let net = needed s rest (codes "NET") passes (ap (λ x. needs_value x.rules (codes "NET")) same) in
+    subst (λ n. IsEntered (Some (n, rows_after s.rules [] rest))) (sym name) (
+      (λ never. absurd (true≢false (sym never))),
+      (
+        (λ never. absurd (true≢false (sym never))),
+        ((λ _. net), ((λ never. absurd (true≢false (sym never))), tt)),
+      ),
+    )
+own_entered s called rest (inr (inr (inr (inr (inr (inr (inr (inr (inl same))))))))) answers no_help passes =
     let name : s.name ≡ codes "requests" = ap (λ x. x.name) same in
     let team = needed s rest (codes "TEAM") passes (ap (λ x. needs_value x.rules (codes "TEAM")) same) in
     subst (λ n. IsEntered (Some (n, rows_after s.rules [] rest))) (sym name)
     ((λ never. absurd (true≢false (sym never))), ((λ never. absurd (true≢false (sym never))), ((λ _. team), tt)))
-own_entered s called rest (inr (inr (inr (inr (inr (inr (inr (inr (inl same))))))))) answers no_help passes =
+own_entered s called rest (inr (inr (inr (inr (inr (inr (inr (inr (inr (inl same)))))))))) answers no_help passes =
     let name : s.name ≡ codes "send" = ap (λ x. x.name) same in
     let script = needed s rest (codes "SCRIPT") passes (ap (λ x. needs_value x.rules (codes "SCRIPT")) same) in
     subst (λ n. IsEntered (Some (n, rows_after s.rules [] rest))) (sym name) (
@@ -102,7 +112,7 @@ own_entered s called rest (inr (inr (inr (inr (inr (inr (inr (inr (inl same)))))
         ((λ never. absurd (true≢false (sym never))), ((λ never. absurd (true≢false (sym never))), ((λ _. script), tt))),
       ),
     )
-own_entered s called rest (inr (inr (inr (inr (inr (inr (inr (inr (inr (inl same)))))))))) answers no_help passes =
+own_entered s called rest (inr (inr (inr (inr (inr (inr (inr (inr (inr (inr (inl same))))))))))) answers no_help passes =
     let name : s.name ≡ codes "serve" = ap (λ x. x.name) same in
     let database = needed s rest (codes "db") passes (ap (λ x. needs_value x.rules (codes "db")) same) in
     subst (λ n. IsEntered (Some (n, rows_after s.rules [] rest))) (sym name) (
@@ -112,7 +122,7 @@ own_entered s called rest (inr (inr (inr (inr (inr (inr (inr (inr (inr (inl same
         ((λ never. absurd (true≢false (sym never))), ((λ never. absurd (true≢false (sym never))), tt)),
       ),
     )
-own_entered s called rest (inr (inr (inr (inr (inr (inr (inr (inr (inr (inr (inl same))))))))))) answers no_help passes =
+own_entered s called rest (inr (inr (inr (inr (inr (inr (inr (inr (inr (inr (inr (inl same)))))))))))) answers no_help passes =
     let name : s.name ≡ codes "show" = ap (λ x. x.name) same in
     subst (λ n. IsEntered (Some (n, rows_after s.rules [] rest))) (sym name) (
       (λ never. absurd (true≢false (sym never))),
@@ -127,18 +137,18 @@ own_entered s called rest (inr (inr (inr (inr (inr (inr (inr (inr (inr (inr (inl
         ),
       ),
     )
-own_entered s called rest (inr (inr (inr (inr (inr (inr (inr (inr (inr (inr (inr (inl same)))))))))))) answers no_help passes =
+own_entered s called rest (inr (inr (inr (inr (inr (inr (inr (inr (inr (inr (inr (inr (inl same))))))))))))) answers no_help passes =
     let name : s.name ≡ codes "table" = ap (λ x. x.name) same in
     let file = needed s rest (codes "FILE") passes (ap (λ x. needs_value x.rules (codes "FILE")) same) in
     subst (λ n. IsEntered (Some (n, rows_after s.rules [] rest))) (sym name) ((λ _. file), tt)
-own_entered s called rest (inr (inr (inr (inr (inr (inr (inr (inr (inr (inr (inr (inr (inl same))))))))))))) answers no_help passes =
+own_entered s called rest (inr (inr (inr (inr (inr (inr (inr (inr (inr (inr (inr (inr (inr (inl same)))))))))))))) answers no_help passes =
     let called_help = help_called called (subst (λ (x : Shape). answers_to called (label_of x) ≡ true) same answers) in
     absurd (true≢false (sym called_help ∙ and_true _ no_help))
   where
     and_true : (b : Bool) → (b && true) ≡ false → b ≡ false
     and_true true e = e
     and_true false e = refl
-own_entered s called rest (inr (inr (inr (inr (inr (inr (inr (inr (inr (inr (inr (inr (inr none))))))))))))) answers no_help passes =
+own_entered s called rest (inr (inr (inr (inr (inr (inr (inr (inr (inr (inr (inr (inr (inr (inr none)))))))))))))) answers no_help passes =
     absurd none
 
 pub line_is_entered : (words : List Text) → line_faults words ≡ [] → IsEntered (subcommand_of canoffice_app words)

@@ -13,14 +13,14 @@ use Rattle.clap.specs.declared.error.kind.ErrorKind.TheVariants.{DisplayHelp, Di
 use Rattle.office_views.specs.Word.{length_of}
 use Rattle.canoffice_jobs.specs.declared.job.Job.{Job}
 use Rattle.canoffice_jobs.specs.declared.job.Job.TheVariants.{Apply, Chart, Check, Compare, CompareReleases, Export}
-use Rattle.canoffice_jobs.specs.declared.job.Job.TheVariants.{Format, Migrate, Requests, Send, Serve, Show, Table}
+use Rattle.canoffice_jobs.specs.declared.job.Job.TheVariants.{Format, Migrate, Page, PageFile, Requests, Send, Serve, Show, Table}
 use Rattle.canoffice_jobs.specs.declared.job.JobFault.{JobFault}
 use Rattle.canoffice_jobs.specs.declared.job.JobFault.TheVariants.{Help, Usage, Memory}
 use Rattle.canoffice_jobs.specs.declared.job.ValueFault.{ValueFault}
 use Rattle.canoffice_jobs.specs.declared.job.ValueFault.TheVariants as value
 use Rattle.canoffice_jobs.specs.declared.manner.Manner.{Manner}
 use Rattle.canoffice_jobs.specs.declared.place.Place.{Place}
-use Rattle.canoffice_jobs.specs.Numbers.{count_given, port_given, release_number, tries_given}
+use Rattle.canoffice_jobs.specs.Numbers.{count_given, page_number, port_given, release_number, tries_given}
 use Rattle.canoffice_jobs.specs.Place.{IsNoPlace, IsPlace}
 use Rattle.canoffice_looks.specs.What.{shown_by}
 use Rattle.dbc_lint.specs.Kind.{first_unknown}
@@ -107,6 +107,14 @@ format_app = with_rule (with_rule (with_rule (new_app (codes "format")) explain_
 abbrev pub migrate_app : App
 migrate_app = with_rule (new_app (codes "migrate")) (required_option (codes "db"))
 
+-- NET [N]
+abbrev pub with_paged : App → App
+with_paged app = with_rule (with_rule app (required_word (codes "NET"))) (optional_word (codes "N"))
+
+-- page FILE, or page (--db FILE | --port N) NET [N]
+abbrev pub page_app : App
+page_app = with_paged (with_place (new_app (codes "page")))
+
 -- requests (--db FILE | --port N) TEAM
 abbrev pub requests_app : App
 requests_app = with_rule (with_place (new_app (codes "requests"))) (required_word (codes "TEAM"))
@@ -145,8 +153,8 @@ with_version = on_top (λ s. record s { has_version = true })
 abbrev pub wants_subcommand : App → App
 wants_subcommand = on_top (λ s. record s { subcommand_required = true; arg_required_else_help = true })
 
--- canoffice apply .., chart .., check .., compare .., export .., format .., migrate .., requests .., send .., serve ..,
--- show .., table ..
+-- canoffice apply .., chart .., check .., compare .., export .., format .., migrate .., page .., requests .., send ..,
+-- serve .., show .., table ..
 abbrev pub canoffice_app : App
 canoffice_app =
     let to_apply = with_subcommand (wants_subcommand (with_version (new_app (codes "canoffice")))) apply_app.top in
@@ -156,7 +164,8 @@ canoffice_app =
     let to_export = with_subcommand to_compare export_app.top in
     let to_format = with_subcommand to_export format_app.top in
     let to_migrate = with_subcommand to_format migrate_app.top in
-    let to_requests = with_subcommand to_migrate requests_app.top in
+    let to_page = with_subcommand to_migrate page_app.top in
+    let to_requests = with_subcommand to_page requests_app.top in
     let to_send = with_subcommand to_requests send_app.top in
     let to_serve = with_subcommand to_send serve_app.top in
     let to_show = with_subcommand to_serve show_app.top in
@@ -211,7 +220,7 @@ manner_in rows = record { strict = is_set rows (codes "strict"); echo = is_set r
 abbrev pub IsPlaceIn : Place → List Row → Type 0
 IsPlaceIn place rows = IsPlace place (first_of (codes "db") rows) (first_of (codes "port") rows)
 
--- two files are compared: neither a place is given nor the number of a second release
+-- the words name files: neither a place is given nor the number of a release
 abbrev pub are_absent : Option Text → Option Text → Option Text → Bool
 are_absent database port number = is_none database && (is_none port && is_none number)
 
@@ -251,6 +260,11 @@ IsJobOf (Export database net number extras) name rows =
 IsJobOf (Format file explain keep) name rows = (name ≡ codes "format") × HasValue rows (codes "FILE") file.now
     × (explain ≡ is_set rows (codes "explain")) × (keep ≡ is_set rows (codes "keep"))
 IsJobOf (Migrate database) name rows = (name ≡ codes "migrate") × HasValue rows (codes "db") database.now
+IsJobOf (Page place net number) name rows =
+    (name ≡ codes "page") × IsPlaceIn place rows × HasValue rows (codes "NET") net.now
+    × (page_number (first_of (codes "N") rows) ≡ Some number)
+IsJobOf (PageFile file) name rows =
+    (name ≡ codes "page") × (are_files rows ≡ true) × HasValue rows (codes "NET") file.now
 IsJobOf (Requests place team) name rows =
     (name ≡ codes "requests") × IsPlaceIn place rows × HasValue rows (codes "TEAM") team.now
 IsJobOf (Send sending script) name rows =
@@ -323,6 +337,8 @@ IsWrongNumber name rows word =
     ⊎ ((name ≡ codes "serve") × HasValue rows (codes "port") word × (port_given (Some word) ≡ None))
     ⊎ ((name ≡ codes "serve") × HasValue rows (codes "count") word × (count_given (Some word) ≡ None)
     × (port : ℕ) × (port_given (first_of (codes "port") rows) ≡ Some port))
+    ⊎ ((name ≡ codes "page") × (are_files rows ≡ false) × HasValue rows (codes "N") word
+    × (release_number word ≡ None))
 
 -- the subcommand with these arguments looks at an office, but the values of `--db` and `--port` name no place, or there
 -- is no second release to compare, or nothing is shown by the words
@@ -332,6 +348,8 @@ IsWrongLook name rows =
     × IsNoPlace (first_of (codes "db") rows) (first_of (codes "port") rows))
     ⊎ ((name ≡ codes "compare") × (are_files rows ≡ false)
     × (IsNoPlace (first_of (codes "db") rows) (first_of (codes "port") rows) ⊎ (first_of (codes "N") rows ≡ None)))
+    ⊎ ((name ≡ codes "page") × (are_files rows ≡ false)
+    × IsNoPlace (first_of (codes "db") rows) (first_of (codes "port") rows))
     ⊎ ((name ≡ codes "show") × (shown_by (first_of (codes "WHAT") rows) (first_of (codes "NAME") rows) ≡ None))
 
 -- the subcommand with these arguments is to print remarks, but this is the first of their names that no kind has

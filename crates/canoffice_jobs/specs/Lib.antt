@@ -2,3 +2,4 @@ pub mod Numbers
 pub mod Place
 pub mod CommandLine
 pub mod Meant
+pub mod Built

@@ -9,6 +9,11 @@ use Rattle.std.proofs.Common.{refl}
 abbrev pub release_number : List ℕ → Option ℕ
 release_number word = option_and_then (between 0 65535) (whole_of word)
 
+-- the release that is on a page; without a word the live network
+abbrev pub page_number : Option (List ℕ) → Option ℕ
+page_number None = Some 0
+page_number (Some word) = release_number word
+
 -- the number of a port
 abbrev pub port_number : List ℕ → Option ℕ
 port_number word = option_and_then (between 1 65535) (whole_of word)
@@ -45,6 +50,12 @@ no_such_port = refl
 
 live_sheet : release_number (codes "0") ≡ Some 0
 live_sheet = refl
+
+no_release : page_number None ≡ Some 0
+no_release = refl
+
+some_release : page_number (Some (codes "2")) ≡ Some 2
+some_release = refl
 
 too_many : count_given (Some (codes "1000001")) ≡ None
 too_many = refl

@@ -10,7 +10,9 @@ ghost use Rattle.dbc_lint.specs.Kind.{first_unknown};
 use crate::command_line::{canoffice_command, check_command};
 use crate::extras::Extras;
 use crate::manner::{Manner, Sending};
-use crate::numbers::{Number, count_given, length_given, port_given, release_number, tries_given};
+use crate::numbers::{
+    Number, count_given, length_given, page_number, port_given, release_number, tries_given,
+};
 use crate::place::{LookCommand, Place, PlaceFault, place_given};
 use crate::remarks::remark_refusal;
 use canoffice_looks::{What, WhatFault, shown_by};
@@ -93,6 +95,20 @@ pub enum Job<'a> {
         /// The path of the office's database.
         database: &'a str,
     },
+    /// Print a network, or a release of it, as one page.
+    Page {
+        /// Where the office is looked at.
+        place: Place<'a>,
+        /// The word that names the network.
+        net: &'a str,
+        /// The number of the release, 1 to 65535, or 0 for the live network.
+        number: u32,
+    },
+    /// Print the DBC text in the file of this name as one page.
+    PageFile {
+        /// The path of the file, or `-`.
+        file: &'a str,
+    },
     /// Print the requests of a team with their replies.
     Requests {
         /// Where the office is looked at.
@@ -168,8 +184,8 @@ enum ValueFault<'a> {
 ///
 /// The result is a job exactly if clap finds no fault in the words, each word for a number gives one in its range, the
 /// words of a subcommand that looks name a place and something that is shown, the names of remarks are those of kinds,
-/// and two files aren't both standard input, unless memory runs out: it is `Help` only if they request help or the version, and `Usage` only if they have
-/// another fault. The text is clap's, and no clause describes it.
+/// and two files aren't both standard input, unless memory runs out: it is `Help` only if they request help or the
+/// version, and `Usage` only if they have another fault. The text is clap's, and no clause describes it.
 pub fn job_of<'a>(alloc: Global, words: &'a [&'a str]) -> Result<Job<'a>, JobFault>
     ensures job { IfOk result (IsJob (map (λ s. s.now) words.entry.now)) }
     ensures fault { IfErr result (IsJobFault (map (λ s. s.now) words.entry.now)) }
@@ -329,6 +345,9 @@ fn job_in<'a>(alloc: Global, matches: &ArgMatches<'a>) -> Result<Job<'a>, ValueF
     if name == "migrate" {
         return Ok(migrate_job(found));
     }
+    if name == "page" {
+        return page_job(found);
+    }
     if name == "requests" {
         return requests_job(found);
     }
@@ -455,7 +474,7 @@ fn are_absent(database: Option<&str>, port: Option<&str>, number: Option<&str>) 
     }
 }
 
-/// Whether two files are compared: neither a place is given nor the number of a second release.
+/// Whether the words name files: neither a place is given nor the number of a release.
 fn are_files(found: &ArgMatches) -> bool
     ensures { result ≡ are_files (rows_of (found_of found.now)) }
 {
@@ -573,6 +592,27 @@ fn migrate_job<'a>(found: &ArgMatches<'a>) -> Job<'a>
 {
     let database = found.get_str("db").unwrap();
     Job::Migrate { database }
+}
+
+/// `page FILE`, or `page (--db FILE | --port N) NET [N]`
+#[tactic(auto, using(crate::proofs::CommandLine::value_in_rows, crate::proofs::CommandLine::optional_in_rows, crate::proofs::CommandLine::text_is_given))]
+fn page_job<'a>(found: &ArgMatches<'a>) -> Result<Job<'a>, ValueFault<'a>>
+    requires { HasSome (rows_of (found_of found.now)) (codes "NET") }
+    ensures job { IfOk result (λ job. IsJobOf job (codes "page") (rows_of (found_of found.now))) }
+    ensures fault { IfErr result (IsValueFault (codes "page") (rows_of (found_of found.now))) }
+{
+    let net = found.get_str("NET").unwrap();
+    if are_files(found) {
+        return Ok(Job::PageFile { file: net });
+    }
+    let place = match place_given(found.get_str("db"), found.get_str("port")) {
+        Ok(place) => place,
+        Err(fault) => return Err(ValueFault::WrongPlace(LookCommand::Page, fault)),
+    };
+    match page_number(found.get_str("N")) {
+        Ok(number) => Ok(Job::Page { place, net, number }),
+        Err(word) => Err(ValueFault::WrongNumber(Number::PageRelease, word)),
+    }
 }
 
 /// `requests (--db FILE | --port N) TEAM`

@@ -3,10 +3,10 @@ ghost use Rattle.std.specs.Prelude.{◌≡◌, ◌≤◌, Some, None, IfOk, IfEr
 ghost use Rattle.std.specs.Option.{option_map};
 ghost use Rattle.office_views.specs.Word.{length_of};
 ghost use Rattle.canoffice_jobs.specs.Numbers.{count_given, number_given, port_given, port_number, release_number};
-ghost use Rattle.canoffice_jobs.specs.Numbers.{tries_given};
+ghost use Rattle.canoffice_jobs.specs.Numbers.{page_number, tries_given};
 
 use crate::command_line::{
-    chart_command, compare_command, export_command, send_command, serve_command,
+    chart_command, compare_command, export_command, page_command, send_command, serve_command,
 };
 use clap::Command;
 use office_views::{length_of, whole_between};
@@ -41,6 +41,8 @@ pub(crate) enum Number {
     OlderRelease,
     /// The number of the newer of two releases, or 0.
     NewerRelease,
+    /// The number of the release that is on a page, or 0.
+    PageRelease,
     /// The port on which a desk listens.
     Port,
     /// The port to which requests are sent.
@@ -58,6 +60,7 @@ impl Number {
             Number::Length => "<LENGTH>",
             Number::Release | Number::NewerRelease => "<N>",
             Number::OlderRelease => "<M>",
+            Number::PageRelease => "[N]",
             Number::Port | Number::SendPort => "--port <N>",
             Number::Count => "--count <N>",
             Number::Tries => "--tries <N>",
@@ -72,6 +75,7 @@ impl Number {
             Number::OlderRelease | Number::NewerRelease => {
                 compare_command(alloc)?.bin_name("canoffice compare")
             }
+            Number::PageRelease => page_command(alloc)?.bin_name("canoffice page"),
             Number::SendPort | Number::Tries => send_command(alloc)?.bin_name("canoffice send"),
             Number::Port | Number::Count => serve_command(alloc)?.bin_name("canoffice serve"),
         }
@@ -81,7 +85,8 @@ impl Number {
     fn range(self) -> &'static str {
         match self {
             Number::Length => "0..=1785",
-            Number::Release | Number::OlderRelease | Number::NewerRelease => "0..=65535",
+            Number::Release | Number::OlderRelease | Number::NewerRelease | Number::PageRelease =>
+                "0..=65535",
             Number::Port | Number::SendPort => "1..=65535",
             Number::Count => "1..=1000000",
             Number::Tries => "1..=1000",
@@ -108,6 +113,23 @@ pub(crate) fn release_number(word: &str) -> Option<u32>
     ensures { result ≡ release_number word.now }
 {
     whole_between(word.as_bytes(), 0, RELEASE_LIMIT)
+}
+
+/// The number of the release that is on a page, or 0 for the live network, which is there without a word. The error is
+/// a word that gives none.
+pub(crate) fn page_number<'a>(word: Option<&'a str>) -> Result<u32, &'a str>
+    ensures given { IfOk result
+        (λ number. page_number (option_map (λ w. w.now) word.entry) ≡ Some number) }
+    ensures wrong { IfErr result (λ wrong. (option_map (λ w. w.now) word.entry ≡ Some wrong.now)
+        × (release_number wrong.now ≡ None)) }
+{
+    let Some(word) = word else {
+        return Ok(0);
+    };
+    match release_number(word) {
+        Some(number) => Ok(number),
+        None => Err(word),
+    }
 }
 
 /// The port that the word gives: digits, from 1 to 65535.

@@ -3,7 +3,7 @@ ghost use Rattle.std.specs.Prelude.{IfErr, IfOk};
 ghost use Rattle.std.specs.Option.{option_map};
 ghost use Rattle.canoffice_jobs.specs.Place.{IsNoPlace, IsPlace};
 
-use crate::command_line::{compare_command, requests_command, show_command};
+use crate::command_line::{compare_command, page_command, requests_command, show_command};
 use crate::numbers::{Number, port_number};
 use clap::Command;
 use std::alloc::{AllocError, Global};
@@ -22,6 +22,8 @@ pub enum Place<'a> {
 pub(crate) enum LookCommand {
     /// `compare`, of releases.
     Compare,
+    /// `page`, of a network.
+    Page,
     /// `show`.
     Show,
     /// `requests`.
@@ -33,6 +35,7 @@ impl LookCommand {
     pub(crate) fn command<'a>(self, alloc: Global) -> Result<Command<'a>, AllocError> {
         match self {
             LookCommand::Compare => compare_command(alloc)?.bin_name("canoffice compare"),
+            LookCommand::Page => page_command(alloc)?.bin_name("canoffice page"),
             LookCommand::Show => show_command(alloc)?.bin_name("canoffice show"),
             LookCommand::Requests => requests_command(alloc)?.bin_name("canoffice requests"),
         }

@@ -5,7 +5,7 @@ use Rattle.office_types.specs.declared.look.Look.TheVariants as look
 use Rattle.office_types.specs.declared.look.NetLook.TheVariants as of_net
 use Rattle.office_types.specs.declared.sought.Sought.TheVariants as sought
 use Rattle.canoffice_looks.specs.What.{shown_by}
-use Rattle.canoffice_looks.specs.Words.{requests_look, show_look}
+use Rattle.canoffice_looks.specs.Words.{page_look, requests_look, show_look}
 use Rattle.canoffice_looks.specs.declared.what.What.TheVariants as what
 
 -- ---- what is shown
@@ -38,6 +38,10 @@ looks : show_look None what.State None ∷ show_look (Some (codes "truck")) what
     ∷ Some (look.Net (codes "truck") (of_net.Who (sought.Hexadecimal 419364864))) ∷ []
 unfolding is_name
 looks = refl
+
+pages : page_look (codes "truck") 0 ∷ page_look (codes "truck") 2 ∷ page_look (codes "Truck") 2 ∷ []
+    ≡ Some (look.Page (codes "truck")) ∷ Some (look.ReleasePage (codes "truck") 2) ∷ None ∷ []
+pages = refl
 
 -- words that have no such form
 no_looks : show_look (Some (codes "Truck")) what.State None

@@ -1,5 +1,6 @@
--- What the words of `show` and `requests` look up. A word that hasn't the form of what it names looks up nothing.
-use Rattle.std.specs.Prelude.{ℕ, List, Option, Some, None}
+-- What the words of `show`, `page` and `requests` look up. A word that hasn't the form of what it names looks up
+-- nothing.
+use Rattle.std.specs.Prelude.{◌==◌, ℕ, List, Option, Some, None, if◌then◌else◌}
 use Rattle.std.specs.Option.{option_map}
 use Rattle.office_fields.specs.Value.{◌>>=◌, name_of, plain_name_of}
 use Rattle.office_types.specs.Sought.{sought_of}
@@ -46,6 +47,14 @@ net_look what.Who name = who_look name
 abbrev pub show_look : Option (List ℕ) → What → Option (List ℕ) → Option Look
 show_look None what name = Some look.Nets
 show_look (Some word) what name = plain_name_of word >>= λ net. option_map (look.Net net) (net_look what name)
+
+-- the page of release N of a network, or of the live network for 0
+abbrev pub page_requested : List ℕ → ℕ → Look
+page_requested net number = if number == 0 then look.Page net else look.ReleasePage net number
+
+-- the same of the network that a word names
+abbrev pub page_look : List ℕ → ℕ → Option Look
+page_look word number = option_map (λ net. page_requested net number) (plain_name_of word)
 
 -- the requests of the team that a word names
 abbrev pub requests_look : List ℕ → Option Look

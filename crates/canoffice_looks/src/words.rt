@@ -2,7 +2,7 @@
 ghost use Rattle.std.specs.Prelude.{◌≡◌, IfOk};
 ghost use Rattle.std.specs.Option.{option_map};
 ghost use Rattle.canoffice_looks.specs.Words.{blocks_look, message_look, messages_look, net_look, nodes_look};
-ghost use Rattle.canoffice_looks.specs.Words.{requests_look, show_look, who_look};
+ghost use Rattle.canoffice_looks.specs.Words.{page_look, page_requested, requests_look, show_look, who_look};
 
 use crate::what::What;
 use dbc_words::Name;
@@ -108,6 +108,27 @@ pub fn show_look(
     match net_look(alloc, what, name)? {
         Some(look) => Ok(Some(Look::Net(net, look))),
         None => Ok(None),
+    }
+}
+
+/// What `page` looks up: the page of the release of this number of the network that the word names, or for 0 of the
+/// live network. `None` where it names none, as [`requests_look`] says of a team. The error is out of memory.
+pub fn page_look(alloc: Global, net: &str, number: u32) -> Result<Option<Look>, AllocError>
+    ensures { IfOk result (λ look. look ≡ page_look net.now number) }
+{
+    match NetName::of(alloc, net.as_bytes())? {
+        Some(net) => Ok(Some(page_requested(net, number))),
+        None => Ok(None),
+    }
+}
+
+fn page_requested(net: NetName, number: u32) -> Look
+    ensures { result ≡ page_requested net number }
+{
+    if number == 0 {
+        Look::Page(net)
+    } else {
+        Look::ReleasePage(net, number)
     }
 }
 

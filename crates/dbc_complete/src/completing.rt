@@ -98,8 +98,8 @@ fn with_j1939(
     Ok(text)
 }
 
-/// The text of a sheet with what is wanted besides: it reads as the same sheet and as no other. A fault other than out of
-/// memory comes only if the text or the original reads as no sheet, or the text no longer does with the attributes.
+/// The text of a sheet with what is wanted besides: it reads as the same sheet and as no other. A fault other than out
+/// of memory comes only if the text or the original reads as no sheet, or the text no longer does with the attributes.
 pub fn complete(alloc: Global, text: Vec<u8>, besides: Besides) -> Result<Completed, ReadFault>
     ensures made { IfOk result (λ made. IsCompleted (option_map named_text besides.entry.original)
         besides.entry.j1939 text.items made.text.items made.left_out.items) }

@@ -145,9 +145,9 @@ fn with_statements(
 }
 
 /// The text of the sheet with the attributes by which other tools take its 29-bit messages as messages of SAE J1939:
-/// `ProtocolType` and `VFrameFormat`, each unless a statement that was skipped of `text` defines it. What was skipped of
-/// `text` stays as in [`text_with_staying`]. A fault other than out of memory comes only if the text reads as no sheet,
-/// or no longer with these statements before it.
+/// `ProtocolType` and `VFrameFormat`, each unless a statement that was skipped of `text` defines it. What was skipped
+/// of `text` stays as in [`text_with_staying`]. A fault other than out of memory comes only if the text reads as no
+/// sheet, or no longer with these statements before it.
 pub fn text_with_j1939(alloc: Global, text: &[u8], sheet: &Sheet) -> Result<Vec<u8>, ReadFault>
     ensures reads { IfOk result (λ made. ReadsOnlyAs made.items sheet.now) }
     ensures stay { IfOk result (λ made. KeepsJ1939 text.now made.items sheet.now) }

@@ -93,8 +93,8 @@ fn comment_part(
     Ok(())
 }
 
-/// The definitions of attributes, and their defaults. Those of the attribute with suspect parameter numbers are added if
-/// the sheet has such numbers, unless they are there.
+/// The definitions of attributes, and their defaults. Those of the attribute with suspect parameter numbers are added
+/// if the sheet has such numbers, unless they are there.
 fn declaration_part(
     text: &mut Vec<u8>,
     source: &[u8],
@@ -149,7 +149,8 @@ fn default_if_needed(
     spn_default(text)
 }
 
-/// The values of attributes, and after them the suspect parameter numbers, so that these win where a tool takes the last.
+/// The values of attributes, and after them the suspect parameter numbers, so that these win where a tool takes the
+/// last.
 fn attribute_part(
     text: &mut Vec<u8>,
     source: &[u8],
@@ -219,8 +220,8 @@ pub(crate) fn lines(
     Ok(())
 }
 
-/// The canonical text of the reading's sheet, and in it the statements of the source that were skipped: each verbatim, on
-/// a line of its own, at its place. It reads as this sheet and as no other; its skipped statements are those of the
+/// The canonical text of the reading's sheet, and in it the statements of the source that were skipped: each verbatim,
+/// on a line of its own, at its place. It reads as this sheet and as no other; its skipped statements are those of the
 /// source; and it is its own kept text. If none was skipped, it is the canonical text. The only error is out of memory.
 pub fn kept_text_of(alloc: Global, source: &[u8], reading: &Reading) -> Result<Vec<u8>, AllocError>
     requires { ReadsAs source.now reading.now.sheet (map start_and_keyword reading.now.passed) }

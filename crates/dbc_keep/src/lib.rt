@@ -1,18 +1,18 @@
 //! The canonical text of a sheet with the statements that the reader skips.
 //!
-//! [`kept_text_of`] writes the text of a reading's sheet, and in it each statement that was skipped: verbatim, on a line
-//! of its own, at the place that Vector's order of statements gives to its keyword. `dbc_keep_law` defines that text
-//! (`specs/Kept.antt`) and has its laws: it reads as the same sheet, its skipped statements are those of the source, and
-//! it is its own kept text.
+//! [`kept_text_of`] writes the text of a reading's sheet, and in it each statement that was skipped: verbatim, on a
+//! line of its own, at the place that Vector's order of statements gives to its keyword. `dbc_keep_law` defines that
+//! text (`specs/Kept.antt`) and has its laws: it reads as the same sheet, its skipped statements are those of the
+//! source, and it is its own kept text.
 //!
 //! A reading has the offset and the keyword of each statement that was skipped. Its bytes are found again from there
-//! (`passages`): they end with the first `;`, or, after `BO_`, before the next statement. The parts of the canonical text
-//! (`dbc_write`) and the statements of one place after the other (`places`) are appended to one buffer (`kept`).
+//! (`passages`): they end with the first `;`, or, after `BO_`, before the next statement. The parts of the canonical
+//! text (`dbc_write`) and the statements of one place after the other (`places`) are appended to one buffer (`kept`).
 //!
 //! [`text_with_staying`] does the same for another sheet, as a release of the network that the source describes. Of the
-//! statements that were skipped, those stay that cite only what the sheet has (`staying`, `citing`, `words`); the others
-//! are listed with why. [`text_with_j1939`] adds to such a text the attributes by which other tools take its messages as
-//! those of SAE J1939 (`j1939`).
+//! statements that were skipped, those stay that cite only what the sheet has (`staying`, `citing`, `words`); the
+//! others are listed with why. [`text_with_j1939`] adds to such a text the attributes by which other tools take its
+//! messages as those of SAE J1939 (`j1939`).
 #![tactic(auto)]
 
 mod citing;

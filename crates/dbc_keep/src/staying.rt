@@ -163,9 +163,9 @@ fn sort_out(
     Ok((stay, others))
 }
 
-/// The canonical text of a sheet, and in it the statements that the reader skipped of another source: those that cite only
-/// what the sheet has, and say nothing of it. The others are listed, in the source's order. The text reads as the sheet
-/// and as no other. The only error is out of memory.
+/// The canonical text of a sheet, and in it the statements that the reader skipped of another source: those that cite
+/// only what the sheet has, and say nothing of it. The others are listed, in the source's order. The text reads as the
+/// sheet and as no other. The only error is out of memory.
 pub fn text_with_staying(
     alloc: Global,
     source: &[u8],

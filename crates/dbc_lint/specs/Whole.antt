@@ -15,8 +15,8 @@ use Rattle.dbc_lint.specs.declared.spn_places.FirstPlaces.{FirstPlaces}
 abbrev pub text_of : Bor (List ℕ) → List ℕ
 text_of name = name.now
 
--- the names of its nodes, those of nodes that send or receive, the first places of its suspect parameter numbers, and how
--- many messages have more than 8 bytes
+-- the names of its nodes, those of nodes that send or receive, the first places of its suspect parameter numbers, and
+-- how many messages have more than 8 bytes
 pub record IsOfSheet (sheet : Sheet) (named met : NameSet) (firsts : FirstPlaces) (count : ℕ) : Type 0 where
   pub nodes : HasNamesOf node_name sheet.nodes named
   pub used : (n : List ℕ) → holds_name met n ≡ has_text (names_used sheet.messages) n

@@ -14,12 +14,13 @@ use sqlite::Alter;
 use std::alloc::{AllocError, Global};
 use store::StoredOffice;
 
-/// What the text of a look is: DBC text, or lines.
+/// What the text of a look is: DBC text, a page, or lines.
 fn body_kind_of(look: &Look) -> BodyKind
     ensures { result ≡ body_kind_of look.now }
 {
     match look {
         Look::Live(_) | Look::Release(_, _) => BodyKind::Bytes,
+        Look::Page(_) | Look::ReleasePage(_, _) => BodyKind::Html,
         _ => BodyKind::Plain,
     }
 }

@@ -4,10 +4,10 @@
 //! status, the team and the key, each `-` where it isn't known, and why. [`why`] says that of the bytes that were read,
 //! by the first of the desk's tests that fails, in the order of `call_of` (`desk_call/specs/Call.antt`): `heads` of a
 //! head and of what it demands, `looks` of a target that shows nothing, `senders` of the team and the key, `bodies`,
-//! `members` and `bundles` of the body. `refused` says what a response refuses, and `reasons` why, by what is read of the
-//! office. [`NoteLines`] writes each line by one
-//! write. No line has anything of a body but the names of members, and what isn't printable ASCII is written as a
-//! question mark, or in a target by its digits. Nothing that decides loads this crate.
+//! `members` and `bundles` of the body. `refused` says what a response refuses, and `reasons` why, by what is read of
+//! the office. [`NoteLines`] writes each line by one write. No line has anything of a body but the names of members,
+//! and what isn't printable ASCII is written as a question mark, or in a target by its digits. Nothing that decides
+//! loads this crate.
 #![tactic(auto)]
 
 mod bodies;

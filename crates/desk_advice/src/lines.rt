@@ -131,8 +131,8 @@ fn front_of(alloc: Global, routes: &Routes, exchange: &Exchange) -> Result<Strin
     }
 }
 
-/// The line of an exchange, or `None` where nothing was answered, or by 200: `METHOD TARGET STATUS TEAM KEY: REASON`, by
-/// what was wanted of the office, if that could be read. The error is out of memory.
+/// The line of an exchange, or `None` where nothing was answered, or by 200: `METHOD TARGET STATUS TEAM KEY: REASON`,
+/// by what was wanted of the office, if that could be read. The error is out of memory.
 pub fn line_of(
     alloc: Global,
     routes: &Routes,

@@ -29,7 +29,7 @@ enum Second {
 /// What the second parameter of the target is.
 fn second_of(showing: Showing) -> Second {
     match showing {
-        Showing::Release => Second::Release,
+        Showing::Release | Showing::ReleasePage => Second::Release,
         Showing::Compare => Second::Releases,
         Showing::Chart | Showing::Message => Second::Message,
         Showing::Node => Second::Node,

@@ -209,8 +209,8 @@ fn member_wrong(
     Ok(None)
 }
 
-/// Why the object gives no command of the kind, if it gives none: a member that is wrong by itself, else what a script's
-/// line with such values is wrong for.
+/// Why the object gives no command of the kind, if it gives none: a member that is wrong by itself, else what a
+/// script's line with such values is wrong for.
 pub(crate) fn object_wrong(
     alloc: Global,
     command: LineCommand,

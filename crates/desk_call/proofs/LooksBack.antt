@@ -156,6 +156,14 @@ reads_back (look.Chart net message) is can =
     )
     refl
 reads_back (look.Net net l) is can = net_back net is.0 l is.1 can
+reads_back (look.Page net) is can = rw (net_before net (codes "page") is) refl
+reads_back (look.ReleasePage net n) is can =
+    rw (
+      net_before net (codes "releases/" ++ (decimal n ++ codes "/page")) is.0,
+      between_words net (codes "releases") (decimal n) (codes "page") is.0 releases (decimal_part n is.1),
+      release_back n is.1 can,
+    )
+    refl
 reads_back (look.Requests team) is can =
     rw (first_alone (codes "requests") team requests (plain_part team is), is) refl
 

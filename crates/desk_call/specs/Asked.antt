@@ -28,6 +28,7 @@ CanBeAskedOfNet l = ⊤
 -- a release is one from 1 to the greatest
 abbrev pub CanBeAsked : Look → Type 0
 CanBeAsked (look.Release net n) = (1 ≤ n) × (n ≤ release_limit)
+CanBeAsked (look.ReleasePage net n) = (1 ≤ n) × (n ≤ release_limit)
 CanBeAsked (look.Net net l) = CanBeAskedOfNet l
 CanBeAsked l = ⊤
 

@@ -65,6 +65,10 @@ abbrev pub release_in : List ℕ → Option Look
 release_in target = net_in target >>= λ net. release_number (second_parameter target)
     >>= λ n. Some (look.Release net n)
 
+abbrev pub release_page_in : List ℕ → Option Look
+release_page_in target = net_in target >>= λ net. release_number (second_parameter target)
+    >>= λ n. Some (look.ReleasePage net n)
+
 abbrev pub chart_in : List ℕ → Option Look
 chart_in target = net_in target >>= λ net. name_of (second_parameter target)
     >>= λ message. Some (look.Chart net message)
@@ -117,6 +121,8 @@ look_of showing.Message target = message_in target
 look_of showing.Node target = node_in target
 look_of showing.Who target = who_in target
 look_of showing.Compare target = compare_in target
+look_of showing.Page target = option_map look.Page (net_in target)
+look_of showing.ReleasePage target = release_page_in target
 look_of showing.TeamBlocks target = team_blocks_in target
 look_of showing.TeamMessages target = team_messages_in target
 look_of showing.Requests target = requests_in target

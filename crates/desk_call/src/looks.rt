@@ -1,7 +1,8 @@
 //! What targets show.
 ghost use Rattle.office_fields.specs.Reading.{ReadsField};
 ghost use Rattle.desk_call.specs.Call.{chart_in, compare_in, look_of, message_in, net_look_in, node_in, release_in};
-ghost use Rattle.desk_call.specs.Call.{requests_in, team_blocks_in, team_in, team_messages_in, who_in};
+ghost use Rattle.desk_call.specs.Call.{release_page_in, requests_in, team_blocks_in, team_in, team_messages_in};
+ghost use Rattle.desk_call.specs.Call.{who_in};
 
 use crate::values::{name_of, net_in, number_of, release_number, sought_of};
 use desk_head::{Showing, first_parameter, second_parameter, third_parameter};
@@ -15,6 +16,14 @@ fn release_in(alloc: Global, target: &[u8]) -> Result<Look, Unread>
     let net = net_in(alloc, target)?;
     let number = release_number(second_parameter(target))?;
     Ok(Look::Release(net, number))
+}
+
+fn release_page_in(alloc: Global, target: &[u8]) -> Result<Look, Unread>
+    ensures { ReadsField (release_page_in target.now) result }
+{
+    let net = net_in(alloc, target)?;
+    let number = release_number(second_parameter(target))?;
+    Ok(Look::ReleasePage(net, number))
 }
 
 fn chart_in(alloc: Global, target: &[u8]) -> Result<Look, Unread>
@@ -109,6 +118,8 @@ pub(crate) fn look_of(alloc: Global, showing: Showing, target: &[u8]) -> Result<
         Showing::Node => node_in(alloc, target),
         Showing::Who => who_in(alloc, target),
         Showing::Compare => compare_in(alloc, target),
+        Showing::Page => Ok(Look::Page(net_in(alloc, target)?)),
+        Showing::ReleasePage => release_page_in(alloc, target),
         Showing::TeamBlocks => team_blocks_in(alloc, target),
         Showing::TeamMessages => team_messages_in(alloc, target),
         Showing::Requests => requests_in(alloc, target),

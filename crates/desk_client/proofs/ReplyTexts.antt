@@ -9,7 +9,7 @@ use Rattle.std.proofs.lemmas.List.Elements.{All-cons, All-head, All-nil, All-wea
 use Rattle.std.proofs.lemmas.List.Sums.{AllPass-from_list_all}
 use Rattle.std.proofs.Math.Seq.{take-length}
 use Rattle.std.specs.Char.{digit_value, is_ascii_digit}
-use Rattle.std.specs.List.{list_all}
+use Rattle.std.specs.List.{All, list_all}
 use Rattle.std.specs.Str.Parse.{AllDigits, digits_value}
 use Rattle.httparse.specs.Grammar.{AllPass, Field, IsField, IsResponseHead, ResponseHead, crlf, is_ows, is_token_byte}
 use Rattle.httparse.specs.Grammar.{is_value_byte, print_response, skip_ows, trim_ows}
@@ -18,9 +18,9 @@ use Rattle.httparse.proofs.TrimLemmas.{AllPass-reverse, trim_ows_space}
 use Rattle.base.specs.WholeNumber.{whole_of}
 use Rattle.base.proofs.WholeNumbers.{whole_of-is}
 use Rattle.desk_head.specs.Fields.{named}
-use Rattle.desk_reply.specs.Response.{content_type, header_lines, phrase_of, response, status_line}
+use Rattle.desk_reply.specs.Response.{content_type, header_lines, phrase_of, policy_line, response, status_line}
 use Rattle.desk_reply.specs.declared.responses.BodyKind.{BodyKind}
-use Rattle.desk_reply.specs.declared.responses.BodyKind.TheVariants.{Json, Plain, Bytes}
+use Rattle.desk_reply.specs.declared.responses.BodyKind.TheVariants.{Json, Plain, Bytes, Html}
 use Rattle.desk_client.specs.Limits.{response_limit}
 use Rattle.desk_client.specs.Received.{body_length, received_by, received_of, status_of, whole}
 use Rattle.desk_client.specs.Replies.{ComesBack}
@@ -68,10 +68,20 @@ number n small =
 
 -- ---- the head
 
+-- the fields after the kind of the body, and after its policy if it has one
+abbrev last_fields : ℕ → List Field
+last_fields size =
+    header (codes "Content-Length") (32 ∷ decimal size) ∷ header (codes "Connection") (codes " close") ∷ []
+
+abbrev policy : List ℕ
+policy = codes " default-src 'none';style-src 'unsafe-inline'"
+
+abbrev later_fields : BodyKind → ℕ → List Field
+later_fields Html size = header (codes "Content-Security-Policy") policy ∷ last_fields size
+later_fields kind size = last_fields size
+
 abbrev reply_fields : BodyKind → ℕ → List Field
-reply_fields kind size =
-    header (codes "Content-Type") (32 ∷ content_type kind) ∷ header (codes "Content-Length") (32 ∷ decimal size)
-    ∷ header (codes "Connection") (codes " close") ∷ []
+reply_fields kind size = header (codes "Content-Type") (32 ∷ content_type kind) ∷ later_fields kind size
 
 abbrev reply_head : ℕ → List ℕ → BodyKind → ℕ → ResponseHead
 reply_head status phrase kind size = record {
@@ -89,12 +99,32 @@ regroup : (v d s p e t k l z n body : List ℕ)
     ≡ ((((v ++ d) ++ (s ++ p)) ++ e) ++ ((((t ++ k) ++ e) ++ (((l ++ z) ++ e) ++ ((n ++ e) ++ []))) ++ e)) ++ body
 regroup v d s p e t k l z n body = simp (append_assoc, append-nil)
 
+-- the same with a policy
+regroup_page : (v d s p e t k q l z n body : List ℕ)
+    → ((v ++ (d ++ (s ++ (p ++ e)))) ++ (t ++ (k ++ (e ++ ((q ++ e) ++ (l ++ (z ++ (e ++ (n ++ (e ++ e)))))))))) ++ body
+    ≡ ((((v ++ d) ++ (s ++ p)) ++ e)
+    ++ ((((t ++ k) ++ e) ++ ((q ++ e) ++ (((l ++ z) ++ e) ++ ((n ++ e) ++ [])))) ++ e)) ++ body
+regroup_page v d s p e t k q l z n body = simp (append_assoc, append-nil)
+
+text_with : (status : ℕ) (kind : BodyKind) (body : List ℕ) → policy_line kind ≡ [] → later_fields kind (length body)
+    ≡ last_fields (length body)
+    → response status kind body ≡ print_response (reply_head status (phrase_of status) kind (length body)) ++ body
+unfolding status_line header_lines print_response
+text_with status kind body none last = rw (none, last)
+    (regroup (codes "HTTP/1.1 ") (decimal status) (codes " ") (phrase_of status) (codes "\r\n") (codes "Content-Type: ")
+    (content_type kind) (codes "Content-Length: ") (decimal (length body)) (codes "Connection: close") body)
+
 text_is : (status : ℕ) (kind : BodyKind) (body : List ℕ)
     → response status kind body ≡ print_response (reply_head status (phrase_of status) kind (length body)) ++ body
 unfolding status_line header_lines print_response
-text_is status kind body =
-    regroup (codes "HTTP/1.1 ") (decimal status) (codes " ") (phrase_of status) (codes "\r\n") (codes "Content-Type: ")
-    (content_type kind) (codes "Content-Length: ") (decimal (length body)) (codes "Connection: close") body
+text_is status Json body = text_with status Json body refl refl
+text_is status Plain body = text_with status Plain body refl refl
+text_is status Bytes body = text_with status Bytes body refl refl
+text_is status Html body =
+    regroup_page (codes "HTTP/1.1 ") (decimal status) (codes " ") (phrase_of status) (codes "\r\n")
+    (codes "Content-Type: ") (content_type Html)
+    (codes "Content-Security-Policy: default-src 'none';style-src 'unsafe-inline'") (codes "Content-Length: ")
+    (decimal (length body)) (codes "Connection: close") body
 
 passes : (test : ℕ → Bool) (bytes : List ℕ) → list_all test bytes ≡ true → AllPass test bytes
 passes test bytes h = AllPass-from_list_all test bytes h
@@ -103,12 +133,19 @@ kind_passes : (kind : BodyKind) → AllPass is_value_byte (32 ∷ content_type k
 kind_passes Json = passes is_value_byte (codes " application/json") refl
 kind_passes Plain = passes is_value_byte (codes " text/plain") refl
 kind_passes Bytes = passes is_value_byte (codes " application/octet-stream") refl
+kind_passes Html = passes is_value_byte (codes " text/html; charset=us-ascii") refl
 
 kind_field : (kind : BodyKind) → IsField (header (codes "Content-Type") (32 ∷ content_type kind))
 unfolding is_token_byte
 kind_field kind =
     is_field (codes "Content-Type") (32 ∷ content_type kind) (omega arith)
     (passes is_token_byte (codes "Content-Type") refl) (kind_passes kind)
+
+policy_field : IsField (header (codes "Content-Security-Policy") policy)
+unfolding is_token_byte
+policy_field =
+    is_field (codes "Content-Security-Policy") policy (omega arith)
+    (passes is_token_byte (codes "Content-Security-Policy") refl) (passes is_value_byte policy refl)
 
 size_field : (n : ℕ) → Number n → IsField (header (codes "Content-Length") (32 ∷ decimal n))
 unfolding is_token_byte
@@ -132,25 +169,37 @@ pub record IsReplyStatus (status : ℕ) : Type 0 where
   pub code : digits_value 10 (decimal status) ≡ status
   pub phrase : AllPass is_value_byte (phrase_of status)
 
+last_are : (n : ℕ) → Number n → All IsField (last_fields n)
+last_are n size =
+    All-cons IsField (header (codes "Content-Length") (32 ∷ decimal n))
+    (header (codes "Connection") (codes " close") ∷ []) (size_field n size)
+    (All-cons IsField (header (codes "Connection") (codes " close")) [] close_field (All-nil IsField))
+
+later_are : (kind : BodyKind) (n : ℕ) → Number n → All IsField (later_fields kind n)
+later_are Html n size =
+    All-cons IsField (header (codes "Content-Security-Policy") policy) (last_fields n) policy_field (last_are n size)
+later_are Json n size = last_are n size
+later_are Plain n size = last_are n size
+later_are Bytes n size = last_are n size
+
 head_is : (status : ℕ) (kind : BodyKind) (n : ℕ) → IsReplyStatus status → Number n
     → IsResponseHead (reply_head status (phrase_of status) kind n)
 head_is status kind n of size = record {
   minor = omega arith;
   digits = (of.three, (number status of.small).digits);
   reason = of.phrase;
-  fields = All-cons IsField (header (codes "Content-Type") (32 ∷ content_type kind))
-      (header (codes "Content-Length") (32 ∷ decimal n) ∷ header (codes "Connection") (codes " close") ∷ [])
-      (kind_field kind)
-      (All-cons IsField (header (codes "Content-Length") (32 ∷ decimal n))
-      (header (codes "Connection") (codes " close") ∷ []) (size_field n size)
-      (All-cons IsField (header (codes "Connection") (codes " close")) [] close_field (All-nil IsField)));
+  fields = All-cons IsField (header (codes "Content-Type") (32 ∷ content_type kind)) (later_fields kind n)
+      (kind_field kind) (later_are kind n size);
 }
 
 -- ---- what is received
 
 length_is : (kind : BodyKind) (n : ℕ) → Number n → body_length (map name_and_value (reply_fields kind n)) ≡ Some n
 unfolding body_length named
-length_is kind n of = ap whole_of of.trimmed ∙ of.value
+length_is Json n of = ap whole_of of.trimmed ∙ of.value
+length_is Plain n of = ap whole_of of.trimmed ∙ of.value
+length_is Bytes n of = ap whole_of of.trimmed ∙ of.value
+length_is Html n of = ap whole_of of.trimmed ∙ of.value
 
 whole_body : (code : ℕ) (body : List ℕ) → received_by (Some (length body)) code body ≡ whole (status_of code) body
 whole_body code body =
@@ -163,6 +212,12 @@ received_is status kind body of size =
     ap (λ o. received_by o (digits_value 10 (decimal status)) body) (length_is kind (length body) size)
     ∙ whole_body (digits_value 10 (decimal status)) body ∙ ap (λ c. whole (status_of c) body) of.code
 
+few_fields : (kind : BodyKind) (n : ℕ) → length (later_fields kind n) ≤ 3
+few_fields Html n = omega arith
+few_fields Json n = omega arith
+few_fields Plain n = omega arith
+few_fields Bytes n = omega arith
+
 body_fits : (front body : List ℕ) → length (front ++ body) ≤ response_limit → length body < 2 ^ 32
 body_fits front body fits = omega (arith, length-append front body)
 
@@ -172,13 +227,14 @@ comes_back status kind body of fits =
     let head = reply_head status (phrase_of status) kind (length body) in
     let size : Number (length body) =
     number (length body) (body_fits (status_line status (phrase_of status)
-    ++ header_lines (content_type kind) (length body)) body fits) in
+    ++ header_lines (content_type kind) (policy_line kind) (length body)) body fits) in
+    let few = few_fields kind (length body) in
     inr (
       fits,
       inl (
         head,
         body,
-        ((head_is status kind (length body) of size, text_is status kind body), omega arith),
+        ((head_is status kind (length body) of size, text_is status kind body), omega (arith, few)),
         sym (received_is status kind body of size),
       ),
     )

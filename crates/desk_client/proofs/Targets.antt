@@ -118,5 +118,10 @@ can_be_asked (look.Chart net message) is =
     in_a_net net (codes "/messages/" ++ message) is.0
     (after (codes "/messages/") message messages (name_part message is.1))
 can_be_asked (look.Net net l) is = in_a_net net (part_of l) is.0 (part_fits l is.1)
+can_be_asked (look.Page net) is = in_a_net net (codes "/page") is (alone (codes "/page") (omega arith) refl)
+can_be_asked (look.ReleasePage net n) is =
+    in_a_net net (codes "/releases/" ++ (decimal n ++ codes "/page")) is.0
+    (between (codes "/releases/") (decimal n) (codes "/page") (a_word (codes "/releases/") (omega arith) refl)
+    (decimal_part n is.1) (a_word (codes "/page") (omega arith) refl))
 can_be_asked (look.Requests team) is =
     of_one (codes "requests/") team (a_word (codes "/requests/") (omega arith) refl) (plain_part team is)

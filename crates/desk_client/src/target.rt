@@ -91,6 +91,11 @@ fn text_of(alloc: Global, look: &Look) -> Result<Vec<u8>, AllocError>
             net_target(alloc, net.as_bytes(), &part)
         }
         Look::Net(net, look) => net_target(alloc, net.as_bytes(), &part_of(alloc, look)?),
+        Look::Page(net) => net_target(alloc, net.as_bytes(), b"/page"),
+        Look::ReleasePage(net, number) => {
+            let part = format!(in alloc; "/releases/{number}/page")?;
+            net_target(alloc, net.as_bytes(), part.as_bytes())
+        }
         Look::Requests(team) => joined(alloc, b"/requests/", team.as_bytes()),
     }
 }
@@ -147,10 +152,10 @@ fn is_look(look: &Look)
 {
     match look {
         Look::Nets => {}
-        Look::Table(net) | Look::Live(net) => {
+        Look::Table(net) | Look::Live(net) | Look::Page(net) => {
             net.as_bytes();
         }
-        Look::Release(net, number) => {
+        Look::Release(net, number) | Look::ReleasePage(net, number) => {
             net.as_bytes();
             is_small(*number);
         }

@@ -95,6 +95,10 @@ live_ends : EndsNet shown.Live (codes "/live")
 unfolding the_routes with_route matchit_on_literals
 live_ends = refl
 
+page_ends : EndsNet shown.Page (codes "/page")
+unfolding the_routes with_route matchit_on_literals
+page_ends = refl
+
 state_ends : EndsNet shown.State (codes "/state")
 unfolding the_routes with_route matchit_on_literals
 state_ends = refl
@@ -214,6 +218,10 @@ compare_end : EndsAs shown.Compare (step param_token (after_part (codes "/compar
 unfolding the_routes with_route matchit_on_literals
 compare_end = refl
 
+releases_go_on : some_slash (step param_token (after_word (codes "/releases/"))) ≡ true
+unfolding the_routes with_route matchit_on_literals
+releases_go_on = refl
+
 messages_go_on : some_slash (step param_token (after_word (codes "/messages/"))) ≡ true
 unfolding the_routes with_route matchit_on_literals
 messages_go_on = refl
@@ -229,6 +237,10 @@ compare_go_on = refl
 signals_end : EndsAs shown.Message (steps (codes "/signals") (after_slash (after_word (codes "/messages/"))))
 unfolding the_routes with_route matchit_on_literals
 signals_end = refl
+
+release_page_end : EndsAs shown.ReleasePage (steps (codes "/page") (after_slash (after_word (codes "/releases/"))))
+unfolding the_routes with_route matchit_on_literals
+release_page_end = refl
 
 team_blocks_end : EndsAs shown.TeamBlocks (steps (codes "/blocks") (after_slash (after_word (codes "/teams/"))))
 unfolding the_routes with_route matchit_on_literals
@@ -310,4 +322,8 @@ targets_lead_there (look.Release net n) is =
 targets_lead_there (look.Chart net message) is =
     a_thing shown.Chart net (codes "messages/") message is.0 (name_part message is.1) messages_branch messages_end
 targets_lead_there (look.Net net l) is = in_a_net net is.0 l is.1
+targets_lead_there (look.Page net) is = ends_net shown.Page net (codes "page") is page_ends
+targets_lead_there (look.ReleasePage net n) is =
+    more_of_it shown.ReleasePage net (codes "releases/") (decimal n) (codes "page") is.0 (decimal_part n is.1)
+    releases_branch releases_go_on release_page_end
 targets_lead_there (look.Requests team) is = of_a_team team is

@@ -96,6 +96,15 @@ compared : endpoint_of (codes "/nets/truck/compare/1/0") ≡ Some (Shows showing
 unfolding digits
 compared = targets_lead_there (look.Net (codes "truck") (of_net.Compare 1 0)) (refl, (omega arith, omega arith))
 
+page_of_a_network : map endpoint_of (codes "/nets/truck/page" ∷ codes "/nets/page" ∷ codes "/nets/page/page" ∷ [])
+    ≡ Some (Shows showing.Page) ∷ Some (Shows showing.Table) ∷ Some (Shows showing.Page) ∷ []
+unfolding endpoint_of the_routes with_route matchit_on_literals
+page_of_a_network = refl
+
+page_of_a_release : endpoint_of (codes "/nets/truck/releases/1/page") ≡ Some (Shows showing.ReleasePage)
+unfolding digits
+page_of_a_release = targets_lead_there (look.ReleasePage (codes "truck") 1) (refl, omega arith)
+
 -- no parameter has a slash
 longer : map endpoint_of (codes "/import/a/b" ∷ codes "/nets/a/b" ∷ []) ≡ None ∷ None ∷ []
 unfolding endpoint_of the_routes with_route matchit_on_literals
@@ -115,11 +124,13 @@ targets : map target_of (look.Nets ∷ look.Release (codes "truck") 12 ∷ look.
     ∷ look.Net (codes "truck") (of_net.Message (codes "E1"))
     ∷ look.Net (codes "truck") (of_net.Who (sought.Hexadecimal 419364864))
     ∷ look.Net (codes "truck") (of_net.Who (sought.Group 65300))
-    ∷ look.Net (codes "truck") (of_net.Compare 12 0) ∷ look.Requests (codes "engine") ∷ [])
+    ∷ look.Net (codes "truck") (of_net.Compare 12 0) ∷ look.Page (codes "truck")
+    ∷ look.ReleasePage (codes "truck") 12 ∷ look.Requests (codes "engine") ∷ [])
     ≡ codes "/nets" ∷ codes "/nets/truck/releases/12" ∷ codes "/nets/truck/state"
     ∷ codes "/nets/truck/teams/engine/blocks" ∷ codes "/nets/truck/messages/E1/signals"
     ∷ codes "/nets/truck/who/0x18ff0000" ∷ codes "/nets/truck/who/pgn=65300"
-    ∷ codes "/nets/truck/compare/12/0" ∷ codes "/requests/engine" ∷ []
+    ∷ codes "/nets/truck/compare/12/0" ∷ codes "/nets/truck/page" ∷ codes "/nets/truck/releases/12/page"
+    ∷ codes "/requests/engine" ∷ []
 unfolding digits
 targets = refl
 

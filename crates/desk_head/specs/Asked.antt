@@ -55,6 +55,8 @@ target_of (look.Live net) = net_target net (codes "/live")
 target_of (look.Release net n) = net_target net (codes "/releases/" ++ decimal n)
 target_of (look.Chart net message) = net_target net (codes "/messages/" ++ message)
 target_of (look.Net net l) = net_target net (part_of l)
+target_of (look.Page net) = net_target net (codes "/page")
+target_of (look.ReleasePage net n) = net_target net (codes "/releases/" ++ (decimal n ++ codes "/page"))
 target_of (look.Requests team) = codes "/requests/" ++ team
 
 -- ---- what is there
@@ -82,6 +84,8 @@ showing_of (look.Live net) = shown.Live
 showing_of (look.Release net n) = shown.Release
 showing_of (look.Chart net message) = shown.Chart
 showing_of (look.Net net l) = net_showing l
+showing_of (look.Page net) = shown.Page
+showing_of (look.ReleasePage net n) = shown.ReleasePage
 showing_of (look.Requests team) = shown.Requests
 
 -- ---- looks, as their types keep them: names are names, and numbers have 32 bits
@@ -113,6 +117,8 @@ IsLook (look.Live net) = IsPlainName net
 IsLook (look.Release net n) = IsPlainName net × (n < 2 ^ 32)
 IsLook (look.Chart net message) = IsPlainName net × IsName message
 IsLook (look.Net net l) = IsPlainName net × IsNetLook l
+IsLook (look.Page net) = IsPlainName net
+IsLook (look.ReleasePage net n) = IsPlainName net × (n < 2 ^ 32)
 IsLook (look.Requests team) = IsPlainName team
 
 -- a law: what is at the target of a look shows it

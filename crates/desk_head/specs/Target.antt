@@ -85,12 +85,18 @@ with_things rows =
     (with_route (codes "/nets/{net}/nodes/{node}") (route.Shows shown.Node)
     (with_route (codes "/nets/{net}/messages/{message}/signals") (route.Shows shown.Message) rows)))))
 
+-- the pages of a network and of its releases
+abbrev pub with_pages : RowsOf (RouteOf Route) → RowsOf (RouteOf Route)
+with_pages rows =
+    with_route (codes "/nets/{net}/releases/{n}/page") (route.Shows shown.ReleasePage)
+    (with_route (codes "/nets/{net}/page") (route.Shows shown.Page) rows)
+
 -- all routes; a parameter is one or more bytes other than a slash
 unfoldable pub the_routes : RowsOf (RouteOf Route)
 the_routes =
     with_route (codes "/requests/{team}") (route.Shows shown.Requests)
-    (with_things (with_parts (with_sheets (with_route (codes "/bundle/{net}") route.Bundle
-    (with_route (codes "/import/{net}") route.Import (with_route (codes "/do/{command}") route.Do []))))))
+    (with_pages (with_things (with_parts (with_sheets (with_route (codes "/bundle/{net}") route.Bundle
+    (with_route (codes "/import/{net}") route.Import (with_route (codes "/do/{command}") route.Do [])))))))
 
 -- the route that the whole target matches
 abbrev pub route_of : List ℕ → Option Route

@@ -40,6 +40,10 @@ pub enum Showing {
     TeamMessages,
     /// `/nets/{net}/compare/{m}/{n}`: what changed from one release to another, or to the live sheet.
     Compare,
+    /// `/nets/{net}/page`: the live network on one page.
+    Page,
+    /// `/nets/{net}/releases/{n}/page`: a release on one page.
+    ReleasePage,
     /// `/requests/{team}`: the requests of a team.
     Requests,
 }

@@ -2,7 +2,7 @@
 ghost use Rattle.std.specs.Prelude.{◌≡◌, IfOk, OnOk, IsUtf8};
 ghost use Rattle.desk_head.specs.Target.{done_by, endpoint_at, endpoint_of, route_of};
 ghost use Rattle.desk_head.specs.Target.{the_routes, with_parts, with_route};
-ghost use Rattle.desk_head.specs.Target.{with_sheets, with_things};
+ghost use Rattle.desk_head.specs.Target.{with_pages, with_sheets, with_things};
 
 use crate::endpoint::{Endpoint, Posting, Showing};
 use crate::parts::first_parameter;
@@ -96,6 +96,19 @@ fn add_things(router: &mut Router<Route>) -> Result<(), InsertError>
     Ok(())
 }
 
+/// Adds the routes of the pages of a network and of its releases.
+fn add_pages(router: &mut Router<Route>) -> Result<(), InsertError>
+    ensures { OnOk result (router.new ≡ with_pages router.old) }
+{
+    show(router, "/nets/{net}/page", Showing::Page)?;
+    show(
+        router,
+        "/nets/{net}/releases/{n}/page",
+        Showing::ReleasePage,
+    )?;
+    Ok(())
+}
+
 /// The router of all routes.
 #[tactic(auto, unfolding(crate::specs::Target::the_routes))]
 fn router(alloc: Global) -> Result<Router<Route>, InsertError>
@@ -108,6 +121,7 @@ fn router(alloc: Global) -> Result<Router<Route>, InsertError>
     add_sheets(&mut router)?;
     add_parts(&mut router)?;
     add_things(&mut router)?;
+    add_pages(&mut router)?;
     show(&mut router, "/requests/{team}", Showing::Requests)?;
     Ok(router)
 }

@@ -10,7 +10,7 @@ use Rattle.desk_types.specs.declared.problem.Problem.TheVariants.{BadRequest, No
 use Rattle.desk_types.specs.declared.problem.Problem.TheVariants.{TryAgain}
 use Rattle.desk_reply.specs.Reply.{answer_data, answer_status, problem_data}
 use Rattle.desk_reply.specs.Response.{answer_response, header_lines, problem_response, status_line, text_response}
-use Rattle.desk_reply.specs.declared.responses.BodyKind.TheVariants.{Plain, Bytes}
+use Rattle.desk_reply.specs.declared.responses.BodyKind.TheVariants.{Plain, Bytes, Html}
 
 number : answer_response (Reply (Number 256))
     ≡ codes "HTTP/1.1 200 OK\r\nContent-Type: application/json\r\n"
@@ -40,6 +40,14 @@ bytes : text_response Bytes (codes "BU_:\n")
     ++ codes "Content-Length: 5\r\nConnection: close\r\n\r\nBU_:\n"
 unfolding text_response status_line header_lines digits
 bytes = refl
+
+-- a page alone has a policy
+page : text_response Html (codes "<p>\n")
+    ≡ codes "HTTP/1.1 200 OK\r\nContent-Type: text/html; charset=us-ascii\r\n"
+    ++ codes "Content-Security-Policy: default-src 'none';style-src 'unsafe-inline'\r\n"
+    ++ codes "Content-Length: 4\r\nConnection: close\r\n\r\n<p>\n"
+unfolding text_response status_line header_lines digits
+page = refl
 
 replies : map (λ reply. compact_text (answer_data (Reply reply))) (Done ∷ Number 0 ∷ Start 16 ∷ Counts 3 0
     ∷ Release 1 ∷ Refused no.BlockFull ∷ Refused (no.FileFault (record { fault = 30; at = 565 })) ∷ [])

@@ -8,12 +8,13 @@ use Rattle.desk_types.specs.Problem.{problem_status}
 use Rattle.desk_types.specs.declared.problem.Problem.{Problem}
 use Rattle.desk_reply.specs.Reply.{answer_data, answer_status, problem_data}
 use Rattle.desk_reply.specs.declared.responses.BodyKind.{BodyKind}
-use Rattle.desk_reply.specs.declared.responses.BodyKind.TheVariants.{Json, Plain, Bytes}
+use Rattle.desk_reply.specs.declared.responses.BodyKind.TheVariants.{Json, Plain, Bytes, Html}
 
 abbrev pub content_type : BodyKind → List ℕ
 content_type Json = codes "application/json"
 content_type Plain = codes "text/plain"
 content_type Bytes = codes "application/octet-stream"
+content_type Html = codes "text/html; charset=us-ascii"
 
 abbrev pub phrase_of : ℕ → List ℕ
 phrase_of status = unwrap_or (reason_phrase status) []
@@ -25,16 +26,23 @@ line_end = 13 ∷ 10 ∷ []
 unfoldable pub status_line : ℕ → List ℕ → List ℕ
 status_line status phrase = codes "HTTP/1.1 " ++ (decimal status ++ (codes " " ++ (phrase ++ line_end)))
 
-unfoldable pub header_lines : List ℕ → ℕ → List ℕ
-header_lines kind size =
+-- A page may have its own style, and else nothing: no script, and nothing from outside (Content Security Policy). Other
+-- bodies have no such line.
+abbrev pub policy_line : BodyKind → List ℕ
+policy_line Html = codes "Content-Security-Policy: default-src 'none';style-src 'unsafe-inline'" ++ line_end
+policy_line kind = []
+
+unfoldable pub header_lines : List ℕ → List ℕ → ℕ → List ℕ
+header_lines kind policy size =
     codes "Content-Type: "
-    ++ (kind ++ (line_end ++ (codes "Content-Length: " ++ (decimal size ++ (line_end
-    ++ (codes "Connection: close" ++ (line_end ++ line_end)))))))
+    ++ (kind ++ (line_end ++ (policy ++ (codes "Content-Length: " ++ (decimal size ++ (line_end
+    ++ (codes "Connection: close" ++ (line_end ++ line_end))))))))
 
 -- the response of a status with a body
 abbrev pub response : ℕ → BodyKind → List ℕ → List ℕ
 response status content body =
-    status_line status (phrase_of status) ++ header_lines (content_type content) (length body) ++ body
+    status_line status (phrase_of status) ++ header_lines (content_type content) (policy_line content) (length body)
+    ++ body
 
 abbrev pub json_response : ℕ → Data → List ℕ
 json_response status d = response status Json (compact_text d)

@@ -24,6 +24,8 @@ pub enum BodyKind {
     Plain,
     /// Bytes: DBC text.
     Bytes,
+    /// HTML, all of it ASCII: a page.
+    Html,
 }
 
 fn json_response(alloc: Global, status: StatusCode, value: &Value) -> Result<Vec<u8>, AllocError>

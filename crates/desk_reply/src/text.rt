@@ -1,6 +1,6 @@
 //! The text of a response.
 ghost use Rattle.std.specs.Prelude.{◌≡◌, IfOk, string_bytes};
-ghost use Rattle.desk_reply.specs.Response.{content_type, header_lines, phrase_of, response, status_line};
+ghost use Rattle.desk_reply.specs.Response.{content_type, header_lines, phrase_of, policy_line, response, status_line};
 
 use crate::responses::BodyKind;
 use http::StatusCode;
@@ -22,6 +22,19 @@ fn content_type(content: BodyKind) -> &'static str
         BodyKind::Json => "application/json",
         BodyKind::Plain => "text/plain",
         BodyKind::Bytes => "application/octet-stream",
+        BodyKind::Html => "text/html; charset=us-ascii",
+    }
+}
+
+/// The line that forbids a page scripts and whatever comes from outside it; nothing for another body.
+fn policy_line(content: BodyKind) -> &'static str
+    ensures { result.now ≡ policy_line content }
+{
+    match content {
+        BodyKind::Html => {
+            "Content-Security-Policy: default-src 'none';style-src 'unsafe-inline'\r\n"
+        }
+        _ => "",
     }
 }
 
@@ -33,10 +46,12 @@ fn status_line(alloc: Global, code: u16, phrase: &str) -> Result<String, AllocEr
 }
 
 #[tactic(auto, unfolding(crate::specs::Response::header_lines))]
-fn header_lines(alloc: Global, kind: &str, size: usize) -> Result<String, AllocError>
-    ensures { IfOk result (λ lines. string_bytes lines ≡ header_lines kind.now size) }
+fn header_lines(alloc: Global, kind: &str, policy: &str, size: usize) -> Result<String, AllocError>
+    ensures { IfOk result (λ lines. string_bytes lines ≡ header_lines kind.now policy.now size) }
 {
-    format!(in alloc; "Content-Type: {kind}\r\nContent-Length: {size}\r\nConnection: close\r\n\r\n")
+    format!(in alloc;
+        "Content-Type: {kind}\r\n{policy}Content-Length: {size}\r\nConnection: close\r\n\r\n"
+    )
 }
 
 /// The response of a status with a body.
@@ -49,7 +64,12 @@ pub(crate) fn response(
     ensures { IfOk result (λ text. text.items ≡ response status content body.now) }
 {
     let mut text = status_line(alloc, status.as_u16(), phrase_of(status))?.into_bytes();
-    let lines = header_lines(alloc, content_type(content), body.len())?;
+    let lines = header_lines(
+        alloc,
+        content_type(content),
+        policy_line(content),
+        body.len(),
+    )?;
     text.extend_from_slice(lines.as_bytes())?;
     text.extend_from_slice(body)?;
     Ok(text)

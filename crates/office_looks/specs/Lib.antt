@@ -8,3 +8,4 @@ pub mod Nodes
 pub mod Who
 pub mod Compared
 pub mod Looks
+pub mod Reads

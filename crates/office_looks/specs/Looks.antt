@@ -1,5 +1,5 @@
 -- What is shown of a network.
-use Rattle.std.specs.Prelude.{ℕ, Bool, true, false, List, Option, Some, None}
+use Rattle.std.specs.Prelude.{ℕ, List, Option, Some, None}
 use Rattle.office_types.specs.declared.book.SpnBook.{SpnBook}
 use Rattle.office_types.specs.declared.look.NetLook.{NetLook}
 use Rattle.office_types.specs.declared.look.NetLook.TheVariants as look
@@ -35,10 +35,3 @@ text_of (look.Compare old new) view = compared_text old new view
 abbrev pub net_text : Option Net → SpnBook → NetLook → Option (List ℕ)
 net_text None book look = None
 net_text (Some net) book look = text_of look (view_of net book)
-
--- whether the text depends on the releases
-abbrev pub reads_releases : NetLook → Bool
-reads_releases (look.Blocks team) = false
-reads_releases look.Nodes = false
-reads_releases (look.Node name) = false
-reads_releases l = true

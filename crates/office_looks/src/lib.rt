@@ -2,11 +2,12 @@
 //! parameter numbers, who has a name or a number, and what changed from one release to another.
 //!
 //! [`text_of`] gives the text of a [`NetLook`](office_types::NetLook) of a [`View`](office_seen::View), `None` where
-//! the network has no such message, node or release, or nobody has the name or number; [`reads_releases`] says whether
-//! it depends on the releases. Each kind of look is a module, and a file of definitions in `specs/`, or a crate of its
-//! own (`office_blocks`, `office_spns`, `dbc_compare`); `Looks.antt` joins them. All lines of a look have the same
-//! columns, with one space between; nothing is cut; and what people wrote is in words without spaces (`columns`), or
-//! last. A line of the messages is that of the table of a sheet with columns put in ([`messages_are_the_table`]).
+//! the network has no such message, node or release, or nobody has the name or number; [`reads_of`] says how much of
+//! the live messages and of the releases it depends on. Each kind of look is a module, and a file of definitions in
+//! `specs/`, or a crate of its own (`office_blocks`, `office_spns`, `dbc_compare`); `Looks.antt` joins them. All lines
+//! of a look have the same columns, with one space between; nothing is cut; and what people wrote is in words without
+//! spaces (`columns`), or last. A line of the messages is that of the table of a sheet with columns put in
+//! ([`messages_are_the_table`]).
 //!
 //! Of what these texts are made of, a page of a network has use for what nodes send and receive ([`sends`],
 //! [`receives`], [`sent_tally`], [`received_tally`]), whose block a number is in ([`team_of`], [`team_at`],
@@ -22,6 +23,7 @@ mod looks;
 mod message_whole;
 mod messages;
 mod nodes;
+mod reads;
 mod release_lines;
 mod seeking;
 mod signal_lines;
@@ -31,7 +33,8 @@ mod who;
 
 pub use held::{last_name, team_at, team_of};
 pub use laws::messages_are_the_table;
-pub use looks::{reads_releases, text_of};
+pub use looks::text_of;
 pub use nodes::{receives, sends};
+pub use reads::{MessagesRead, Reads, ReleasesRead, reads_of};
 pub use seeking::is_number_of;
 pub use tally::{Tally, received_tally, sent_tally};

@@ -1,6 +1,6 @@
 //! The text of a look.
 ghost use Rattle.std.specs.Prelude.{◌≡◌, IfOk, option_map};
-ghost use Rattle.office_looks.specs.Looks.{reads_releases, text_of};
+ghost use Rattle.office_looks.specs.Looks.{text_of};
 
 use crate::compared::compared_text;
 use crate::held::held_text;
@@ -15,16 +15,6 @@ use office_seen::View;
 use office_spns::spns_text;
 use office_types::NetLook;
 use std::alloc::{AllocError, Global};
-
-/// Whether the text of the look depends on the network's releases.
-pub fn reads_releases(look: &NetLook) -> bool
-    ensures { result ≡ reads_releases look.now }
-{
-    match look {
-        NetLook::Blocks(_) | NetLook::Nodes | NetLook::Node(_) => false,
-        _ => true,
-    }
-}
 
 /// The text of the look, as lines that end with LF; `None` exactly where there is no such message, node or release, or
 /// where nobody has the name or number. The error is out of memory.

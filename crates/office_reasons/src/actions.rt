@@ -292,8 +292,8 @@ fn net_reason(
     }
 }
 
-/// Why the team's action on the network of this name is refused; `None` where what is seen doesn't show it. The error is
-/// out of memory.
+/// Why the team's action on the network of this name is refused; `None` where what is seen doesn't show it. The error
+/// is out of memory.
 pub(crate) fn action_reason(
     alloc: Global,
     team: &Team,

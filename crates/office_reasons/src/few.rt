@@ -22,8 +22,8 @@ fn last_listed(alloc: Global, last: &str, more: usize) -> Result<String, AllocEr
     }
 }
 
-/// What comes before an item that is named after another one, by those that are named after both, and by how many follow
-/// that aren't.
+/// What comes before an item that is named after another one, by those that are named after both, and by how many
+/// follow that aren't.
 fn joint(later: &[String], more: usize) -> &'static str
     ensures { result.now ≡ joint (map (λ s. string_bytes s) later.now) more }
 {

@@ -6,8 +6,8 @@
 //! request. A sentence is one line of printable ASCII, and it is made whatever is seen: where that doesn't show the
 //! refusal, it is what the refusal means (`plain`).
 //!
-//! `actions` has the reasons of each command in the order of its tests, `files` those of an import and `bundles` that of
-//! the refused command of a bundle, on a copy on which the earlier ones are carried out. The sentences are made in
+//! `actions` has the reasons of each command in the order of its tests, `files` those of an import and `bundles` that
+//! of the refused command of a bundle, on a copy on which the earlier ones are carried out. The sentences are made in
 //! `networks`, `blocks`, `numbers`, `messages`, `signals`, `bits` and `reviews`, of the words in `pieces`, `places` and
 //! `few`. The definitions are in `specs/`, by the names of the modules. Nothing that decides loads this crate.
 #![tactic(auto)]

@@ -54,8 +54,8 @@ fn sentence_reads_releases(command: &Command, refusal: Refusal) -> bool {
     }
 }
 
-/// Whether [`crate::reason`] or [`crate::answer_reason`] depends on what is in the network's releases. Where it doesn't,
-/// a network without its releases is enough to be seen.
+/// Whether [`crate::reason`] or [`crate::answer_reason`] depends on what is in the network's releases. Where it
+/// doesn't, a network without its releases is enough to be seen.
 pub fn reads_releases(command: &Command, refusal: Refusal) -> bool
     ensures { IsTrue (reads_releases command.now.task) → IsTrue result }
 {

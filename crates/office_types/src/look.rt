@@ -18,6 +18,10 @@ pub enum Look {
     Chart(NetName, Name),
     /// What the network has: its state, or one kind of thing.
     Net(NetName, NetLook),
+    /// The live network on one HTML page.
+    Page(NetName),
+    /// The release of the network with this number, from 1, on one HTML page.
+    ReleasePage(NetName, u32),
     /// The requests of the team that were answered, each with its reply.
     Requests(Team),
 }
@@ -57,6 +61,8 @@ impl Drop for Look {
             Look::Release(_net, _number) => {}
             Look::Chart(_net, _message) => {}
             Look::Net(_net, _look) => {}
+            Look::Page(_net) => {}
+            Look::ReleasePage(_net, _number) => {}
             Look::Requests(_team) => {}
         }
     }

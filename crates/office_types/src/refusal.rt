@@ -158,8 +158,8 @@ impl Refusal {
         }
     }
 
-    /// The refusal of this number, with the fault where it is that of a file or of a bundle; `None` where no refusal has
-    /// the number.
+    /// The refusal of this number, with the fault where it is that of a file or of a bundle; `None` where no refusal
+    /// has the number.
     pub fn of_number(number: u32, fault: FileFault) -> Option<Refusal>
         ensures { result ≡ refusal_at number fault }
     {

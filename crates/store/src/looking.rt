@@ -16,7 +16,7 @@ use office_history::histories_leave_offices;
 use office_types::Look;
 use sqlite::{Alter, Connection, Error, Transaction};
 use std::alloc::Global;
-use store_looks::{net_look_at, requests_at};
+use store_looks::{net_look_at, page_at, release_page_at, requests_at};
 use store_net::{live_chart, live_table, live_text, nets_text, release_text};
 use store_tables::knows_schema;
 
@@ -39,6 +39,8 @@ fn look_inside<S: Alter>(
         Look::Release(net, number) => release_text(alloc, tx, net, *number),
         Look::Chart(net, message) => live_chart(alloc, tx, net, message),
         Look::Net(net, look) => net_look_at(alloc, tx, net, look),
+        Look::Page(net) => page_at(alloc, tx, net),
+        Look::ReleasePage(net, number) => release_page_at(alloc, tx, net, *number),
         Look::Requests(team) => Ok(Some(requests_at(alloc, tx, team)?)),
     }
 }

@@ -1,12 +1,16 @@
 -- What is seen of the network that the tables have.
 use Rattle.std.specs.Prelude.{◌≡◌, ℕ, List, Option, Some, None}
-use Rattle.std.specs.Option.{option_map}
+use Rattle.std.specs.Option.{option_and_then, option_map}
+use Rattle.office_page.specs.Page.{page_of, release_page}
+use Rattle.dbc_sheet.specs.declared.sheet.Sheet.{Sheet}
 use Rattle.office_types.specs.declared.book.SpnBook.{SpnBook}
 use Rattle.office_types.specs.declared.look.NetLook.{NetLook}
 use Rattle.office_types.specs.declared.state.Net.{Net}
 use Rattle.office_seen.specs.View.{view_of}
 use Rattle.office_seen.specs.declared.view.View.{View}
 use Rattle.office_looks.specs.Looks.{net_text, text_of}
+use Rattle.office_looks.specs.Reads.{AreRead, net_read}
+use Rattle.office_looks.specs.declared.reads.Reads.{Reads}
 use Rattle.store_rows.specs.NetIn.{IsNetAt}
 use Rattle.store_rows.specs.Rows.{IsBookIn}
 use Rattle.store_tables.specs.Tables.{Tables}
@@ -16,14 +20,27 @@ abbrev pub OnNetAndBook : {X : Type 0} → List ℕ → (Option Net → SpnBook 
 OnNetAndBook name Holds found t = (net : Option Net) → IsNetAt name t net → (book : SpnBook) → IsBookIn t book
     → Holds net book found
 
--- the network is seen with the book, its parts changed so
-abbrev pub IsSeen : (Net → Net) → Option Net → SpnBook → Option View → Type 0
-IsSeen change net book found = found ≡ option_map (λ (n : Net). view_of (change n) book) net
+-- the network is seen with the book, its messages and releases as far as they are read
+abbrev pub IsSeen : Reads → Option Net → SpnBook → Option View → Type 0
+IsSeen reads None book found = found ≡ None
+IsSeen reads (Some net) book found = (releases : List Sheet) × AreRead reads.releases net.releases releases
+    × (found ≡ Some (view_of (net_read reads.messages releases net) book))
 
 -- the text of what is seen, if anything is
 abbrev pub seen_text : NetLook → Option View → Option (List ℕ)
 seen_text look None = None
 seen_text look (Some view) = text_of look view
+
+-- what is seen of the whole network with the book, if it is there
+abbrev pub whole_view : Option Net → SpnBook → Option View
+whole_view net book = option_map (λ n. view_of n book) net
+
+-- the page of the network, or of its release of this number, if it is there
+abbrev pub net_page : Option Net → SpnBook → Option (List ℕ)
+net_page net book = option_map page_of (whole_view net book)
+
+abbrev pub net_release_page : Option Net → SpnBook → ℕ → Option (List ℕ)
+net_release_page net book number = option_and_then (λ v. release_page v number) (whole_view net book)
 
 -- what is seen has the text of the network
 abbrev pub IsSeenBy : NetLook → Option Net → SpnBook → Option View → Type 0

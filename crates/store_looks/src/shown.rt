@@ -5,8 +5,8 @@ ghost use Rattle.office_looks.specs.Looks.{net_text};
 ghost use Rattle.store_looks.specs.Seen.{IsSeenBy, OnNetAndBook, seen_text};
 ghost use Rattle.store_tables.specs.Frames.{Asks, ReadsOnly};
 
-use crate::view::{unreleased_view_at, view_at};
-use office_looks::{reads_releases, text_of};
+use crate::view::view_at;
+use office_looks::{reads_of, text_of};
 use office_seen::View;
 use office_types::{NetLook, NetName};
 use sqlite::{Alter, Error, Transaction};
@@ -22,8 +22,8 @@ fn shown(alloc: Global, view: Option<View>, look: &NetLook) -> Result<Option<Vec
     }
 }
 
-/// What the look sees of the network of the name, without the releases where its text doesn't depend on them; `None`
-/// where the network isn't there. The errors are those of [`net_look_at`].
+/// What the look sees of the network of the name, of which no more is read than its text depends on; `None` where the
+/// network isn't there. The errors are those of [`net_look_at`].
 fn seen_at<S: Alter>(
     alloc: Global,
     tx: &mut Transaction<'_, S>,
@@ -33,11 +33,8 @@ fn seen_at<S: Alter>(
     ensures found { Asks S.Store tx.old tx.new result (OnNetAndBook name.now (IsSeenBy look.now)) }
     ensures frame { ReadsOnly S.Store tx.old tx.new result }
 {
-    if reads_releases(look) {
-        view_at(alloc, tx, name)
-    } else {
-        unreleased_view_at(alloc, tx, name)
-    }
+    let reads = reads_of(look);
+    view_at(alloc, tx, name, reads)
 }
 
 /// The text of the look at the network of the name; `None` where the network isn't there, or what the look names. An

@@ -1,23 +1,29 @@
 //! What is seen of a network.
 ghost use Rattle.std.specs.Prelude.{◌≡◌, [], map, filter, IfOk, OnOk};
+ghost use Rattle.std.specs.Option.{option_map};
 ghost use Rattle.std.specs.List.Sorted.{IsStrictlySortedBy};
 ghost use Rattle.std.specs.Str.{bytes_eq};
 ghost use Rattle.dbc_sheet.specs.Messages.{by_number};
 ghost use Rattle.office_law.specs.Released.{with_releases};
+ghost use Rattle.office_looks.specs.Reads.{AreRead, net_read};
 ghost use Rattle.office_seen.specs.View.{blocks_of, spn_block, view_of};
 ghost use Rattle.office_types.specs.State.{live_messages};
 ghost use Rattle.store_looks.specs.Seen.{IsSeen, OnNetAndBook};
-ghost use Rattle.store_tables.specs.Frames.{Asks, ReadsOnly};
+ghost use Rattle.store_net.specs.Reading.{OnNet, OnNetThere};
+ghost use Rattle.store_tables.specs.Frames.{Asks, ReadsOnly, ReadsWhileOpen};
 
 use base::{Copying, Items};
 use dbc_sheet::Sheet;
+use office_looks::{MessagesRead, Reads, ReleasesRead};
 use office_seen::{FrozenSheets, View};
 use office_types::{
     BlockForm, FormBlock, GrantedBlock, LiveMessage, Net, NetName, SpnBlock, SpnBook, Team,
 };
 use sqlite::{Alter, Error, Transaction};
 use std::alloc::{AllocError, Global};
-use store_net::{book_of, live_sheet, release_sheets_at, unreleased_net_at};
+use store_net::{
+    SignalParts, book_of, last_sheets_at, live_sheet, outline_at, partial_net_at, release_sheets_at,
+};
 
 /// The teams that own the messages, in order. The error is out of memory.
 fn owners_of(alloc: Global, live: &[LiveMessage]) -> Result<Items<Team>, AllocError>
@@ -86,39 +92,59 @@ fn seen(alloc: Global, net: &Net, releases: Items<Sheet>, book: &SpnBook) -> Res
     })
 }
 
-/// What is seen of the network of the name, `None` where it isn't there. An error is out of memory, what `sqlite`
-/// answers, or `InvalidQuery` where the rows are no office's.
+/// The network of the name with its live messages as far as they are read, and without its releases; `None` where it
+/// isn't there. The errors are those of [`view_at`].
+fn net_for<S: Alter>(
+    alloc: Global,
+    tx: &mut Transaction<'_, S>,
+    name: &NetName,
+    messages: MessagesRead,
+) -> Result<Option<Net>, Error>
+    ensures found { Asks S.Store tx.old tx.new result
+        (OnNet name.now (λ net found. found ≡ option_map (net_read messages []) net)) }
+    ensures frame { ReadsOnly S.Store tx.old tx.new result }
+{
+    match messages {
+        MessagesRead::Nothing => outline_at(alloc, tx, name),
+        MessagesRead::Rows => partial_net_at(alloc, tx, name, SignalParts::RowOnly),
+        MessagesRead::Received => partial_net_at(alloc, tx, name, SignalParts::Received),
+        MessagesRead::Whole => partial_net_at(alloc, tx, name, SignalParts::All),
+    }
+}
+
+/// The releases of the network of the name, as far as they are read. The errors are those of [`view_at`].
+fn releases_for<S: Alter>(
+    alloc: Global,
+    tx: &mut Transaction<'_, S>,
+    name: &NetName,
+    releases: ReleasesRead,
+) -> Result<Items<Sheet>, Error>
+    ensures found { Asks S.Store tx.old tx.new result
+        (OnNetThere name.now (λ net found. AreRead releases net.releases found)) }
+    ensures frame { ReadsWhileOpen S.Store tx.old tx.new result }
+{
+    match releases {
+        ReleasesRead::Nothing => Ok(Items::new(alloc)),
+        ReleasesRead::Last => last_sheets_at(alloc, tx, name),
+        ReleasesRead::All => release_sheets_at(alloc, tx, name),
+    }
+}
+
+/// What is seen of the network of the name where so much is read of it, `None` where it isn't there. An error is out of
+/// memory, what `sqlite` answers, or `InvalidQuery` where the rows are no office's.
 pub(crate) fn view_at<S: Alter>(
     alloc: Global,
     tx: &mut Transaction<'_, S>,
     name: &NetName,
+    reads: Reads,
 ) -> Result<Option<View>, Error>
-    ensures found { Asks S.Store tx.old tx.new result
-        (OnNetAndBook name.now (IsSeen (λ net. net))) }
+    ensures found { Asks S.Store tx.old tx.new result (OnNetAndBook name.now (IsSeen reads)) }
     ensures frame { ReadsOnly S.Store tx.old tx.new result }
 {
-    let Some(net) = unreleased_net_at(alloc, tx, name)? else {
+    let Some(net) = net_for(alloc, tx, name, reads.messages)? else {
         return Ok(None);
     };
-    let releases = release_sheets_at(alloc, tx, name)?;
     let book = book_of(alloc, tx)?;
+    let releases = releases_for(alloc, tx, name, reads.releases)?;
     Ok(Some(seen(alloc, &net, releases, &book)?))
-}
-
-/// What is seen of the network of the name without its releases, of which no body is read; `None` where it isn't there.
-/// The errors are those of [`view_at`].
-pub(crate) fn unreleased_view_at<S: Alter>(
-    alloc: Global,
-    tx: &mut Transaction<'_, S>,
-    name: &NetName,
-) -> Result<Option<View>, Error>
-    ensures found { Asks S.Store tx.old tx.new result
-        (OnNetAndBook name.now (IsSeen (with_releases []))) }
-    ensures frame { ReadsOnly S.Store tx.old tx.new result }
-{
-    let Some(net) = unreleased_net_at(alloc, tx, name)? else {
-        return Ok(None);
-    };
-    let book = book_of(alloc, tx)?;
-    Ok(Some(seen(alloc, &net, Items::new(alloc), &book)?))
 }

@@ -1,4 +1,4 @@
--- Live messages without receivers and value texts, and their table.
+-- Live messages without value texts, or without receivers too, and their table.
 use Rattle.std.proofs.Common.{◌≡◌, ◌∙◌, ℕ, suc, ◌<◌, List, [], ◌∷◌, map, length, Option, Some, None, refl, sym, ap}
 use Rattle.std.proofs.Common.{subst, length-append}
 use Rattle.std.proofs.lemmas.List.{length-map}
@@ -16,10 +16,15 @@ use Rattle.office_types.specs.declared.state.Head.{Head}
 use Rattle.office_types.specs.declared.state.LiveMessage.{LiveMessage}
 use Rattle.office_types.specs.declared.state.Net.{Net}
 use Rattle.store_tables.specs.Tables.{Tables}
-use Rattle.store_rows.specs.Listed.{AreShown}
-use Rattle.store_rows.specs.Live.{parts_of}
+use Rattle.store_tables.specs.Selected.{IsSelected}
+use Rattle.store_statements.specs.Rows.{has_net_and_number}
+use Rattle.store_statements.specs.Shown.{receivers_order, receivers_shown}
+use Rattle.store_rows.specs.Listed.{AreListed, AreShown}
+use Rattle.store_rows.specs.Live.{AreSignalsOf, IsReceiverRow, live_rows, parts_of}
 use Rattle.store_rows.specs.NetIn.{HasRows, IsNetAt}
-use Rattle.store_rows.specs.SignalShowing.{PlacesAscend, ShowsLive, ShowsPlaced}
+use Rattle.store_rows.specs.SignalShowing.{PlacesAscend, ShowsLive, ShowsPart, ShowsPlaced, ShowsReceiver}
+use Rattle.store_rows.proofs.LiveRows.{of_number, receivers_total}
+use Rattle.store_rows.proofs.Reading.{selected_shown}
 use Rattle.store_net.specs.SignalParts.{bare_signal, live_in}
 use Rattle.store_net.specs.Texts.{live_table}
 use Rattle.store_net.specs.declared.signal_parts.SignalParts.{SignalParts}
@@ -27,14 +32,22 @@ use Rattle.store_net.specs.declared.signal_parts.SignalParts.TheVariants.{RowOnl
 use Rattle.store_net.proofs.LiveSheet.{live_ascends}
 use Rattle.store_net.proofs.Whole.{head_in}
 
--- ---- signals at their places
+-- ---- signals at their places, with these receivers and value texts
 
-abbrev pub bare_placed : ℕ × Signal → ℕ × Signal
-bare_placed p = (p.0, bare_signal p.1)
+abbrev Part : Type 0
+Part = Signal → Signal
 
-pub one_shown : (p : ℕ × Signal) (row : Row) → ShowsPlaced p row → ShowsPlaced (bare_placed p) row
-one_shown p row shown =
-    let s = shown.signal in record {
+-- a part of a signal has all of it but its receivers and value texts
+abbrev IsPart : Part → Type 0
+IsPart part = (s : Signal) → part s ≡ record s { receivers = (part s).receivers; values = (part s).values }
+
+abbrev pub placed_part : Part → ℕ × Signal → ℕ × Signal
+placed_part part p = (p.0, part p.1)
+
+pub one_shown : (part : Part) → IsPart part → (p : ℕ × Signal) (row : Row) → ShowsPlaced p row
+    → ShowsPlaced (placed_part part p) row
+one_shown part is p row shown =
+    let s = shown.signal in subst (λ (t : Signal). ShowsPlaced (p.0, t) row) (sym (is p.1)) (record {
       place = shown.place;
       signal = record {
         named = s.named;
@@ -56,33 +69,56 @@ one_shown p row shown =
           maximum = s.decimals.maximum;
         };
       };
-    }
+    })
 
-pub bare_shown : (placed : List (ℕ × Signal)) (rows : List Row) → AreShown ShowsPlaced placed rows
-    → AreShown ShowsPlaced (map bare_placed placed) rows
-bare_shown [] [] shown = tt
-bare_shown [] (row ∷ rows) shown = absurd shown
-bare_shown (p ∷ placed) [] shown = absurd shown
-bare_shown (p ∷ placed) (row ∷ rows) shown = (one_shown p row shown.0, bare_shown placed rows shown.1)
+pub parts_shown : (part : Part) → IsPart part → (placed : List (ℕ × Signal)) (rows : List Row)
+    → AreShown ShowsPlaced placed rows → AreShown ShowsPlaced (map (placed_part part) placed) rows
+parts_shown part is [] [] shown = tt
+parts_shown part is [] (row ∷ rows) shown = absurd shown
+parts_shown part is (p ∷ placed) [] shown = absurd shown
+parts_shown part is (p ∷ placed) (row ∷ rows) shown =
+    (one_shown part is p row shown.0, parts_shown part is placed rows shown.1)
 
-bare_above : (place : ℕ) (placed : List (ℕ × Signal)) → AllByRecursion (λ q. place < q.0) placed
-    → AllByRecursion (λ q. place < q.0) (map bare_placed placed)
-bare_above place [] above = tt
-bare_above place (q ∷ placed) above = (above.0, bare_above place placed above.1)
+parts_above : (part : Part) (place : ℕ) (placed : List (ℕ × Signal)) → AllByRecursion (λ q. place < q.0) placed
+    → AllByRecursion (λ q. place < q.0) (map (placed_part part) placed)
+parts_above part place [] above = tt
+parts_above part place (q ∷ placed) above = (above.0, parts_above part place placed above.1)
 
-pub bare_ascend : (placed : List (ℕ × Signal)) → PlacesAscend placed → PlacesAscend (map bare_placed placed)
-bare_ascend [] ascend = tt
-bare_ascend (p ∷ placed) ascend = (bare_above p.0 placed ascend.0, bare_ascend placed ascend.1)
+pub parts_ascend : (part : Part) (placed : List (ℕ × Signal)) → PlacesAscend placed
+    → PlacesAscend (map (placed_part part) placed)
+parts_ascend part [] ascend = tt
+parts_ascend part (p ∷ placed) ascend = (parts_above part p.0 placed ascend.0, parts_ascend part placed ascend.1)
 
-pub no_parts : {A : Type 0} (part : Signal → List A) (placed : List (ℕ × Signal))
-    → ((s : Signal) → part (bare_signal s) ≡ []) → parts_of part (map bare_placed placed) ≡ []
-no_parts part [] none = refl
-no_parts part (p ∷ placed) none = rw (none p.1, no_parts part placed none) refl
+pub no_parts : {A : Type 0} (part : Part) (of : Signal → List A) (placed : List (ℕ × Signal))
+    → ((s : Signal) → of (part s) ≡ []) → parts_of of (map (placed_part part) placed) ≡ []
+no_parts part of [] none = refl
+no_parts part of (p ∷ placed) none = rw (none p.1, no_parts part of placed none) refl
 
-pub bare_signals : (placed : List (ℕ × Signal))
-    → map (λ p. p.1) (map bare_placed placed) ≡ map bare_signal (map (λ p. p.1) placed)
-bare_signals [] = refl
-bare_signals (p ∷ placed) = ap (λ l. bare_signal p.1 ∷ l) (bare_signals placed)
+pub same_parts_of : {A : Type 0} (part : Part) (of : Signal → List A) (placed : List (ℕ × Signal))
+    → ((s : Signal) → of (part s) ≡ of s) → parts_of of (map (placed_part part) placed) ≡ parts_of of placed
+same_parts_of part of [] same = refl
+same_parts_of part of (p ∷ placed) same = rw (same p.1, same_parts_of part of placed same) refl
+
+pub part_signals : (part : Part) (placed : List (ℕ × Signal))
+    → map (λ p. p.1) (map (placed_part part) placed) ≡ map part (map (λ p. p.1) placed)
+part_signals part [] = refl
+part_signals part (p ∷ placed) = ap (λ l. part p.1 ∷ l) (part_signals part placed)
+
+-- the query on the receivers of a message shows those of its signals
+pub receivers_are_shown : (name : List ℕ) (number : ℕ) (t : Tables) (signals : List Signal) (receivers : List Row)
+    (h : AreSignalsOf name number (live_rows name t) signals)
+    → IsSelected (has_net_and_number name number) receivers_shown receivers_order t.receiver receivers
+    → AreShown (ShowsPart ShowsReceiver) (parts_of (λ s. s.receivers) h.placed) receivers
+receivers_are_shown name number t signals receivers h sel =
+    selected_shown receivers_total (IsReceiverRow name number) (ShowsPart ShowsReceiver)
+    (has_net_and_number name number) receivers_shown t.receiver receivers (parts_of (λ s. s.receivers) h.placed) one
+    (subst (λ l. AreListed receivers_order (IsReceiverRow name number) l (parts_of (λ s. s.receivers) h.placed))
+    (of_number name number t.receiver) h.receivers) sel
+  where
+    one : (p : ℕ × List ℕ) (row : Row) → IsReceiverRow name number p row
+        → ShowsPart ShowsReceiver p (receivers_shown row)
+    one p row r = subst (λ x. ShowsPart ShowsReceiver p (receivers_shown x)) (sym r.row_is)
+        (record { place = refl; part = refl })
 
 -- a row of `msg` shows nothing of signals
 pub live_shown : (detail : SignalParts) (m : LiveMessage) (row : Row) → ShowsLive m row
@@ -107,17 +143,18 @@ whole_live (m ∷ live) = ap (λ l. m ∷ l) (whole_live live)
 abbrev bare : LiveMessage → LiveMessage
 bare = live_in RowOnly
 
-number_above : (m : LiveMessage) (live : List LiveMessage)
+number_above : (detail : SignalParts) (m : LiveMessage) (live : List LiveMessage)
     → AllByRecursion (λ o. by_number m.message o ≡ Less) (live_messages live)
-    → AllByRecursion (λ o. by_number (bare m).message o ≡ Less) (live_messages (map bare live))
-number_above m [] above = tt
-number_above m (o ∷ live) above = (above.0, number_above m live above.1)
+    → AllByRecursion (λ o. by_number (live_in detail m).message o ≡ Less) (live_messages (map (live_in detail) live))
+number_above detail m [] above = tt
+number_above detail m (o ∷ live) above = (above.0, number_above detail m live above.1)
 
-numbers_ascend : (live : List LiveMessage) → IsStrictlySortedBy by_number (live_messages live)
-    → IsStrictlySortedBy by_number (live_messages (map bare live))
+pub numbers_ascend : (detail : SignalParts) (live : List LiveMessage)
+    → IsStrictlySortedBy by_number (live_messages live)
+    → IsStrictlySortedBy by_number (live_messages (map (live_in detail) live))
 unfolding IsStrictlySortedBy
-numbers_ascend [] ascend = tt
-numbers_ascend (m ∷ live) ascend = (number_above m live ascend.0, numbers_ascend live ascend.1)
+numbers_ascend detail [] ascend = tt
+numbers_ascend detail (m ∷ live) ascend = (number_above detail m live ascend.0, numbers_ascend detail live ascend.1)
 
 lines_alike : (live : List LiveMessage) → flat_map message_line (live_messages (map bare live))
     ≡ flat_map message_line (live_messages live)
@@ -152,7 +189,7 @@ bare_table name t (Some net) head live sheet there found one made =
     let same : head ≡ net.head = cc in
     let live_is : live ≡ map bare net.live = one net.live there.live in
     let sorted = subst (λ (l : List LiveMessage). IsStrictlySortedBy by_number (live_messages l)) (sym live_is)
-    (numbers_ascend net.live (live_ascends name t net.live there.live)) in
+    (numbers_ascend RowOnly net.live (live_ascends name t net.live there.live)) in
     let is : sheet ≡ sheet_with net.head.frame (map bare net.live) =
     made sorted ∙ ap (λ (h : Head). sheet_with h.frame live) same ∙ ap (sheet_with net.head.frame) live_is in
     ap Some (ap table_of is ∙ table_alike net.head.frame net.live)

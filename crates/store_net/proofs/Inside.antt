@@ -90,7 +90,8 @@ taken_of f n (i ∷ idents) = by_number (f i) (taken_of f n idents)
     by_number None rest = rest
     by_number (Some m) rest = ap (λ b. (m == n) || b) rest
 
--- where a number is given by some identifier that was read of each table if it is given by any, it is taken as among all
+-- where a number is given by some identifier that was read of each table if it is given by any, it is taken as among
+-- all
 both_agree : (f : Ident → Option ℕ) (n : ℕ) (live all_live held all_held : List Ident)
     → list_any (gives f n) live ≡ list_any (gives f n) all_live
     → list_any (gives f n) held ≡ list_any (gives f n) all_held

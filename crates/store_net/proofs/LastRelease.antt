@@ -1,14 +1,19 @@
 -- The release of a number, and the last one, in the list of all.
-use Rattle.std.proofs.Common.{◌≡◌, ◌∙◌, ◌==◌, ◌+◌, ℕ, zero, suc, Bool, true, false, cond, List, [], ◌∷◌, length, Option}
-use Rattle.std.proofs.Common.{Some, slice_get, refl, ap, arith}
+use Rattle.std.proofs.Common.{◌≡◌, ◌∙◌, ◌==◌, ◌+◌, ◌-◌, ◌<◌, ℕ, zero, suc, Bool, true, false, cond, List, [], ◌∷◌, ◌++◌}
+use Rattle.std.proofs.Common.{length, take, take_all, Option, Some, None, slice_get, refl, sym, ap, arith}
 use Rattle.std.specs.Prelude.{find}
 use Rattle.std.specs.Option.{option_map}
 use Rattle.std.proofs.lemmas.Bool.Decides.{nat_tests}
+use Rattle.std.proofs.lemmas.List.{take_more}
+use Rattle.std.proofs.lemmas.Option.{get_or_from_slice_get, slice_get_within}
+use Rattle.std.proofs.Math.Seq.{take-nil}
 use Rattle.can_id.specs.declared.ident.Ident.{Ident}
 use Rattle.dbc_sheet.specs.declared.sheet.Sheet.{Sheet}
 use Rattle.office_rules.specs.Facts.{in_last}
 use Rattle.office_types.specs.declared.state.Net.{Net}
 use Rattle.store_rows.specs.Rows.{numbered}
+use Rattle.store_net.specs.NetParts.{HasLast}
+use Rattle.store_net.specs.Parts.{releases_in}
 use Rattle.store_net.specs.Texts.{release_at, release_has}
 
 abbrev found_in : ℕ → List (ℕ × Sheet) → Option Sheet
@@ -61,3 +66,48 @@ pub has_last : (ident : Ident) (net : Net) (number : ℕ) → number ≡ length 
     → release_has (release_at (Some net) number) ident ≡ in_last net.releases ident
 has_last ident net number is = ap (λ n. release_has (release_at (Some net) n) ident) is
     ∙ of_releases ident net net.releases refl
+
+-- ---- all of them, one after the other
+
+pub one_more : (net : Option Net) (k : ℕ) (sheet : Sheet) (sheets : List Sheet) → sheets ≡ take k (releases_in net)
+    → release_at net (k + 1) ≡ Some sheet → sheets ++ sheet ∷ [] ≡ take (k + 1) (releases_in net)
+one_more None k sheet sheets so_far is = absurd (cc)
+one_more (Some net) k sheet sheets so_far is =
+    let place : 1 + k ≡ k + 1 = omega arith in
+    let there : slice_get net.releases k ≡ Some sheet =
+    sym (release_of net k) ∙ ap (release_at (Some net)) place ∙ is in
+    let within : k < length net.releases = slice_get_within net.releases k sheet there in
+    ap (λ (l : List Sheet). l ++ sheet ∷ []) so_far
+    ∙ ap (λ (s : Sheet). take k net.releases ++ s ∷ [])
+    (sym (get_or_from_slice_get net.releases k sheet sheet there))
+    ∙ sym (take_more net.releases k sheet within)
+
+pub all_taken : (net : Option Net) (count : ℕ) → ((n : Net) → net ≡ Some n → count ≡ length n.releases)
+    → take count (releases_in net) ≡ releases_in net
+all_taken None count counted = take-nil count
+all_taken (Some net) count counted = take_all count net.releases (omega (arith, counted net refl))
+
+-- ---- sheets in their place, the last of which is there
+
+pub none_last : (releases : List Sheet) → 0 ≡ length releases → HasLast releases []
+none_last [] none = (refl, refl)
+none_last (s ∷ releases) none = absurd (omega (arith, none))
+
+pub last_after : (sheets : List Sheet) (last : Sheet) (count : ℕ) → length sheets ≡ count
+    → slice_get (sheets ++ last ∷ []) count ≡ Some last
+last_after [] last count is = ap (slice_get (last ∷ [])) (sym is)
+last_after (s ∷ sheets) last count is =
+    ap (slice_get (s ∷ sheets ++ last ∷ [])) (sym is) ∙ last_after sheets last (length sheets) refl
+
+pub last_found : (net : Net) (count number : ℕ) (last : Sheet) (found : List Sheet) → count ≡ length net.releases
+    → 0 < count → number ≡ count → release_at (Some net) number ≡ Some last → length found ≡ count - 1 + 1
+    → slice_get found (count - 1) ≡ Some last
+    → HasLast net.releases found
+last_found net count number last found counted some is there many ends =
+    let place : 1 + (count - 1) ≡ number = omega (arith, some, is) in
+    let of : slice_get net.releases (count - 1) ≡ Some last =
+    sym (release_of net (count - 1)) ∙ ap (release_at (Some net)) place ∙ there in
+    let long : length found ≡ length net.releases = omega (arith, many, counted, some) in
+    let at : length found - 1 ≡ count - 1 = omega (arith, many, some) in
+    let end : count - 1 ≡ length net.releases - 1 = omega (arith, counted) in
+    (long, ap (slice_get found) at ∙ ends ∙ sym of ∙ ap (slice_get net.releases) end)

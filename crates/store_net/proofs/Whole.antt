@@ -19,6 +19,7 @@ use Rattle.store_rows.specs.NetIn.{HasRows, IsNetAt, RestRows}
 use Rattle.store_rows.specs.Rows.{IsNetRow, IsRowOf}
 use Rattle.store_rows.proofs.Listing.{none_listed}
 use Rattle.store_net.specs.Counted.{HasAsMany}
+use Rattle.store_net.specs.NetParts.{outline}
 use Rattle.store_net.specs.Parts.{HasApprovals, HasBlocks, HasHead, HasHeld, HasReleases}
 
 -- of two calls that leave nothing for a crash to find
@@ -41,9 +42,13 @@ its_head name t None at = subst (λ (r : RestRows). AreListed net_order (IsRowOf
     (sym at.rest) none_listed
 its_head name t (Some net) at = at.rest.head
 
-pub none_unreleased : (net : Option Net) → None ≡ head_in net → None ≡ option_map (with_releases []) net
-none_unreleased None none = refl
-none_unreleased (Some net) none = absurd (cc)
+pub none_outlined : (net : Option Net) → None ≡ head_in net → None ≡ option_map outline net
+none_outlined None none = refl
+none_outlined (Some net) none = absurd (cc)
+
+pub none_made : (make : Net → Net) (net : Option Net) → None ≡ option_map outline net → None ≡ option_map make net
+none_made make None none = refl
+none_made make (Some net) none = absurd (cc)
 
 pub none_if_unreleased : (net : Option Net) → None ≡ option_map (with_releases []) net → None ≡ net
 none_if_unreleased None none = refl
@@ -63,25 +68,35 @@ same_parts a b name head live blocks held approvals releases =
       releases = releases i;
     }
 
--- each part is the one that the tables have, and there is no release
+-- each part is the one that the tables have, and there is no live message and no release
 pub record AreParts (name : List ℕ) (t : Tables) (made : Net) : Type 0 where
   pub named : made.name ≡ name
-  pub live : (live : List LiveMessage) → HasRows name t live → made.live ≡ live
+  pub live : made.live ≡ []
   pub blocks : (blocks : List GrantedBlock) → HasBlocks name t blocks → made.blocks ≡ blocks
   pub held : (held : List Ident) → HasHeld name t held → made.held ≡ held
   pub approvals : (teams : List (List ℕ)) → HasApprovals name t teams → made.approvals ≡ teams
   pub releases : made.releases ≡ []
 
-pub unreleased_net : (name : List ℕ) (t : Tables) (net : Option Net) (made : Net) → IsNetAt name t net
-    → Some made.head ≡ head_in net → AreParts name t made
-    → Some made ≡ option_map (with_releases []) net
-unreleased_net name t None made at head parts = absurd (cc)
-unreleased_net name t (Some net) made at head parts =
+pub outline_is : (name : List ℕ) (t : Tables) (net : Option Net) (made : Net) → IsNetAt name t net
+    → Some made.head ≡ head_in net → AreParts name t made → Some made ≡ option_map outline net
+outline_is name t None made at head parts = absurd (cc)
+outline_is name t (Some net) made at head parts =
     let same : made.head ≡ net.head = cc in
     ap Some
-    (same_parts made (with_releases [] net) (parts.named ∙ sym at.rest.named) same (parts.live net.live at.live)
+    (same_parts made (outline net) (parts.named ∙ sym at.rest.named) same parts.live
     (parts.blocks net.blocks at.rest.blocks) (parts.held net.held at.rest.held)
     (parts.approvals net.approvals at.rest.approvals) parts.releases)
+
+-- a network without its live messages, and with them, or with what is made of them
+pub with_its_messages : (make : List LiveMessage → List LiveMessage) (name : List ℕ) (t : Tables) (net : Option Net)
+    (made : Net) (live : List LiveMessage) → IsNetAt name t net → Some made ≡ option_map outline net
+    → ((others : List LiveMessage) → HasRows name t others → live ≡ make others)
+    → Some (record made { live = live }) ≡ option_map (λ (n : Net). record n { live = make n.live; releases = [] }) net
+with_its_messages make name t None made live at is one = absurd (cc)
+with_its_messages make name t (Some net) made live at is one =
+    let same : made ≡ outline net = cc in
+    ap Some (ap (λ (n : Net). record n { live = live }) same
+    ∙ ap (λ (ms : List LiveMessage). record net { live = ms; releases = [] }) (one net.live at.live))
 
 -- a network without its releases, and with them
 pub with_its_releases : (name : List ℕ) (t : Tables) (net : Option Net) (made : Net) (releases : List Sheet)

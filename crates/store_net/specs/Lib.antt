@@ -7,5 +7,6 @@ pub mod Excerpts
 pub mod Numbers
 pub mod Places
 pub mod Counted
+pub mod NetParts
 pub mod SignalParts
 pub mod Reading

@@ -1,5 +1,5 @@
--- The identifiers of a network that are taken: those of live messages and the held ones, within a range of numbers or in
--- blocks.
+-- The identifiers of a network that are taken: those of live messages and the held ones, within a range of numbers or
+-- in blocks.
 use Rattle.std.specs.Prelude.{◌≡◌, ℕ, List, Bool, ◌&&◌, filter, map, min}
 use Rattle.std.specs.List.{flat_map}
 use Rattle.std.specs.Ordering.{is_ge, is_le, nat_cmp}

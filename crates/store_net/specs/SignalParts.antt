@@ -3,14 +3,18 @@ use Rattle.std.specs.Prelude.{List, [], map}
 use Rattle.dbc_sheet.specs.declared.signal.Signal.{Signal}
 use Rattle.office_types.specs.declared.state.LiveMessage.{LiveMessage}
 use Rattle.store_net.specs.declared.signal_parts.SignalParts.{SignalParts}
-use Rattle.store_net.specs.declared.signal_parts.SignalParts.TheVariants.{All, RowOnly}
+use Rattle.store_net.specs.declared.signal_parts.SignalParts.TheVariants.{All, Received, RowOnly}
 
 abbrev pub bare_signal : Signal → Signal
 bare_signal s = record s { receivers = []; values = [] }
 
--- signals whole, or all but their receivers and value texts
+abbrev pub received_signal : Signal → Signal
+received_signal s = record s { values = [] }
+
+-- signals whole, or all but their value texts, or all but these and their receivers
 abbrev pub signals_in : SignalParts → List Signal → List Signal
 signals_in All signals = signals
+signals_in Received signals = map received_signal signals
 signals_in RowOnly signals = map bare_signal signals
 
 -- the message with them

@@ -10,9 +10,10 @@ ghost use Rattle.store_net.specs.Texts.{live_chart, live_table, live_text};
 ghost use Rattle.store_tables.specs.Frames.{Asks, ReadsOnly};
 ghost use Rattle.store_net.specs.Reading.{OnNet};
 
-use crate::live_list::{bare_messages, live_messages};
+use crate::live_list::{live_messages, messages_with};
 use crate::message::message_at;
 use crate::parts::head_of;
+use crate::signal_parts::SignalParts;
 use base::Copying;
 use dbc_sheet::{Message, Sheet};
 use dbc_words::{Name, SheetCode};
@@ -97,7 +98,7 @@ fn bare_sheet_at<S: Alter>(
     let Some(head) = head_of(alloc, tx, name)? else {
         return Ok(None);
     };
-    let live = bare_messages(alloc, tx, name)?;
+    let live = messages_with(alloc, tx, name, SignalParts::RowOnly)?;
     let sheet = live_sheet(alloc, head, live.as_slice())?;
     Ok(Some(sheet))
 }

@@ -10,7 +10,6 @@ ghost use Rattle.store_rows.specs.Listed.{AreShown};
 ghost use Rattle.store_rows.specs.Live.{AreSignalsOf, live_rows};
 ghost use Rattle.store_rows.specs.SignalShowing.{ShowsLive};
 ghost use Rattle.store_net.specs.SignalParts.{live_in};
-ghost use Rattle.store_net.specs.declared.signal_parts.SignalParts.TheVariants as read;
 ghost use Rattle.store_tables.specs.Frames.{Asks, ReadsOnly, ReadsWhileOpen};
 ghost use Rattle.store_net.specs.Reading.{OnLive};
 
@@ -68,6 +67,23 @@ fn each_with_signals<S: Alter>(
     Ok(messages)
 }
 
+/// The live messages of the network, in ascending order of their DBC numbers, with their signals as far as they are
+/// wanted. It isn't looked whether there are rows of signals, receivers or value texts that none of them has.
+pub(crate) fn messages_with<S: Alter>(
+    alloc: Global,
+    tx: &mut Transaction<'_, S>,
+    name: &NetName,
+    detail: SignalParts,
+) -> Result<Items<LiveMessage>, Error>
+    ensures found { Asks S.Store tx.old tx.new result
+        (OnLive name.now (λ live found. found ≡ map (live_in detail) live)) }
+    ensures frame { ReadsOnly S.Store tx.old tx.new result }
+{
+    let rows = select_msgs(tx, name.as_bytes())?;
+    let messages = each_with_signals(alloc, tx, name.as_bytes(), &rows, detail)?;
+    Ok(Items::from_vec(messages))
+}
+
 /// The live messages of the network, in ascending order of their DBC numbers. `InvalidQuery` also where there are rows
 /// of signals, receivers or value texts that none of them has.
 pub fn live_messages<S: Alter>(
@@ -79,23 +95,7 @@ pub fn live_messages<S: Alter>(
         (OnLive name.now (λ live found. found ≡ live)) }
     ensures frame { ReadsOnly S.Store tx.old tx.new result }
 {
-    let rows = select_msgs(tx, name.as_bytes())?;
-    let messages = each_with_signals(alloc, tx, name.as_bytes(), &rows, SignalParts::All)?;
-    refuse_orphans(tx, name.as_bytes(), &messages)?;
-    Ok(Items::from_vec(messages))
-}
-
-/// The live messages of the network, in ascending order of their DBC numbers, without receivers and value texts.
-pub(crate) fn bare_messages<S: Alter>(
-    alloc: Global,
-    tx: &mut Transaction<'_, S>,
-    name: &NetName,
-) -> Result<Items<LiveMessage>, Error>
-    ensures found { Asks S.Store tx.old tx.new result
-        (OnLive name.now (λ live found. found ≡ map (live_in read.RowOnly) live)) }
-    ensures frame { ReadsOnly S.Store tx.old tx.new result }
-{
-    let rows = select_msgs(tx, name.as_bytes())?;
-    let messages = each_with_signals(alloc, tx, name.as_bytes(), &rows, SignalParts::RowOnly)?;
-    Ok(Items::from_vec(messages))
+    let messages = messages_with(alloc, tx, name, SignalParts::All)?;
+    refuse_orphans(tx, name.as_bytes(), messages.as_slice())?;
+    Ok(messages)
 }

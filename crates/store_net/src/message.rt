@@ -1,7 +1,7 @@
 //! One live message of a network, as the tables have it: no other message is read.
 ghost use Rattle.std.specs.Prelude.{◌≡◌, map, Option};
 ghost use Rattle.office_rules.specs.Facts.{live_named};
-ghost use Rattle.store_net.specs.SignalParts.{bare_signal, signals_in};
+ghost use Rattle.store_net.specs.SignalParts.{bare_signal, received_signal, signals_in};
 ghost use Rattle.store_tables.specs.Frames.{Asks, ReadsOnly};
 ghost use Rattle.store_net.specs.Reading.{OnLive, OnSignals};
 
@@ -46,6 +46,22 @@ fn bare_signals_at<S: Alter>(
     signals_of(alloc, &sigs, &[], &[])
 }
 
+/// The signals of the network's message with the number, without value texts.
+fn received_signals_at<S: Alter>(
+    alloc: Global,
+    tx: &mut Transaction<'_, S>,
+    net: &[u8],
+    number: u32,
+) -> Result<Signals, Error>
+    ensures found { Asks S.Store tx.old tx.new result
+        (OnSignals net.now number (λ others signals. signals ≡ map received_signal others)) }
+    ensures frame { ReadsOnly S.Store tx.old tx.new result }
+{
+    let sigs = select_sigs(tx, net, number)?;
+    let receivers = select_receivers(tx, net, number)?;
+    signals_of(alloc, &sigs, &receivers, &[])
+}
+
 /// The signals of the network's message with the number, as far as they are wanted.
 pub(crate) fn signals_for<S: Alter>(
     alloc: Global,
@@ -60,6 +76,7 @@ pub(crate) fn signals_for<S: Alter>(
 {
     match detail {
         SignalParts::All => signals_at(alloc, tx, net, number),
+        SignalParts::Received => received_signals_at(alloc, tx, net, number),
         SignalParts::RowOnly => bare_signals_at(alloc, tx, net, number),
     }
 }

@@ -12,7 +12,6 @@ ghost use Rattle.store_tables.specs.Frames.{Asks, ReadsOnly};
 
 use base::Items;
 use can_id::Ident;
-use dbc_sheet::Sheet;
 use office_types::{
     BlockForm, FrozenSheet, GrantedBlock, Head, LiveMessage, NetName, SpnBlock, Team,
 };
@@ -95,20 +94,6 @@ pub(crate) fn approvals_of<S: Alter>(
     ensures frame { ReadsOnly S.Store tx.old tx.new result }
 {
     let rows = select_approvals(tx, name.as_bytes())?;
-    items_of(alloc, &rows)
-}
-
-/// The releases of the network as sheets, from the first one on.
-pub(crate) fn release_sheets_of<S: Alter>(
-    alloc: Global,
-    tx: &mut Transaction<'_, S>,
-    name: &NetName,
-) -> Result<Items<Sheet>, Error>
-    ensures found { Asks S.Store tx.old tx.new result (λ releases t.
-        (others : List SheetModel) → HasReleases name.now t others → releases ≡ others) }
-    ensures frame { ReadsOnly S.Store tx.old tx.new result }
-{
-    let rows = select_releases(tx, name.as_bytes())?;
     items_of(alloc, &rows)
 }
 

@@ -5,6 +5,8 @@
 pub enum SignalParts {
     /// All of them.
     All,
+    /// All but value texts.
+    Received,
     /// All but receivers and value texts.
     RowOnly,
 }

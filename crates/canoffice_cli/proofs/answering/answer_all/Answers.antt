@@ -1,4 +1,5 @@
-use Rattle.std.proofs.Common.{◌≡◌, ◌+◌, ◌<◌, ◌++◌, ◌∷◌, [], List, length, take, ap, ◌∙◌, refl, subst, sym, arith, length-append}
+use Rattle.std.proofs.Common.{◌≡◌, ◌+◌, ◌<◌, ◌++◌, ◌∷◌, [], List, length, take, ap, ◌∙◌, refl, subst, sym, arith}
+use Rattle.std.proofs.Common.{length-append}
 use Rattle.std.proofs.lemmas.List.{take_more}
 use Rattle.std.specs.List.{list_any}
 use Rattle.std.specs.Prelude.{IsFalse}
@@ -93,7 +94,8 @@ returns-then-is_failed-clause-far g c =
     let i = c.loop-arrival.invariant in
     let within = i.within in
     let each = i.each in
-    far_at_loss c.args.strict c.args.arrivals.now c.loop-arrival.answers.items Store (omega (arith, each, within)) i.none
+    far_at_loss c.args.strict c.args.arrivals.now c.loop-arrival.answers.items Store
+    (omega (arith, each, within)) i.none
 
 pub returns-then-is_failed-clause-held : goal.returns-then-is_failed-clause-held
 returns-then-is_failed-clause-held g c clean h holding is_open =

@@ -66,7 +66,8 @@ returns-then-stops-clause-far g c =
     let each = i.each in
     let one = length-append items (c.in-Ok.answer ∷ []) in
     let all = ap length c.push_reserved.ensures.items in
-    far_at_refusal c.args.strict c.args.arrivals.now c.push_reserved.new.self.items (omega (arith, each, one, all, within))
+    far_at_refusal c.args.strict c.args.arrivals.now c.push_reserved.new.self.items
+    (omega (arith, each, one, all, within))
     (ends_here c.args.strict c.stops_at-stops.result items c.push_reserved.new.self.items c.in-Ok.answer i.none
     c.stops_at-stops.ensures c.if-stops.true c.push_reserved.ensures.items)
 

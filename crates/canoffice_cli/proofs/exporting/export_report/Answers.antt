@@ -22,7 +22,8 @@ returns-in_ok-shown-in-Ok g c =
     (λ bytes. IsExportWith before after c.args.path.now c.args.net.now c.args.number
     (Some (record { name = shown_path file; bytes = bytes })) extras.j1939) file (source_at files input file)
     c.in-Ok.bytes.items c.export_with-in-Ok.result c.in-Ok.ensures.bytes
-    (rw (c.deref.ensures.value, c.as_bytes.ensures.value, c.in_ok-shown-in-Ok.ensures.shown) at c.export_with-in-Ok.ensures)
+    (rw (c.deref.ensures.value, c.as_bytes.ensures.value, c.in_ok-shown-in-Ok.ensures.shown) at
+    c.export_with-in-Ok.ensures)
     )
 
 pub returns-in-Err : goal.returns-in-Err

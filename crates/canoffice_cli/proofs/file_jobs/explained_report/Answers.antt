@@ -32,6 +32,8 @@ returns g c =
     let task = c.args.task in
     let stated = c.in_ok-stated.stated.items in
     with_more (IsTaskOutcome files before after task source.text.now)
-    (IsExplanation files task source.name.now source.text.now) c.and_errors.result c.in_ok-report-in_default.report stated
-    c.in_ok-report-in_default.ensures (of_stated files task source.name.now source.text.now stated c.in_ok-stated.ensures)
+    (IsExplanation files task source.name.now source.text.now) c.and_errors.result c.in_ok-report-in_default.report
+    stated
+    c.in_ok-report-in_default.ensures
+    (of_stated files task source.name.now source.text.now stated c.in_ok-stated.ensures)
     (rw c.deref-in_default.ensures.value at c.and_errors.ensures)

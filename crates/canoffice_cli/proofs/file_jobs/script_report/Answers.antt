@@ -7,6 +7,7 @@ returns g c = (
   outcome_of c.in_ok-report.report,
   c.in_ok-report.ensures,
   with_reasons c.args.source.name.now c.args.stated.now c.advice-advice.result.items (outcome_of c.in_ok-report.report)
-      (outcome_of c.in_ok-report-2.report) (outcome_of c.and_advice.result) c.advice-advice.ensures c.in_ok-report-2.ensures
+      (outcome_of c.in_ok-report-2.report)
+      (outcome_of c.and_advice.result) c.advice-advice.ensures c.in_ok-report-2.ensures
       (rw c.deref.ensures.value at c.and_advice.ensures),
 )

@@ -34,7 +34,8 @@ returns-in-Err c =
     let source = c.args.source.now in
     let fault = c.in-Err.fault in
     record {
-      outcome = fault_outcome source fault c.fault_report.result c.fault_report.ensures (λ named. read_fault source fault _
+      outcome = fault_outcome source fault c.fault_report.result c.fault_report.ensures
+          (λ named. read_fault source fault _
           refl named (c.in-Err.ensures.none named) c.in-Err.ensures.within c.in-Err.ensures.tokens);
       unchanged = fault_unchanged source fault c.fault_report.result c.fault_report.ensures
           c.kept_texts_read_as_their_sheets.ensures.read c.in-Err.ensures.none;

@@ -58,22 +58,27 @@ migrate_job-requires c =
     (entered_by_name c.args.matches.now c.in-Some.name.now (rows_of (found_of c.in-Some.found.now)) (codes "migrate")
     c.in-Some.ensures.name c.in-Some.ensures.rows (sym c.eq-7.ensures ∙ c.if-eq-7.true) c.requires).0 refl
 
+pub page_job-requires : goal.page_job-requires
+page_job-requires c =
+    (entered_by_name c.args.matches.now c.in-Some.name.now (rows_of (found_of c.in-Some.found.now)) (codes "page")
+    c.in-Some.ensures.name c.in-Some.ensures.rows (sym c.eq-8.ensures ∙ c.if-eq-8.true) c.requires).1.1.0 refl
+
 pub requests_job-requires : goal.requests_job-requires
 requests_job-requires c =
     (entered_by_name c.args.matches.now c.in-Some.name.now (rows_of (found_of c.in-Some.found.now)) (codes "requests")
-    c.in-Some.ensures.name c.in-Some.ensures.rows (sym c.eq-8.ensures ∙ c.if-eq-8.true) c.requires).1.1.0 refl
+    c.in-Some.ensures.name c.in-Some.ensures.rows (sym c.eq-9.ensures ∙ c.if-eq-9.true) c.requires).1.1.0 refl
 
 pub send_job-requires : goal.send_job-requires
 send_job-requires c =
     (entered_by_name c.args.matches.now c.in-Some.name.now (rows_of (found_of c.in-Some.found.now)) (codes "send")
-    c.in-Some.ensures.name c.in-Some.ensures.rows (sym c.eq-9.ensures ∙ c.if-eq-9.true) c.requires).1.1.1.1.0 refl
+    c.in-Some.ensures.name c.in-Some.ensures.rows (sym c.eq-10.ensures ∙ c.if-eq-10.true) c.requires).1.1.1.1.0 refl
 
 pub serve_job-requires : goal.serve_job-requires
 serve_job-requires c = (entered_by_name c.args.matches.now c.in-Some.name.now (rows_of (found_of c.in-Some.found.now))
-    (codes "serve") c.in-Some.ensures.name c.in-Some.ensures.rows (sym c.eq-10.ensures ∙ c.if-eq-10.true) c.requires).0
+    (codes "serve") c.in-Some.ensures.name c.in-Some.ensures.rows (sym c.eq-11.ensures ∙ c.if-eq-11.true) c.requires).0
     refl
 
 pub table_job-requires : goal.table_job-requires
 table_job-requires c = (entered_by_name c.args.matches.now c.in-Some.name.now (rows_of (found_of c.in-Some.found.now))
-    (codes "table") c.in-Some.ensures.name c.in-Some.ensures.rows (sym c.eq-12.ensures ∙ c.if-eq-12.true) c.requires).0
+    (codes "table") c.in-Some.ensures.name c.in-Some.ensures.rows (sym c.eq-13.ensures ∙ c.if-eq-13.true) c.requires).0
     refl

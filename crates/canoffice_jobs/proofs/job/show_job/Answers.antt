@@ -11,8 +11,8 @@ returns-in-Err-shown_by-clause-fault c =
     let what = optional_in_rows found _ _ c.get_str-3.ensures in
     let name = optional_in_rows found _ _ c.get_str-name.ensures in
     let word = option_map (λ (s : Bor Text). s.now) c.get_str-3.result in
-    inr (inr (
+    inr (inr (inr (
       refl,
       ap (λ (w : Option Text). shown_by w (first_of (codes "NAME") (rows_of found))) what
           ∙ ap (λ (n : Option Text). shown_by word n) name ∙ c.in-Err-shown_by.ensures.wrong,
-    ))
+    )))

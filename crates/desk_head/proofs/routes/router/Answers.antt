@@ -6,6 +6,7 @@ unfolding the_routes
 returns c =
     rw (
       c.in_ok-show.ensures,
+      c.in_ok-add_pages.ensures,
       c.in_ok-add_things.ensures,
       c.in_ok-add_parts.ensures,
       c.in_ok-add_sheets.ensures,

@@ -22,7 +22,7 @@ returns-clause-found g c clean office net there =
     let name = c.args.name.now in
     let s0 = state g.S.Store c.args.tx.now.conn.now in
     let s1 = state g.S.Store c.head_of.new.tx.conn.now in
-    let clean1 : HasCleanDisk s1 = omega (arith, c.bare_messages.ensures.frame.survives.clean) in
+    let clean1 : HasCleanDisk s1 = omega (arith, c.messages_with.ensures.frame.survives.clean) in
     let now1 : s1.now ≡ s0.now = (c.in_ok-head.ensures.frame.same clean1 office).0.now_is in
     let office1 : IsOffice s1.now = subst IsOffice (sym now1) office in
     bare_table name (tables_of s0.now.trees) net c.in-Some.head c.in_ok-live.live c.in_ok-sheet.sheet there

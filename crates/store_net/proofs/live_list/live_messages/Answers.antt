@@ -1,49 +1,11 @@
-use Rattle.std.proofs.Common.{◌≡◌, ◌∙◌, sym, subst, arith, rules}
-use Rattle.sqlite.specs.Effect.{Database}
+use Rattle.std.proofs.Common.{◌∙◌, arith}
 use Rattle.sqlite.specs.Held.{state}
 use Rattle.sqlite.specs.State.{HasCleanDisk}
-use Rattle.sqlite.proofs.Callers.{unchanged_then}
-use Rattle.store_tables.specs.Tables.{IsOffice, tables_of}
-use Rattle.store_rows.specs.Live.{AreLiveRows, live_rows}
-use Rattle.store_rows.proofs.LiveChanges.{each_signals}
-use Rattle.store_rows.proofs.LiveRows.{heads_are_shown}
 use Rattle.store_net.proofs.Bare.{whole_live}
 use Rattle.store_net.proofs.live_list.live_messages.Goals as goal
 
 pub returns-clause-found : goal.returns-clause-found
 returns-clause-found g c clean office live h =
-    let name = c.args.name.now in
-    let s0 = state g.S.Store c.args.tx.now.conn.now in
-    let s1 = state g.S.Store c.select_msgs.new.tx.conn.now in
-    let s2 = state g.S.Store c.each_with_signals.new.tx.conn.now in
-    let clean2 : HasCleanDisk s2 = omega (arith, c.refuse_orphans.ensures.frame.survives.clean, clean) in
-    let clean1 : HasCleanDisk s1 = omega (arith, c.each_with_signals.ensures.frame.survives.clean, clean2) in
-    let first = c.in_ok-rows.ensures.frame.same clean1 office in
-    let now1 : s1.now ≡ s0.now = first.0.now_is in
-    let office1 : IsOffice s1.now = subst IsOffice (sym now1) office in
-    let h1 : AreLiveRows name (live_rows name (tables_of s1.now.trees)) live =
-    subst (λ (d : Database). AreLiveRows name (live_rows name (tables_of d.trees)) live) (sym now1) h in
-    let shown = heads_are_shown name (tables_of s0.now.trees) live c.in_ok-rows.rows.items h
-    (rw c.as_bytes.ensures.bytes at (c.in_ok-rows.ensures.found clean1 office)) in
-    let one = rw c.as_bytes-2.ensures.bytes at (c.in_ok-messages.ensures.found clean2 office1) in
-    c.from_vec.ensures ∙ one live (rw c.deref.ensures.value shown)
-    (each_signals name (live_rows name (tables_of s1.now.trees)) live h1) ∙ whole_live live
-
-pub returns-clause-frame : goal.returns-clause-frame
-returns-clause-frame g c = record {
-  same_reference = search rules;
-  same = λ clean office.
-      let s0 = state g.S.Store c.args.tx.now.conn.now in
-      let s1 = state g.S.Store c.select_msgs.new.tx.conn.now in
-      let s2 = state g.S.Store c.each_with_signals.new.tx.conn.now in
-      let s3 = state g.S.Store c.refuse_orphans.new.tx.conn.now in
-      let clean2 : HasCleanDisk s2 = omega (arith, c.refuse_orphans.ensures.frame.survives.clean, clean) in
-      let clean1 : HasCleanDisk s1 = omega (arith, c.each_with_signals.ensures.frame.survives.clean, clean2) in
-      let first = c.in_ok-rows.ensures.frame.same clean1 office in
-      let office1 : IsOffice s1.now = subst IsOffice (sym first.0.now_is) office in
-      let second = unchanged_then s0 s1 s2 first (c.in_ok-messages.ensures.frame.same clean2 office1 first.0.is_open) in
-      let office2 : IsOffice s2.now = subst IsOffice (sym second.0.now_is) office in
-      unchanged_then s0 s2 s3 second (c.in_ok-refuse_orphans.ensures.frame.same clean office2);
-  kept = search rules;
-  survives = search rules;
-}
+    let s1 = state g.S.Store c.messages_with.new.tx.conn.now in
+    let clean1 : HasCleanDisk s1 = omega (arith, c.refuse_orphans.ensures.frame.survives.clean, clean) in
+    c.in_ok-messages.ensures.found clean1 office live h ∙ whole_live live

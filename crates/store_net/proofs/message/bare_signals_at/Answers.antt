@@ -6,7 +6,7 @@ use Rattle.store_rows.specs.Listed.{AreShown}
 use Rattle.store_rows.specs.SignalShowing.{ShowsPart, ShowsReceiver, ShowsValueText}
 use Rattle.store_rows.proofs.LiveRows.{places_ascend, sigs_are_shown}
 use Rattle.store_net.specs.SignalParts.{bare_signal}
-use Rattle.store_net.proofs.Bare.{bare_ascend, bare_placed, bare_shown, bare_signals, no_parts}
+use Rattle.store_net.proofs.Bare.{no_parts, part_signals, parts_ascend, parts_shown, placed_part}
 use Rattle.store_net.proofs.message.bare_signals_at.Goals as goal
 
 pub returns-clause-found : goal.returns-clause-found
@@ -18,9 +18,12 @@ returns-clause-found g c clean office =
     IfOk-weaker c.signals_of.result _ _
     (λ signals one others h. (
     let shown = sigs_are_shown net number t others sigs h (c.in_ok-sigs.ensures.found clean office) in
-    one (map bare_placed h.placed) (bare_ascend h.placed (places_ascend net number t others h))
-    (rw c.deref.ensures.value (bare_shown h.placed sigs shown))
-    (subst (λ l. AreShown (ShowsPart ShowsReceiver) l []) (sym (no_parts (λ s. s.receivers) h.placed (λ s. refl))) tt)
-    (subst (λ l. AreShown (ShowsPart ShowsValueText) l []) (sym (no_parts (λ s. s.values) h.placed (λ s. refl))) tt)
-    ∙ bare_signals h.placed ∙ ap (map bare_signal) h.are))
+    one (map (placed_part bare_signal) h.placed)
+    (parts_ascend bare_signal h.placed (places_ascend net number t others h))
+    (rw c.deref.ensures.value (parts_shown bare_signal (λ s. refl) h.placed sigs shown))
+    (subst (λ l. AreShown (ShowsPart ShowsReceiver) l [])
+    (sym (no_parts bare_signal (λ s. s.receivers) h.placed (λ s. refl))) tt)
+    (subst (λ l. AreShown (ShowsPart ShowsValueText) l [])
+    (sym (no_parts bare_signal (λ s. s.values) h.placed (λ s. refl))) tt)
+    ∙ part_signals bare_signal h.placed ∙ ap (map bare_signal) h.are))
     c.signals_of.ensures

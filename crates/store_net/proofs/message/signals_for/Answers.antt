@@ -8,3 +8,9 @@ returns-in-All-clause-found g c clean office =
     IfOk-weaker c.signals_at.result _ _
     (λ signals one others are. subst (λ detail. signals ≡ signals_in detail others) (sym c.in-All.is)
     (one others are)) (c.signals_at.ensures.found clean office)
+
+pub returns-in-Received-clause-found : goal.returns-in-Received-clause-found
+returns-in-Received-clause-found g c clean office =
+    IfOk-weaker c.received_signals_at.result _ _
+    (λ signals one others are. subst (λ detail. signals ≡ signals_in detail others) (sym c.in-Received.is)
+    (one others are)) (c.received_signals_at.ensures.found clean office)

@@ -1,4 +1,4 @@
-use Rattle.std.proofs.Common.{◌≡◌, ◌∙◌, [], ◌∷◌, ◌++◌, ap, arith}
+use Rattle.std.proofs.Common.{◌≡◌, ◌∙◌, [], ◌∷◌, ◌++◌, refl, ap, arith}
 use Rattle.std.proofs.lemmas.Result.{on_ok_weaker}
 use Rattle.dbc_sheet.specs.declared.signal.Signal.{Signal}
 use Rattle.sqlite.specs.Held.{state}
@@ -28,7 +28,8 @@ returns-clause-written g c clean office =
     on_ok_weaker c.write_sig.result (λ made q shows.
     let same : place ≡ q.0 = one_number (column c.args.row.now 0) place q.0 c.in_ok-place.ensures shows.place in
     let signal_is : signal ≡ bare_signal q.1 =
-    c.in_ok-signal.ensures (bare_signal q.1) (one_shown q c.args.row.now shows).signal c.new.ensures
+    c.in_ok-signal.ensures (bare_signal q.1)
+    (one_shown bare_signal (λ s. refl) q c.args.row.now shows).signal c.new.ensures
     c.empty.ensures in
     let row_is : row ≡ sig_values net number q.0 (record q.1 { spn = n }) =
     ap (λ (s : Signal). sig_values net number place (record s { spn = given })) signal_is

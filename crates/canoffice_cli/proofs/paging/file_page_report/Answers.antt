@@ -1,0 +1,26 @@
+use Rattle.std.proofs.Common.{inl, inr, map, ap, refl, ◌∙◌}
+use Rattle.dbc_read.specs.Passed.{start_and_keyword}
+use Rattle.dbc_read.proofs.ReadFaults.{read_fault}
+use Rattle.office_page.specs.Page.{file_page}
+use Rattle.canoffice_cli.specs.Formatted.{fault_errors}
+use Rattle.canoffice_cli.specs.Outcome.{success}
+use Rattle.canoffice_cli.proofs.paging.file_page_report.Goals as goal
+
+pub returns-in_ok-output-in-Ok : goal.returns-in_ok-output-in-Ok
+returns-in_ok-output-in-Ok c =
+    let sheet = c.in-Ok.reading.sheet in
+    let named = ap (λ name. file_page name sheet) c.page_name.ensures in
+    inl (
+      sheet,
+      (map start_and_keyword c.in-Ok.reading.passed, c.in-Ok.ensures.reads),
+      c.of_output.ensures ∙ ap success (c.in_ok-output-in-Ok.ensures ∙ named),
+    )
+
+pub returns-in_ok-line-in_default : goal.returns-in_ok-line-in_default
+returns-in_ok-line-in_default c =
+    inr (
+      c.in-Err.fault,
+      read_fault c.args.source.now c.in-Err.fault _ refl c.in_default.not-Memory
+          (c.in-Err.ensures.none c.in_default.not-Memory) c.in-Err.ensures.within c.in-Err.ensures.tokens,
+      c.of_errors.ensures ∙ ap fault_errors c.in_ok-line-in_default.ensures,
+    )

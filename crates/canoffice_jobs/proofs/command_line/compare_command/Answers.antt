@@ -1,0 +1,4 @@
+use Rattle.canoffice_jobs.proofs.command_line.compare_command.Goals as goal
+
+pub returns : goal.returns
+returns c = c.with_compared.ensures _ (c.with_place-placed.ensures _ c.named_with_usage-start.ensures)

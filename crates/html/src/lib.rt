@@ -1,0 +1,26 @@
+//! Texts of HTML, in ASCII alone.
+//!
+//! - [`push_text`]: any bytes as a text, or as the value of an attribute. Bytes that are well-formed UTF-8 are shown as
+//!   their characters ([`utf8_is_decoded`]), and each other byte as the character of its number. What is written reads
+//!   back as what is shown, whatever the bytes are ([`escaped_texts_read_back`]): no bytes end the text or the
+//!   attribute. A plain text stays what it is ([`plain_texts_are_kept`]).
+//! - [`push_number`] and [`push_wide_number`], [`push_attribute`], [`push_link`]: decimals, attributes, links within a
+//!   page. [`push_joined`] and [`push_names`]: texts, or names, with a separator between them.
+//! - [`push_tag`], [`push_classed_tag`], [`push_end_tag`], [`push_table_start`]: tags, and the start of a table.
+//!
+//! Each appends to a buffer, and fails only if memory runs out. The definitions are in `specs/`: `Characters.antt` has
+//! the characters of bytes, `Text.antt` how they are shown and written, `Reading.antt` how a browser reads them, and
+//! `Elements.antt` elements and tables.
+#![tactic(auto)]
+
+mod characters;
+mod elements;
+mod escaping;
+mod laws;
+
+pub use elements::{
+    push_attribute, push_classed_tag, push_end_tag, push_joined, push_link, push_names,
+    push_number, push_table_start, push_tag, push_wide_number,
+};
+pub use escaping::push_text;
+pub use laws::{escaped_texts_read_back, plain_texts_are_kept, utf8_is_decoded};

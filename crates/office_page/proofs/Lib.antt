@@ -1,0 +1,2 @@
+mod HeadRows
+pub mod ReleasePages

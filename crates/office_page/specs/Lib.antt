@@ -1,0 +1,3 @@
+pub mod Head
+pub mod Style
+pub mod Page

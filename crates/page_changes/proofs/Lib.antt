@@ -1,0 +1,2 @@
+mod ChangeRows
+pub mod Differences

@@ -1,0 +1,4 @@
+mod NumberRows
+mod ReleaseRows
+mod SheetRows
+pub mod LastReleases

@@ -1,0 +1,17 @@
+use Rattle.std.proofs.Common.{append_assoc}
+use Rattle.page_lists.proofs.nodes.push_node_row.Goals as goal
+
+pub returns : goal.returns
+returns c =
+    simp (
+      append_assoc,
+      c.in_ok-extend_from_slice-6.ensures.items,
+      c.in_ok-push_text.ensures,
+      c.in_ok-extend_from_slice-5.ensures.items,
+      c.in_ok-push_number-2.ensures,
+      c.in_ok-extend_from_slice-4.ensures.items,
+      c.in_ok-push_number.ensures,
+      c.in_ok-extend_from_slice-3.ensures.items,
+      c.in_ok-extend_from_slice-2.ensures.items,
+      c.in_ok-extend_from_slice.ensures.items,
+    ) (cc)

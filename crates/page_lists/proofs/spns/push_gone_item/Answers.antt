@@ -1,0 +1,14 @@
+use Rattle.std.proofs.Common.{append_assoc}
+use Rattle.page_lists.proofs.spns.push_gone_item.Goals as goal
+
+pub returns : goal.returns
+returns c =
+    simp (
+      append_assoc,
+      c.in_ok-extend_from_slice-3.ensures.items,
+      c.in_ok-push_gone_places.ensures,
+      c.in_ok-extend_from_slice-2.ensures.items,
+      c.in_ok-push_number.ensures,
+      c.in_ok-extend_from_slice.ensures.items,
+      c.in_ok-push_number_start.ensures,
+    ) (cc)

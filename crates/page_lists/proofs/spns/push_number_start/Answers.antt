@@ -1,0 +1,12 @@
+use Rattle.std.proofs.Common.{append_assoc}
+use Rattle.page_lists.proofs.spns.push_number_start.Goals as goal
+
+pub returns : goal.returns
+returns c =
+    simp (
+      append_assoc,
+      c.in_ok-extend_from_slice-3.ensures.items,
+      c.in_ok-push_number.ensures,
+      c.in_ok-extend_from_slice-2.ensures.items,
+      c.in_ok-extend_from_slice.ensures.items,
+    )

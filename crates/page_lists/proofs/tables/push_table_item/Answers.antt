@@ -1,0 +1,13 @@
+use Rattle.std.proofs.Common.{append_assoc}
+use Rattle.page_lists.proofs.tables.push_table_item.Goals as goal
+
+pub returns : goal.returns
+returns c =
+    simp (
+      append_assoc,
+      c.in_ok-extend_from_slice-4.ensures.items,
+      c.in_ok-push_values.ensures,
+      c.in_ok-extend_from_slice-3.ensures.items,
+      c.in_ok-extend_from_slice-2.ensures.items,
+      c.in_ok-extend_from_slice.ensures.items,
+    ) (cc)

@@ -1,0 +1,4 @@
+pub mod Holding
+pub mod Reversed
+mod BitRows
+mod UsedRows

@@ -1,0 +1,11 @@
+use Rattle.std.proofs.Common.{◌≡◌, ◌≤◌}
+use Rattle.std.specs.List.{count_by, range_with_len}
+use Rattle.page_messages.specs.Used.{has_position}
+use Rattle.page_messages.proofs.used.used_bits.Given as goal
+
+abbrev pub invariant-loop-position : goal.invariant-loop-position
+invariant-loop-position l = record {
+  counted : l.count ≡ count_by (has_position l.signals)
+      (range_with_len 0 l.position);
+  few : l.count ≤ l.position;
+}

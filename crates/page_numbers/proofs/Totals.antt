@@ -1,0 +1,44 @@
+-- Sums and lists over the items that pass a test, item by item.
+use Rattle.std.proofs.Common.{◌≡◌, ◌+◌, ◌<◌, ◌++◌, ℕ, Bool, true, false, List, [], ◌∷◌, length, take, filter, get_or}
+use Rattle.std.proofs.Common.{map, sum}
+use Rattle.std.proofs.Common.{sym, ap, ◌∙◌, append-nil}
+use Rattle.std.specs.List.{flat_map, sum_by}
+use Rattle.std.proofs.lemmas.List.{take_more}
+use Rattle.std.proofs.lemmas.List.Concat.{flat_map-append}
+use Rattle.std.proofs.lemmas.List.Sums.{sum-map, sum_by_push}
+use Rattle.html.proofs.Pushing.{filter_failed, filter_passed}
+
+module _ {X : Type 0} (p : X → Bool) (xs : List X) (i : ℕ) (x : X) (below : i < length xs) (is : x
+    ≡ get_or xs i x) where
+  pub sum_kept : (f : X → ℕ) (count more : ℕ) → p x ≡ true → count ≡ sum (map f (filter p (take i xs))) → more ≡ f x
+      → count + more ≡ sum (map f (filter p (take (i + 1) xs)))
+  sum_kept f count more e so one =
+      ap (λ n. n + more) (so ∙ sum-map f (filter p (take i xs)))
+      ∙ ap (λ n. sum_by f (filter p (take i xs)) + n) one
+      ∙ sym (sum_by_push f (filter p (take i xs)) x)
+      ∙ ap (sum_by f) (sym (filter_passed p xs i x below is e))
+      ∙ sym (sum-map f (filter p (take (i + 1) xs)))
+
+  pub sum_passed : (f : X → ℕ) (count : ℕ) → p x ≡ false → count ≡ sum (map f (filter p (take i xs)))
+      → count ≡ sum (map f (filter p (take (i + 1) xs)))
+  sum_passed f count e so = so ∙ ap (λ ys. sum (map f ys)) (sym (filter_failed p xs i x below is e))
+
+  pub list_kept : {A : Type 0} (f : X → List A) (before piece after : List A) → p x ≡ true
+      → before ≡ flat_map f (filter p (take i xs)) → piece ≡ f x → after ≡ before ++ piece
+      → after ≡ flat_map f (filter p (take (i + 1) xs))
+  list_kept f before piece after e so one more =
+      more ∙ ap (λ v. v ++ piece) so ∙ ap (λ v. flat_map f (filter p (take i xs)) ++ v) (one ∙ sym (append-nil (f x)))
+      ∙ sym (flat_map-append f (filter p (take i xs)) (x ∷ []))
+      ∙ ap (flat_map f) (sym (filter_passed p xs i x below is e))
+
+  pub list_passed : {A : Type 0} (f : X → List A) (before : List A) → p x ≡ false
+      → before ≡ flat_map f (filter p (take i xs)) → before ≡ flat_map f (filter p (take (i + 1) xs))
+  list_passed f before e so = so ∙ ap (flat_map f) (sym (filter_failed p xs i x below is e))
+
+-- of one item more
+pub list_more : {X A : Type 0} (f : X → List A) (xs : List X) (i : ℕ) (x : X) (before after : List A) → i < length xs
+    → x ≡ get_or xs i x → before ≡ flat_map f (take i xs) → after ≡ before ++ f x → after ≡ flat_map f (take (i + 1) xs)
+list_more f xs i x before after within is so more =
+    more ∙ ap (λ v. v ++ f x) so
+    ∙ sym (flat_map-append f (take i xs) (x ∷ []) ∙ ap (λ v. flat_map f (take i xs) ++ v) (append-nil (f x)))
+    ∙ ap (λ y. flat_map f (take i xs ++ y ∷ [])) is ∙ ap (flat_map f) (sym (take_more xs i x within))

@@ -1,0 +1,12 @@
+use Rattle.std.proofs.Common.{append_assoc}
+use Rattle.page_numbers.proofs.map.push_legend_item.Goals as goal
+
+pub returns : goal.returns
+returns c =
+    simp (
+      append_assoc,
+      c.in_ok-push_text.ensures,
+      c.in_ok-extend_from_slice-2.ensures.items,
+      c.in_ok-push_letter_box.ensures,
+      c.in_ok-extend_from_slice.ensures.items,
+    ) (cc)

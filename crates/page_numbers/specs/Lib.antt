@@ -1,0 +1,3 @@
+pub mod Map
+pub mod LiveIndex
+pub mod Left

@@ -1,0 +1,5 @@
+pub mod Owning
+pub mod PlainNames
+pub mod Sample
+pub mod Used
+mod SmallRows

@@ -1,0 +1,97 @@
+//! A network, or a release of it, on one page.
+ghost use Rattle.std.specs.Prelude.{◌≡◌, IfOk};
+ghost use Rattle.std.specs.Option.{option_and_then, option_map};
+ghost use Rattle.office_looks.specs.declared.reads.MessagesRead.TheVariants.{Whole};
+ghost use Rattle.office_looks.specs.declared.reads.ReleasesRead.TheVariants.{All};
+ghost use Rattle.office_page.specs.Page.{page_of, release_page};
+ghost use Rattle.store_looks.specs.Seen.{OnNetAndBook, net_page, net_release_page, whole_view};
+ghost use Rattle.store_tables.specs.Frames.{Asks, ReadsOnly};
+
+use crate::view::view_at;
+use office_looks::{MessagesRead, Reads, ReleasesRead};
+use office_page::{page_of, release_page};
+use office_seen::View;
+use office_types::NetName;
+use sqlite::{Alter, Error, Transaction};
+use std::alloc::{AllocError, Global};
+
+/// A page shows the live messages whole, and all releases.
+fn all_read() -> Reads
+    ensures { result ≡ record { messages = Whole; releases = All } }
+{
+    Reads {
+        messages: MessagesRead::Whole,
+        releases: ReleasesRead::All,
+    }
+}
+
+/// What is seen of the whole network of the name; `None` where it isn't there. The errors are those of [`page_at`].
+fn whole_view_at<S: Alter>(
+    alloc: Global,
+    tx: &mut Transaction<'_, S>,
+    name: &NetName,
+) -> Result<Option<View>, Error>
+    ensures found { Asks S.Store tx.old tx.new result (OnNetAndBook name.now (λ net book found.
+        found ≡ whole_view net book)) }
+    ensures frame { ReadsOnly S.Store tx.old tx.new result }
+{
+    let reads = all_read();
+    view_at(alloc, tx, name, reads)
+}
+
+/// The page of what is seen, if anything is.
+fn page_of_seen(alloc: Global, view: Option<View>) -> Result<Option<Vec<u8>>, AllocError>
+    ensures { IfOk result (λ page. option_map (λ text. text.items) page
+        ≡ option_map page_of view) }
+{
+    match view {
+        Some(view) => Ok(Some(page_of(alloc, &view)?)),
+        None => Ok(None),
+    }
+}
+
+/// The page of the release of this number of what is seen, if there is one.
+fn release_page_of_seen(
+    alloc: Global,
+    view: Option<View>,
+    number: u32,
+) -> Result<Option<Vec<u8>>, AllocError>
+    ensures { IfOk result (λ page. option_map (λ text. text.items) page
+        ≡ option_and_then (λ v. release_page v number) view) }
+{
+    match view {
+        Some(view) => release_page(alloc, &view, number),
+        None => Ok(None),
+    }
+}
+
+/// The page of the network of the name; `None` where it isn't there. An error is out of memory, what `sqlite` answers,
+/// or `InvalidQuery` where the rows are no office's.
+pub fn page_at<S: Alter>(
+    alloc: Global,
+    tx: &mut Transaction<'_, S>,
+    name: &NetName,
+) -> Result<Option<Vec<u8>>, Error>
+    ensures found { Asks S.Store tx.old tx.new result (OnNetAndBook name.now (λ net book found.
+        option_map (λ text. text.items) found ≡ net_page net book)) }
+    ensures frame { ReadsOnly S.Store tx.old tx.new result }
+{
+    let view = whole_view_at(alloc, tx, name)?;
+    Ok(page_of_seen(alloc, view)?)
+}
+
+/// The page of the release of this number of the network of the name; `None` where it isn't there. The errors are those
+/// of [`page_at`].
+pub fn release_page_at<S: Alter>(
+    alloc: Global,
+    tx: &mut Transaction<'_, S>,
+    name: &NetName,
+    number: u32,
+) -> Result<Option<Vec<u8>>, Error>
+    ensures found { Asks S.Store tx.old tx.new result (OnNetAndBook name.now (λ net book found.
+        option_map (λ text. text.items) found ≡ net_release_page net book number)) }
+    ensures frame { ReadsOnly S.Store tx.old tx.new result }
+{
+    let view = whole_view_at(alloc, tx, name)?;
+    Ok(release_page_of_seen(alloc, view, number)?)
+}

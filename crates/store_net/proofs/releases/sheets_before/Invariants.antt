@@ -1,0 +1,6 @@
+use Rattle.std.proofs.Common.{◌≡◌, length}
+use Rattle.store_net.proofs.releases.sheets_before.Given as goal
+
+-- as many as were counted
+abbrev pub invariant-loop : goal.invariant-loop
+invariant-loop l = length l.sheets ≡ l.counter

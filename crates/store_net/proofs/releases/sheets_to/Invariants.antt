@@ -1,0 +1,23 @@
+use Rattle.std.proofs.Common.{◌≡◌, Option, take}
+use Rattle.std.specs.Prelude.{IsTrue}
+use Rattle.sqlite.specs.Held.{state}
+use Rattle.sqlite.specs.State.{HasCleanDisk, IsUnchanged, KeepsCommit, Survives}
+use Rattle.office_types.specs.declared.state.Net.{Net}
+use Rattle.store_tables.specs.Tables.{IsOffice, tables_of}
+use Rattle.store_rows.specs.NetIn.{IsNetAt}
+use Rattle.store_net.specs.Parts.{releases_in}
+use Rattle.store_net.proofs.releases.sheets_to.Given as goal
+
+abbrev pub invariant-loop-index : goal.invariant-loop-index
+invariant-loop-index g l =
+    let old = state g.S.Store l.fn.tx.conn.now in
+    let now = state g.S.Store l.tx.conn.now in
+    record {
+      same_reference : l.tx.conn.ghost_name ≡ l.fn.tx.conn.ghost_name;
+      now_is : HasCleanDisk now → IsOffice old.now → now.now ≡ old.now;
+      same : HasCleanDisk now → IsOffice old.now → IsTrue old.is_open → IsUnchanged old now;
+      kept : HasCleanDisk now → IsOffice old.now → KeepsCommit old now;
+      survives : Survives old now (λ _. ⊥);
+      reported : HasCleanDisk now → IsOffice old.now → (net : Option Net)
+          → IsNetAt l.name (tables_of old.now.trees) net → l.sheets ≡ take l.index (releases_in net);
+    }

@@ -1,11 +1,10 @@
 -- The head computed.
-use Rattle.std.proofs.Common.{◌≡◌, [], ◌++◌, codes, map, refl}
+use Rattle.std.proofs.Common.{◌≡◌, [], ◌++◌, codes, refl}
 use Rattle.std.specs.Fmt.{digits}
-use Rattle.office_types.specs.declared.block.BlockForm.TheVariants as form
 use Rattle.office_types.specs.declared.state.Phase.TheVariants.{Draft}
 use Rattle.office_page.specs.Head.{head_of_sheet, phase_line, since_line}
 use Rattle.page_plan.specs.Plan.{file_plan, live_plan}
-use Rattle.page_plan.proofs.Sample.{engine, view}
+use Rattle.page_plan.proofs.Sample.{view}
 
 review : phase_line view (live_plan view)
     ≡ codes "<p><b class=i>In review</b> Submitted by engine. Approved by lights: 1 of 2. <b>1 approval to come</b>, of any other team.</p>\n"

@@ -44,6 +44,14 @@ impl FrozenSheets {
     {
         self.sheets.as_slice()
     }
+
+    /// The sheets, from the first release on, moved out. Takes no memory.
+    pub fn into_items(self) -> Items<Sheet>
+        ensures { result ≡ self }
+    {
+        let FrozenSheets { sheets } = self;
+        sheets
+    }
 }
 
 impl Drop for FrozenSheets {

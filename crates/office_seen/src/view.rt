@@ -1,4 +1,6 @@
 //! What is seen of a network.
+ghost use Rattle.std.specs.Prelude.{◌≡◌};
+
 use crate::frozen::FrozenSheets;
 use base::Items;
 use can_id::Ident;
@@ -29,6 +31,28 @@ pub struct View {
     pub releases: FrozenSheets,
     /// The suspect parameter numbers that were ever used, on any network.
     pub used: UsedSpns,
+}
+
+impl View {
+    /// Its releases as sheets, from the first one on, moved out of it. Takes no memory.
+    pub fn into_releases(self) -> Items<Sheet>
+        ensures { result ≡ self.releases }
+    {
+        let View {
+            name: _name,
+            kind: _kind,
+            reviews: _reviews,
+            phase: _phase,
+            sheet: _sheet,
+            owners: _owners,
+            blocks: _blocks,
+            held: _held,
+            approvals: _approvals,
+            releases,
+            used: _used,
+        } = self;
+        releases.into_items()
+    }
 }
 
 impl Drop for View {

@@ -2,11 +2,10 @@
 use Rattle.std.proofs.Common.{◌≡◌, [], ◌∷◌, codes, refl}
 use Rattle.std.specs.Fmt.{digits}
 use Rattle.can_id.specs.declared.ident.Ident.TheVariants.{Ext}
-use Rattle.office_types.specs.declared.block.BlockForm.TheVariants as form
 use Rattle.page_lists.specs.Held.{held_row}
 use Rattle.page_plan.specs.Plan.{live_plan}
 use Rattle.page_lists.specs.Spns.{spns_part}
-use Rattle.page_plan.proofs.Sample.{engine, lamp, sheet_with, view}
+use Rattle.page_plan.proofs.Sample.{lamp, sheet_with, view}
 
 held : held_row view (live_plan view) (Ext 486478859)
     ≡ codes "<tr><th><code>1CFF140B</code><td>2633962507<td>65300<td><td><td><b class=\"l t0\">A</b> engine\n"

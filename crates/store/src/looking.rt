@@ -16,15 +16,16 @@ use office_history::histories_leave_offices;
 use office_types::Look;
 use sqlite::{Alter, Connection, Error, Transaction};
 use std::alloc::Global;
-use store_looks::{net_look_at, page_at, release_page_at, requests_at};
+use store_looks::{RememberedTexts, net_look_at, page_at, release_page_at, requests_at};
 use store_net::{live_chart, live_table, live_text, nets_text, release_text};
 use store_tables::knows_schema;
 
-/// Answers a look inside a transaction.
+/// Answers a look inside a transaction, with the texts that are known.
 fn look_inside<S: Alter>(
     alloc: Global,
     tx: &mut Transaction<'_, S>,
     look: &Look,
+    known: &mut Option<RememberedTexts>,
 ) -> Result<Option<Vec<u8>>, Error>
     ensures found { Asks S.Store tx.old tx.new result (λ text t.
         (h : List Answered) → (holds : Holds h t)
@@ -38,9 +39,9 @@ fn look_inside<S: Alter>(
         Look::Live(net) => live_text(alloc, tx, net),
         Look::Release(net, number) => release_text(alloc, tx, net, *number),
         Look::Chart(net, message) => live_chart(alloc, tx, net, message),
-        Look::Net(net, look) => net_look_at(alloc, tx, net, look),
-        Look::Page(net) => page_at(alloc, tx, net),
-        Look::ReleasePage(net, number) => release_page_at(alloc, tx, net, *number),
+        Look::Net(net, look) => net_look_at(alloc, tx, net, look, known),
+        Look::Page(net) => page_at(alloc, tx, net, known),
+        Look::ReleasePage(net, number) => release_page_at(alloc, tx, net, *number, known),
         Look::Requests(team) => Ok(Some(requests_at(alloc, tx, team)?)),
     }
 }
@@ -50,6 +51,7 @@ fn look_alone<S: Alter>(
     alloc: Global,
     conn: &mut Connection<S>,
     look: &Look,
+    known: &mut Option<RememberedTexts>,
 ) -> Result<Option<Vec<u8>>, Error>
     requires { IsSettled S.Store conn.old }
     ensures autocommit { IsSettled S.Store conn.new }
@@ -66,7 +68,7 @@ fn look_alone<S: Alter>(
     leaves_committed(conn);
     let _settled = conn.is_autocommit();
     let mut tx = conn.transaction();
-    let text = look_inside(alloc, &mut tx, look)?;
+    let text = look_inside(alloc, &mut tx, look, known)?;
     let done = tx.commit();
     leaves_committed(conn);
     done?;
@@ -95,9 +97,10 @@ impl<S: Alter> StoredOffice<S> {
         if self.failed {
             return Err(Lost::Store);
         }
-        match look_alone(alloc, &mut self.conn, look) {
+        match look_alone(alloc, &mut self.conn, look, &mut self.known) {
             Ok(text) => Ok(text),
             Err(error) => {
+                self.known = None;
                 let lost = loss_by(&mut self.conn, error);
                 self.failed = lost == Lost::Store;
                 Err(lost)

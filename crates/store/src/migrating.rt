@@ -103,6 +103,7 @@ impl<S: Alter> StoredOffice<S> {
                 Ok(StoredOffice {
                     conn,
                     failed: false,
+                    known: None,
                 })
             }
             Err(lost) => Err((lost, conn)),

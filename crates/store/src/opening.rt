@@ -180,6 +180,7 @@ impl<S: Alter> StoredOffice<S> {
                 Ok(StoredOffice {
                     conn,
                     failed: false,
+                    known: None,
                 })
             }
             Err(lost) => Err((lost, conn)),

@@ -7,11 +7,18 @@ ghost use Rattle.store.specs.Calls.{IsSettled};
 use crate::opening::leaves_committed;
 use sqlite::{Alter, Connection};
 use std::marker::Model;
+use store_looks::RememberedTexts;
 
 /// An office that is kept in the tables of a connection. Between calls no transaction is open.
+///
+/// It remembers the releases that its last look at all of a network's releases read, each as its text with the sheet
+/// that it reads as: at most [`REMEMBERED_LIMIT`](store_looks::REMEMBERED_LIMIT) bytes of text, which take some five
+/// times as much memory with their sheets. Each look fetches the bodies, and reads those that are other texts. Where a
+/// look's transaction fails, nothing is remembered.
 pub struct StoredOffice<S: Alter> {
     pub(crate) conn: Connection<S>,
     pub(crate) failed: bool,
+    pub(crate) known: Option<RememberedTexts>,
 }
 
 impl<S: Alter> Model for StoredOffice<S> {
@@ -54,6 +61,7 @@ impl<S: Alter> StoredOffice<S> {
         let StoredOffice {
             conn,
             failed: _failed,
+            known: _known,
         } = self;
         conn
     }
@@ -64,6 +72,7 @@ impl<S: Alter + Drop> Drop for StoredOffice<S> {
         let StoredOffice {
             conn: _conn,
             failed: _failed,
+            known: _known,
         } = self;
     }
 }

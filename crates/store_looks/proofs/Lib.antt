@@ -1,3 +1,4 @@
 mod Seeing
 pub mod Asked
 mod ReadWhole
+mod RememberedRows

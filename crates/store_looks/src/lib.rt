@@ -7,6 +7,10 @@
 //! a command was refused. All are called in a transaction, and change nothing. An error is out of memory, what `sqlite`
 //! answers, or `InvalidQuery` where the rows are no office's.
 //!
+//! Looks and pages that depend on all releases are given the texts that are known of an earlier one
+//! ([`RememberedTexts`]), and leave theirs for the next: a body that is the known text, byte for byte, isn't read
+//! again. What is known says nothing of the tables, so the body is fetched each time.
+//!
 //! The definitions are of `office_seen`: `View.antt` (what is seen of a network), of `office_looks`: `Looks.antt` (the
 //! text), of `office_page`: `Page.antt` (the page), and of `office_requests`: `Requests.antt`. Those in `specs/` say
 //! what is seen of the tables (`Seen.antt`), and which requests are those of a team (`Asked.antt`).
@@ -15,6 +19,7 @@
 mod paged;
 mod reading;
 mod requests;
+mod seen;
 mod shown;
 mod view;
 
@@ -22,3 +27,4 @@ pub use paged::{page_at, release_page_at};
 pub use reading::{ReadNet, read_net_at};
 pub use requests::requests_at;
 pub use shown::net_look_at;
+pub use store_bodies::{REMEMBERED_LIMIT, RememberedTexts};

@@ -12,8 +12,8 @@ ghost use Rattle.store_looks.specs.Seen.{IsSeen, OnNetAndBook};
 ghost use Rattle.store_net.specs.Reading.{OnNet, OnNetThere};
 ghost use Rattle.store_tables.specs.Frames.{Asks, ReadsOnly, ReadsWhileOpen};
 
+use crate::seen::{NetSeen, ReleasesSeen, taken};
 use base::{Copying, Items};
-use dbc_sheet::Sheet;
 use office_looks::{MessagesRead, Reads, ReleasesRead};
 use office_seen::{FrozenSheets, View};
 use office_types::{
@@ -21,8 +21,9 @@ use office_types::{
 };
 use sqlite::{Alter, Error, Transaction};
 use std::alloc::{AllocError, Global};
+use store_bodies::RememberedTexts;
 use store_net::{
-    SignalParts, book_of, last_sheets_at, live_sheet, outline_at, partial_net_at, release_sheets_at,
+    SignalParts, book_of, last_sheets_at, live_sheet, outline_at, partial_net_at, release_texts_at,
 };
 
 /// The teams that own the messages, in order. The error is out of memory.
@@ -67,17 +68,18 @@ fn blocks_of(alloc: Global, net: &Net, book: &SpnBook) -> Result<Items<GrantedBl
 
 /// The network as it is seen with these releases and the book. An error is out of memory, or `InvalidQuery` where the
 /// parts are no office's.
-fn seen(alloc: Global, net: &Net, releases: Items<Sheet>, book: &SpnBook) -> Result<View, Error>
+fn seen(alloc: Global, net: &Net, releases: ReleasesSeen, book: &SpnBook) -> Result<NetSeen, Error>
     ensures { IfOk result (λ view. IsStrictlySortedBy by_number (live_messages net.now.live)
         → view ≡ view_of (with_releases releases net.now) book.now) }
 {
-    let Some(releases) = FrozenSheets::of(releases) else {
+    let (sheets, texts) = releases.into_parts();
+    let Some(releases) = FrozenSheets::of(sheets) else {
         return Err(Error::InvalidQuery);
     };
     let owners = owners_of(alloc, net.live.as_slice())?;
     let blocks = blocks_of(alloc, net, book)?;
     let sheet = live_sheet(alloc, net.head.duplicate(alloc)?, net.live.as_slice())?;
-    Ok(View {
+    let view = View {
         name: net.name.duplicate(alloc)?,
         kind: net.head.kind,
         reviews: net.head.reviews,
@@ -89,7 +91,8 @@ fn seen(alloc: Global, net: &Net, releases: Items<Sheet>, book: &SpnBook) -> Res
         approvals: net.approvals.duplicate(alloc)?,
         releases,
         used: book.used.duplicate(alloc)?,
-    })
+    };
+    Ok(NetSeen::of(view, texts))
 }
 
 /// The network of the name with its live messages as far as they are read, and without its releases; `None` where it
@@ -112,32 +115,42 @@ fn net_for<S: Alter>(
     }
 }
 
-/// The releases of the network of the name, as far as they are read. The errors are those of [`view_at`].
+/// The releases of the network of the name, as far as they are read. Where all of them are, the known texts are taken.
+/// The errors are those of [`view_at`].
 fn releases_for<S: Alter>(
     alloc: Global,
     tx: &mut Transaction<'_, S>,
     name: &NetName,
     releases: ReleasesRead,
-) -> Result<Items<Sheet>, Error>
+    known: &mut Option<RememberedTexts>,
+) -> Result<ReleasesSeen, Error>
     ensures found { Asks S.Store tx.old tx.new result
         (OnNetThere name.now (λ net found. AreRead releases net.releases found)) }
     ensures frame { ReadsWhileOpen S.Store tx.old tx.new result }
 {
     match releases {
-        ReleasesRead::Nothing => Ok(Items::new(alloc)),
-        ReleasesRead::Last => last_sheets_at(alloc, tx, name),
-        ReleasesRead::All => release_sheets_at(alloc, tx, name),
+        ReleasesRead::Nothing => Ok(ReleasesSeen::without_texts(Items::new(alloc))),
+        ReleasesRead::Last => {
+            let sheets = last_sheets_at(alloc, tx, name)?;
+            Ok(ReleasesSeen::without_texts(sheets))
+        }
+        ReleasesRead::All => {
+            let read = release_texts_at(alloc, tx, name, taken(alloc, known))?;
+            Ok(ReleasesSeen::of(read))
+        }
     }
 }
 
-/// What is seen of the network of the name where so much is read of it, `None` where it isn't there. An error is out of
-/// memory, what `sqlite` answers, or `InvalidQuery` where the rows are no office's.
+/// What is seen of the network of the name where so much is read of it, `None` where it isn't there. Where all releases
+/// are read, the known texts are taken. An error is out of memory, what `sqlite` answers, or `InvalidQuery` where the
+/// rows are no office's.
 pub(crate) fn view_at<S: Alter>(
     alloc: Global,
     tx: &mut Transaction<'_, S>,
     name: &NetName,
     reads: Reads,
-) -> Result<Option<View>, Error>
+    known: &mut Option<RememberedTexts>,
+) -> Result<Option<NetSeen>, Error>
     ensures found { Asks S.Store tx.old tx.new result (OnNetAndBook name.now (IsSeen reads)) }
     ensures frame { ReadsOnly S.Store tx.old tx.new result }
 {
@@ -145,6 +158,6 @@ pub(crate) fn view_at<S: Alter>(
         return Ok(None);
     };
     let book = book_of(alloc, tx)?;
-    let releases = releases_for(alloc, tx, name, reads.releases)?;
+    let releases = releases_for(alloc, tx, name, reads.releases, known)?;
     Ok(Some(seen(alloc, &net, releases, &book)?))
 }

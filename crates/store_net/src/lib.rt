@@ -2,7 +2,7 @@
 //!
 //! Reading: [`net_at`] reads the network of a name, and [`book_of`] the book of suspect parameter numbers. If the
 //! tables have a network under the name (`IsNetAt` of `store_rows`), that is the one that `net_at` gives, and so it is
-//! with the book and with the releases as sheets ([`release_sheets_at`]); the rows of other networks may be any. Each
+//! with the book and with the releases as sheets ([`release_texts_at`]); the rows of other networks may be any. Each
 //! part is one SELECT, and one function (`parts`). [`live_text`] gives the canonical text of a network's live sheet,
 //! [`live_table`] the table of its messages and [`live_chart`] the chart of one of them; [`release_text`] gives the
 //! canonical text of a release, which reads as the release and as no other sheet. [`nets_text`] lists all networks
@@ -62,7 +62,7 @@ pub use nets::{names_of, nets_text};
 pub use parts::live_of;
 pub use reading::{book_of, counted_net_at, net_at, outline_at, partial_net_at, unreleased_net_at};
 pub use release::release_text;
-pub use releases::{last_sheets_at, release_sheets_at};
+pub use releases::{last_sheets_at, release_texts_at};
 pub use replies::{answer_at, keep_reply};
 pub use requests::{KeptRequest, kept_at, keys_of};
 pub use signal_parts::SignalParts;

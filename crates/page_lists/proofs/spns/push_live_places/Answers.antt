@@ -1,4 +1,5 @@
-use Rattle.std.proofs.Common.{◌≡◌, ◌++◌, ◌-◌, ◌≤◌, List, [], ◌∷◌, suc, codes, drop, get_or, length, take, ap, ◌∙◌, arith}
+use Rattle.std.proofs.Common.{◌≡◌, ◌++◌, ◌-◌, ◌≤◌, List, [], ◌∷◌, suc, codes, drop, get_or, length, take}
+use Rattle.std.proofs.Common.{ap, ◌∙◌, arith}
 use Rattle.std.specs.List.{flat_map}
 use Rattle.std.proofs.lemmas.List.{take_all}
 use Rattle.std.proofs.lemmas.Result.{on_ok_weaker}
@@ -21,7 +22,8 @@ returns-in_ok-push_live_place-in-len1-up c =
     let places : List Place = c.args.places.now in
     let first : Place = c.first-item.result in
     let start = c.args.text.now.items in
-    on_ok_weaker {Q = c.push_later_live.new.text.items ≡ start ++ places_text live_place places} c.push_later_live.result
+    on_ok_weaker {Q = c.push_later_live.new.text.items ≡ start ++ places_text live_place places}
+    c.push_later_live.result
     (λ more. also start (live_place first)
     (flat_map (λ q. codes ", " ++ live_place q) (take (length places - 1) (drop 1 places)))
     c.in_ok-push_live_place-in-len1-up.ensures more

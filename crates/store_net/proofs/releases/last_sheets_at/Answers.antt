@@ -2,9 +2,11 @@ use Rattle.std.proofs.Common.{◌≡◌, ◌<◌, ◌∙◌, Some, sym, subst, a
 use Rattle.sqlite.specs.Effect.{Database}
 use Rattle.sqlite.specs.Held.{state}
 use Rattle.sqlite.specs.State.{HasCleanDisk}
+use Rattle.dbc_sheet.specs.declared.sheet.Sheet.{Sheet}
 use Rattle.store_tables.specs.Tables.{IsOffice, tables_of}
 use Rattle.store_rows.specs.NetIn.{IsNetAt}
 use Rattle.store_net.specs.NetParts.{HasLast}
+use Rattle.store_net.specs.Texts.{release_at}
 use Rattle.store_net.proofs.LastRelease.{last_found, none_last}
 use Rattle.store_net.proofs.Made.{reads_any, reads_then, while_open}
 use Rattle.store_net.proofs.releases.last_sheets_at.Goals as goal
@@ -19,7 +21,7 @@ returns-in_ok-sheets_before-in-Ok-clause-found g c clean office net there =
     let name = c.args.name.now in
     let s0 = state g.S.Store c.args.tx.now.conn.now in
     let s1 = state g.S.Store c.release_count.new.tx.conn.now in
-    let clean1 : HasCleanDisk s1 = omega (arith, c.sheet_numbered.ensures.frame.survives.clean, clean) in
+    let clean1 : HasCleanDisk s1 = omega (arith, c.release_numbered.ensures.frame.survives.clean, clean) in
     let now1 : s1.now ≡ s0.now = (c.in_ok-count.ensures.frame.same clean1 office).0.now_is in
     let office1 : IsOffice s1.now = subst IsOffice (sym now1) office in
     let there1 : IsNetAt name (tables_of s1.now.trees) (Some net) =
@@ -27,9 +29,10 @@ returns-in_ok-sheets_before-in-Ok-clause-found g c clean office net there =
     let count = c.in_ok-count.count in
     let number : c.in-Ok.number ≡ count = search rules in
     let some : 0 < count = omega (arith, c.if-count-eq0.false) in
-    last_found net count c.in-Ok.number c.in_ok-last-in-Ok.last _
+    last_found net count c.in-Ok.number c.into_sheet.result _
     (c.in_ok-count.ensures.found clean1 office net there) some number
-    (c.in_ok-last-in-Ok.ensures.found clean office1 (Some net) there1)
+    (subst (λ (sheet : Sheet). release_at (Some net) c.in-Ok.number ≡ Some sheet) (sym c.into_sheet.ensures)
+    (c.in_ok-last-in-Ok.ensures.found clean office1 (Some net) there1))
     c.in_ok-sheets_before-in-Ok.ensures.many c.in_ok-sheets_before-in-Ok.ensures.last
 
 pub returns-in_ok-sheets_before-in-Ok-clause-frame : goal.returns-in_ok-sheets_before-in-Ok-clause-frame

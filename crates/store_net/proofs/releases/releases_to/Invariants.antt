@@ -6,7 +6,7 @@ use Rattle.office_types.specs.declared.state.Net.{Net}
 use Rattle.store_tables.specs.Tables.{IsOffice, tables_of}
 use Rattle.store_rows.specs.NetIn.{IsNetAt}
 use Rattle.store_net.specs.Parts.{releases_in}
-use Rattle.store_net.proofs.releases.sheets_to.Given as goal
+use Rattle.store_net.proofs.releases.releases_to.Given as goal
 
 abbrev pub invariant-loop-index : goal.invariant-loop-index
 invariant-loop-index g l =
@@ -19,5 +19,5 @@ invariant-loop-index g l =
       kept : HasCleanDisk now → IsOffice old.now → KeepsCommit old now;
       survives : Survives old now (λ _. ⊥);
       reported : HasCleanDisk now → IsOffice old.now → (net : Option Net)
-          → IsNetAt l.name (tables_of old.now.trees) net → l.sheets ≡ take l.index (releases_in net);
+          → IsNetAt l.name (tables_of old.now.trees) net → l.read.sheets ≡ take l.index (releases_in net);
     }

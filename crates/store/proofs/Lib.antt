@@ -2,6 +2,7 @@ pub mod OpenedTables
 pub mod TablesInForm
 pub mod Same
 pub mod Statistics
+mod Remembered
 pub mod OneArrival
 pub mod AfterCrash
 pub mod ListOfArrivals

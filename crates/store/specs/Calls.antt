@@ -153,3 +153,14 @@ pub record OnlyAsksWhetherOpen {S : Type 0} (g : Ghosts S) (old new : Held S) : 
   pub same : OnOpen g new (ShowsSame g old new)
   -- a crash leaves nothing that it didn't leave before
   pub survives : Survives (state g old) (state g new) (λ _. ⊥)
+
+-- a call that looks, and goes back
+pub record OnlyLooks {S : Type 0} (g : Ghosts S) (old new : Held S) : Type 0 where
+  pub autocommit : IsSettled g new
+  -- if it is open before and after the call, it shows the trees that it showed, whatever tables those are
+  pub still : HasCleanDisk (state g new) → IsTrue (state g old).is_open → IsTrue (state g new).is_open
+      → (state g new).now.trees ≡ (state g old).now.trees
+  -- on the tables of an office, if it is open after the call, it shows what it showed
+  pub same : OnTables g old new (IsTrue (state g new).is_open → ShowsSame g old new)
+  -- a crash leaves nothing that it didn't leave before
+  pub survives : Survives (state g old) (state g new) (λ _. ⊥)

@@ -11,4 +11,5 @@ pub mod OpensAs
 pub mod Deciding
 pub mod Looking
 pub mod Seeing
+pub mod Known
 pub mod Laws

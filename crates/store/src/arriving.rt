@@ -141,6 +141,7 @@ impl<S: Alter> StoredOffice<S> {
         if self.failed {
             return Err(Lost::Store);
         }
+        self.known.outdate();
         match transact(alloc, &mut self.conn, team, key, request) {
             Ok(answer) => Ok(answer),
             Err(error) => {

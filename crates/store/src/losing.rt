@@ -20,7 +20,7 @@ fn is_refused(prepared: &Result<Statement, Error>) -> bool
 /// Whether the connection is still open, so that it shows the last commit. A failure of the disk may have shut it.
 /// This takes no new memory, since memory may be what is lacking: an open one refuses a text that begins no statement
 /// before it requests any.
-fn is_open<S: Alter>(conn: &mut Connection<S>) -> bool
+pub(crate) fn is_open<S: Alter>(conn: &mut Connection<S>) -> bool
     requires { IsSettled S.Store conn.old }
     ensures open { HasCleanDisk (state S.Store conn.new) → IsTrue result
         → IsTrue (state S.Store conn.new).is_open }

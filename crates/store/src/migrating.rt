@@ -17,6 +17,7 @@ use crate::opening::{complete, is_office, leaves_committed, refuse, start};
 use crate::stored_office::StoredOffice;
 use sqlite::{Alter, Connection, Error};
 use std::alloc::Global;
+use store_looks::Remembered;
 use store_migrate::{ProfileRows, SchemaForm, Watch, carry, form_of, read_profile_rows};
 use store_tables::{is_new, knows_tables};
 
@@ -103,7 +104,7 @@ impl<S: Alter> StoredOffice<S> {
                 Ok(StoredOffice {
                     conn,
                     failed: false,
-                    known: None,
+                    known: Remembered::nothing(),
                 })
             }
             Err(lost) => Err((lost, conn)),

@@ -16,6 +16,7 @@ ghost use Rattle.store.specs.OpensAs.{LeavesOpened, Opens, conn_of};
 use crate::lost::Lost;
 use crate::stored_office::StoredOffice;
 use sqlite::{Alter, Connection, Error, Transaction};
+use store_looks::Remembered;
 use store_migrate::{ProfileRows, SchemaForm, form_of, read_profile_rows};
 use store_statements::insert_profile;
 use store_tables::{create_part, is_new, knows_tables, make_tables};
@@ -83,6 +84,13 @@ pub(crate) fn start<S: Alter>(conn: &mut Connection<S>) -> Result<(), Lost>
 pub(crate) fn leaves_committed<S: Alter>(conn: &Connection<S>)
     ensures { IsTrue (state S.Store conn.now).is_open → (db : Trees)
         → (state S.Store conn.now).may_leave db → db ≡ (state S.Store conn.now).committed.trees }
+{}
+
+/// Does nothing. Its contract is a law, the other way round: while the connection is open, a crash may leave what was
+/// last committed.
+pub(crate) fn may_leave_committed<S: Alter>(conn: &Connection<S>)
+    ensures { IsTrue (state S.Store conn.now).is_open
+        → (state S.Store conn.now).may_leave (state S.Store conn.now).committed.trees }
 {}
 
 /// Makes the table of bundles' parts where tables of the second profile lack it.
@@ -180,7 +188,7 @@ impl<S: Alter> StoredOffice<S> {
                 Ok(StoredOffice {
                     conn,
                     failed: false,
-                    known: None,
+                    known: Remembered::nothing(),
                 })
             }
             Err(lost) => Err((lost, conn)),

@@ -84,6 +84,7 @@ impl<S: Alter> StoredOffice<S> {
         if self.failed {
             return Err(Lost::Store);
         }
+        self.known.outdate();
         match read_alone(alloc, &mut self.conn, name, releases) {
             Ok(read) => Ok(read),
             Err(error) => {

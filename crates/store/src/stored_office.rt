@@ -7,23 +7,23 @@ ghost use Rattle.store.specs.Calls.{IsSettled};
 use crate::opening::leaves_committed;
 use sqlite::{Alter, Connection};
 use std::marker::Model;
-use store_looks::RememberedTexts;
+use store_looks::Remembered;
 
 /// An office that is kept in the tables of a connection. Between calls no transaction is open.
 ///
-/// It remembers the releases that its last look at all of a network's releases read, each as its text with the sheet
-/// that it reads as: at most [`REMEMBERED_LIMIT`](store_looks::REMEMBERED_LIMIT) bytes of text, which take some five
-/// times as much memory with their sheets. Each look fetches the bodies, and reads those that are other texts. Where a
-/// look's transaction fails, nothing is remembered.
+/// It remembers the network that its last look at the whole of one saw ([`Remembered`]): until the next arrival, looks
+/// at it and its pages read nothing. After an arrival only the texts of its releases are known: the next look fetches
+/// the bodies, and reads those that are other texts.
 pub struct StoredOffice<S: Alter> {
     pub(crate) conn: Connection<S>,
     pub(crate) failed: bool,
-    pub(crate) known: Option<RememberedTexts>,
+    pub(crate) known: Remembered,
 }
 
 impl<S: Alter> Model for StoredOffice<S> {
     ghost use Rattle.std.specs.Prelude.{◌≡◌, false};
     ghost use Rattle.sqlite.specs.Held.{state};
+    ghost use Rattle.store.specs.Known.{IsKnown};
     ghost use Rattle.store.specs.Office.{OfficeView, stored_code};
 
     ghost Value = { OfficeView S };
@@ -32,7 +32,8 @@ impl<S: Alter> Model for StoredOffice<S> {
 
     ghost view = { λ office. record { conn = office.conn; failed = office.failed } };
 
-    ghost invariant = { λ office. (state S.Store office.conn).in_transaction ≡ false };
+    ghost invariant = { λ office. ((state S.Store office.conn).in_transaction ≡ false)
+        × IsKnown S.Store office.conn office.known };
 }
 
 impl<S: Alter> StoredOffice<S> {

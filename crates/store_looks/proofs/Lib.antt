@@ -1,4 +1,5 @@
 mod Seeing
+mod Remembering
 pub mod Asked
 mod ReadWhole
 mod RememberedRows

@@ -13,6 +13,7 @@ use Rattle.office_types.specs.declared.state.Net.{Net}
 use Rattle.office_law.specs.Released.{with_releases}
 use Rattle.office_seen.specs.View.{view_of}
 use Rattle.office_seen.specs.declared.view.View.{View}
+use Rattle.office_looks.specs.Looks.{net_text}
 use Rattle.office_looks.specs.Reads.{AreRead, messages_read, net_read, reads_of}
 use Rattle.office_looks.specs.declared.reads.MessagesRead.{MessagesRead}
 use Rattle.office_looks.specs.declared.reads.MessagesRead.TheVariants.{Nothing, Received, Rows, Whole}
@@ -26,7 +27,7 @@ use Rattle.store_net.specs.declared.signal_parts.SignalParts.TheVariants.{All, R
 use Rattle.store_net.specs.declared.signal_parts.SignalParts.TheVariants as of
 use Rattle.store_net.proofs.Bare.{numbers_ascend, whole_live}
 use Rattle.store_net.proofs.LiveSheet.{live_ascends}
-use Rattle.store_looks.specs.Seen.{IsSeen, IsSeenBy, seen_text, whole_view}
+use Rattle.store_looks.specs.Seen.{IsSeen, reads_whole, seen_text, whole_view}
 
 -- ---- what is read
 
@@ -70,7 +71,7 @@ seen_with name t (Some net) reads read found books one view at is has same made 
     (found, has net refl, ap Some view_is)
 
 pub whole_seen : (net : Option Net) (book : SpnBook) (found : Option View)
-    → IsSeen (record { messages = Whole; releases = releases.All }) net book found → found ≡ whole_view net book
+    → IsSeen reads_whole net book found → found ≡ whole_view net book
 whole_seen None book found seen = seen
 whole_seen (Some net) book found seen =
     seen.2 ∙ ap (λ (all : List Sheet). Some (view_of (record net { releases = all }) book)) seen.1
@@ -78,6 +79,6 @@ whole_seen (Some net) book found seen =
 -- ---- the text
 
 pub look_text : (look : NetLook) (net : Option Net) (book : SpnBook) (found : Option View)
-    → IsSeen (reads_of look) net book found → IsSeenBy look net book found
+    → IsSeen (reads_of look) net book found → seen_text look found ≡ net_text net book look
 look_text look None book found seen = ap (seen_text look) seen
 look_text look (Some net) book found seen = ap (seen_text look) seen.2 ∙ unread look net book seen.0 seen.1

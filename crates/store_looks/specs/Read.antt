@@ -1,5 +1,5 @@
 -- What is read of a network and of the book.
-use Rattle.std.specs.Prelude.{◌≡◌, Bool, [], List, ℕ, Option, if◌then◌else◌}
+use Rattle.std.specs.Prelude.{◌≡◌, Bool, [], Option, if◌then◌else◌}
 use Rattle.std.specs.Option.{option_map}
 use Rattle.office_law.specs.Released.{with_releases}
 use Rattle.office_types.specs.declared.book.SpnBook.{SpnBook}

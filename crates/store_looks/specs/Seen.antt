@@ -1,16 +1,20 @@
 -- What is seen of the network that the tables have.
-use Rattle.std.specs.Prelude.{◌≡◌, ℕ, List, Option, Some, None}
+use Rattle.std.specs.Prelude.{◌≡◌, ◌⊎◌, ⊤, Bool, ℕ, List, Option, Some, None, IsTrue}
 use Rattle.std.specs.Option.{option_and_then, option_map}
 use Rattle.office_page.specs.Page.{page_of, release_page}
 use Rattle.dbc_sheet.specs.declared.sheet.Sheet.{Sheet}
 use Rattle.office_types.specs.declared.book.SpnBook.{SpnBook}
+use Rattle.office_types.specs.declared.look.Look.{Look}
+use Rattle.office_types.specs.declared.look.Look.TheVariants as look
 use Rattle.office_types.specs.declared.look.NetLook.{NetLook}
 use Rattle.office_types.specs.declared.state.Net.{Net}
 use Rattle.office_seen.specs.View.{view_of}
 use Rattle.office_seen.specs.declared.view.View.{View}
 use Rattle.office_looks.specs.Looks.{net_text, text_of}
 use Rattle.office_looks.specs.Reads.{AreRead, net_read}
+use Rattle.office_looks.specs.declared.reads.MessagesRead.TheVariants.{Whole}
 use Rattle.office_looks.specs.declared.reads.Reads.{Reads}
+use Rattle.office_looks.specs.declared.reads.ReleasesRead.TheVariants.{All}
 use Rattle.store_rows.specs.NetIn.{IsNetAt}
 use Rattle.store_rows.specs.Rows.{IsBookIn}
 use Rattle.store_tables.specs.Tables.{Tables}
@@ -42,6 +46,29 @@ net_page net book = option_map page_of (whole_view net book)
 abbrev pub net_release_page : Option Net → SpnBook → ℕ → Option (List ℕ)
 net_release_page net book number = option_and_then (λ v. release_page v number) (whole_view net book)
 
--- what is seen has the text of the network
-abbrev pub IsSeenBy : NetLook → Option Net → SpnBook → Option View → Type 0
-IsSeenBy look net book found = seen_text look found ≡ net_text net book look
+-- the live messages are read whole, and all releases
+abbrev pub reads_whole : Reads
+reads_whole = record { messages = Whole; releases = All }
+
+-- ---- what is remembered: the name of a network, and what is seen of it
+
+abbrev pub Known : Type 0
+Known = Option (List ℕ × View)
+
+-- what is remembered is so in the tables: it is all of the network, as they have it
+abbrev pub IsTrueOf : Known → Tables → Type 0
+IsTrueOf None t = ⊤
+IsTrueOf (Some known) t = OnNetAndBook known.0 (λ net book found. found ≡ whole_view net book) (Some known.1) t
+
+-- the text is that of a look at a network, or of a page, on these tables
+abbrev pub IsTextOn : Look → Option (List ℕ) → Tables → Type 0
+IsTextOn (look.Net name l) text t = OnNetAndBook name (λ net book found. found ≡ net_text net book l) text t
+IsTextOn (look.Page name) text t = OnNetAndBook name (λ net book found. found ≡ net_page net book) text t
+IsTextOn (look.ReleasePage name number) text t =
+    OnNetAndBook name (λ net book found. found ≡ net_release_page net book number) text t
+IsTextOn l text t = ⊥
+
+-- what may be remembered after this was seen of a network: what was, or nothing, or that, if it is the whole network
+abbrev pub MayRemember : List ℕ → Bool → Option View → (old new : Known) → Type 0
+MayRemember name is_whole seen old new = (new ≡ old) ⊎ ((new ≡ None)
+    ⊎ (IsTrue is_whole × ((view : View) × (seen ≡ Some view) × (new ≡ Some (name, view)))))

@@ -7,9 +7,9 @@
 //! a command was refused. All are called in a transaction, and change nothing. An error is out of memory, what `sqlite`
 //! answers, or `InvalidQuery` where the rows are no office's.
 //!
-//! Looks and pages that depend on all releases are given the texts that are known of an earlier one
-//! ([`RememberedTexts`]), and leave theirs for the next: a body that is the known text, byte for byte, isn't read
-//! again. What is known says nothing of the tables, so the body is fetched each time.
+//! Where all of a network was seen, it is remembered ([`Remembered`]): as long as nothing changes, looks at it and its
+//! pages read nothing. After a change the texts of its releases are known still: a body that is the known text, byte
+//! for byte, isn't read again. Whoever writes to the tables says so first ([`Remembered::outdate`]).
 //!
 //! The definitions are of `office_seen`: `View.antt` (what is seen of a network), of `office_looks`: `Looks.antt` (the
 //! text), of `office_page`: `Page.antt` (the page), and of `office_requests`: `Requests.antt`. Those in `specs/` say
@@ -18,6 +18,7 @@
 
 mod paged;
 mod reading;
+mod remembered;
 mod requests;
 mod seen;
 mod shown;
@@ -25,6 +26,6 @@ mod view;
 
 pub use paged::{page_at, release_page_at};
 pub use reading::{ReadNet, read_net_at};
+pub use remembered::Remembered;
 pub use requests::requests_at;
 pub use shown::net_look_at;
-pub use store_bodies::{REMEMBERED_LIMIT, RememberedTexts};

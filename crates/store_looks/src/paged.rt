@@ -1,24 +1,24 @@
 //! A network, or a release of it, on one page.
-ghost use Rattle.std.specs.Prelude.{◌≡◌, IfOk};
+ghost use Rattle.std.specs.Prelude.{◌≡◌, ◌⊎◌, IfOk, None, OnOk, true};
 ghost use Rattle.std.specs.Option.{option_and_then, option_map};
-ghost use Rattle.office_looks.specs.declared.reads.MessagesRead.TheVariants.{Whole};
-ghost use Rattle.office_looks.specs.declared.reads.ReleasesRead.TheVariants.{All};
 ghost use Rattle.office_page.specs.Page.{page_of, release_page};
-ghost use Rattle.store_looks.specs.Seen.{OnNetAndBook, net_page, net_release_page, whole_view};
+ghost use Rattle.store_looks.specs.Seen.{IsTrueOf, MayRemember, OnNetAndBook, net_page, net_release_page};
+ghost use Rattle.store_looks.specs.Seen.{reads_whole, whole_view};
 ghost use Rattle.store_tables.specs.Frames.{Asks, ReadsOnly};
 
+use crate::remembered::Remembered;
 use crate::seen::NetSeen;
 use crate::view::view_at;
+use base::Copying;
 use office_looks::{MessagesRead, Reads, ReleasesRead};
 use office_page::{page_of, release_page};
 use office_types::NetName;
 use sqlite::{Alter, Error, Transaction};
 use std::alloc::{AllocError, Global};
-use store_bodies::RememberedTexts;
 
 /// A page shows the live messages whole, and all releases.
 fn all_read() -> Reads
-    ensures { result ≡ record { messages = Whole; releases = All } }
+    ensures { result ≡ reads_whole }
 {
     Reads {
         messages: MessagesRead::Whole,
@@ -31,49 +31,55 @@ fn whole_view_at<S: Alter>(
     alloc: Global,
     tx: &mut Transaction<'_, S>,
     name: &NetName,
-    known: &mut Option<RememberedTexts>,
+    known: &mut Remembered,
 ) -> Result<Option<NetSeen>, Error>
     ensures found { Asks S.Store tx.old tx.new result (OnNetAndBook name.now (λ net book found.
         found ≡ whole_view net book)) }
+    ensures known { (known.new ≡ known.old) ⊎ (known.new ≡ None) }
     ensures frame { ReadsOnly S.Store tx.old tx.new result }
 {
     let reads = all_read();
     view_at(alloc, tx, name, reads, known)
 }
 
-/// The page of what is seen, if anything is. The texts of its releases are remembered.
+/// The page of what is seen of the network of the name, if anything is. That is the whole network, and is remembered.
 fn page_of_seen(
     alloc: Global,
+    name: &NetName,
     seen: Option<NetSeen>,
-    known: &mut Option<RememberedTexts>,
+    known: &mut Remembered,
 ) -> Result<Option<Vec<u8>>, AllocError>
-    ensures { IfOk result (λ page. option_map (λ text. text.items) page
+    ensures page { IfOk result (λ page. option_map (λ text. text.items) page
         ≡ option_map page_of seen) }
+    ensures known { OnOk result (MayRemember name.now true seen known.old known.new) }
 {
     match seen {
         Some(seen) => {
             let page = page_of(alloc, seen.view())?;
-            seen.remember(known);
+            known.keep(name.duplicate(alloc)?, seen, true);
             Ok(Some(page))
         }
         None => Ok(None),
     }
 }
 
-/// The page of the release of this number of what is seen, if there is one. The texts of the releases are remembered.
+/// The page of the release of this number of what is seen of the network of the name, if there is one. What is seen is
+/// the whole network, and is remembered.
 fn release_page_of_seen(
     alloc: Global,
+    name: &NetName,
     seen: Option<NetSeen>,
     number: u32,
-    known: &mut Option<RememberedTexts>,
+    known: &mut Remembered,
 ) -> Result<Option<Vec<u8>>, AllocError>
-    ensures { IfOk result (λ page. option_map (λ text. text.items) page
+    ensures page { IfOk result (λ page. option_map (λ text. text.items) page
         ≡ option_and_then (λ v. release_page v number) seen) }
+    ensures known { OnOk result (MayRemember name.now true seen known.old known.new) }
 {
     match seen {
         Some(seen) => {
             let page = release_page(alloc, seen.view(), number)?;
-            seen.remember(known);
+            known.keep(name.duplicate(alloc)?, seen, true);
             Ok(page)
         }
         None => Ok(None),
@@ -81,35 +87,37 @@ fn release_page_of_seen(
 }
 
 /// The page of the network of the name; `None` where it isn't there. Releases whose texts are known are not read again,
-/// and the texts of all are known after it. An error is out of memory, what `sqlite` answers, or `InvalidQuery` where
+/// and after it all of the network is known. An error is out of memory, what `sqlite` answers, or `InvalidQuery` where
 /// the rows are no office's.
 pub fn page_at<S: Alter>(
     alloc: Global,
     tx: &mut Transaction<'_, S>,
     name: &NetName,
-    known: &mut Option<RememberedTexts>,
+    known: &mut Remembered,
 ) -> Result<Option<Vec<u8>>, Error>
     ensures found { Asks S.Store tx.old tx.new result (OnNetAndBook name.now (λ net book found.
         option_map (λ text. text.items) found ≡ net_page net book)) }
+    ensures known { Asks S.Store tx.old tx.new result (λ _ t. IsTrueOf known.old t → IsTrueOf known.new t) }
     ensures frame { ReadsOnly S.Store tx.old tx.new result }
 {
     let seen = whole_view_at(alloc, tx, name, known)?;
-    Ok(page_of_seen(alloc, seen, known)?)
+    Ok(page_of_seen(alloc, name, seen, known)?)
 }
 
-/// The page of the release of this number of the network of the name; `None` where it isn't there. The known texts are
-/// as at [`page_at`], and so are the errors.
+/// The page of the release of this number of the network of the name; `None` where it isn't there. What is known is as
+/// at [`page_at`], and so are the errors.
 pub fn release_page_at<S: Alter>(
     alloc: Global,
     tx: &mut Transaction<'_, S>,
     name: &NetName,
     number: u32,
-    known: &mut Option<RememberedTexts>,
+    known: &mut Remembered,
 ) -> Result<Option<Vec<u8>>, Error>
     ensures found { Asks S.Store tx.old tx.new result (OnNetAndBook name.now (λ net book found.
         option_map (λ text. text.items) found ≡ net_release_page net book number)) }
+    ensures known { Asks S.Store tx.old tx.new result (λ _ t. IsTrueOf known.old t → IsTrueOf known.new t) }
     ensures frame { ReadsOnly S.Store tx.old tx.new result }
 {
     let seen = whole_view_at(alloc, tx, name, known)?;
-    Ok(release_page_of_seen(alloc, seen, number, known)?)
+    Ok(release_page_of_seen(alloc, name, seen, number, known)?)
 }

@@ -5,9 +5,8 @@ ghost use Rattle.store_bodies.specs.ReadText.{AreReadAs};
 use base::Items;
 use dbc_sheet::Sheet;
 use office_seen::View;
-use std::alloc::Global;
 use std::marker::Model;
-use store_bodies::{ReadTexts, RememberedTexts};
+use store_bodies::ReadTexts;
 
 /// The releases of a network as far as they are read, and where all of them are, their texts. Contracts see the sheets.
 pub(crate) struct ReleasesSeen {
@@ -102,19 +101,13 @@ impl NetSeen {
         &self.seen
     }
 
-    /// Its texts with its releases, as they are to be remembered; `None` where the texts aren't there.
-    fn into_texts(self) -> Option<RememberedTexts> {
+    /// What is seen, and the texts of its releases if they are there. Takes no memory.
+    pub(crate) fn into_parts(self) -> (View, Option<Items<Items<u8>>>)
+        ensures seen { result.0 ≡ self }
+        ensures read { IfSome result.1 (λ texts. AreReadAs texts result.0.releases) }
+    {
         let NetSeen { seen, texts } = self;
-        let texts = texts?;
-        let read = ReadTexts::of(texts, seen.into_releases());
-        Some(RememberedTexts::of(read))
-    }
-
-    /// Has its texts remembered in place of the others, if they are there.
-    pub(crate) fn remember(self, known: &mut Option<RememberedTexts>) {
-        if let Some(texts) = self.into_texts() {
-            *known = Some(texts);
-        }
+        (seen, texts)
     }
 }
 
@@ -124,13 +117,5 @@ impl Drop for NetSeen {
             seen: _seen,
             texts: _texts,
         } = self;
-    }
-}
-
-/// The texts that are remembered, none where there are none; nothing is remembered any more.
-pub(crate) fn taken(alloc: Global, known: &mut Option<RememberedTexts>) -> ReadTexts {
-    match known.take() {
-        Some(texts) => texts.into_read(),
-        None => ReadTexts::none(alloc),
     }
 }

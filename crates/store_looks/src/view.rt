@@ -1,5 +1,5 @@
 //! What is seen of a network.
-ghost use Rattle.std.specs.Prelude.{◌≡◌, [], map, filter, IfOk, OnOk};
+ghost use Rattle.std.specs.Prelude.{◌≡◌, ◌⊎◌, [], map, filter, IfOk, None, OnOk};
 ghost use Rattle.std.specs.Option.{option_map};
 ghost use Rattle.std.specs.List.Sorted.{IsStrictlySortedBy};
 ghost use Rattle.std.specs.Str.{bytes_eq};
@@ -12,7 +12,8 @@ ghost use Rattle.store_looks.specs.Seen.{IsSeen, OnNetAndBook};
 ghost use Rattle.store_net.specs.Reading.{OnNet, OnNetThere};
 ghost use Rattle.store_tables.specs.Frames.{Asks, ReadsOnly, ReadsWhileOpen};
 
-use crate::seen::{NetSeen, ReleasesSeen, taken};
+use crate::remembered::Remembered;
+use crate::seen::{NetSeen, ReleasesSeen};
 use base::{Copying, Items};
 use office_looks::{MessagesRead, Reads, ReleasesRead};
 use office_seen::{FrozenSheets, View};
@@ -21,7 +22,6 @@ use office_types::{
 };
 use sqlite::{Alter, Error, Transaction};
 use std::alloc::{AllocError, Global};
-use store_bodies::RememberedTexts;
 use store_net::{
     SignalParts, book_of, last_sheets_at, live_sheet, outline_at, partial_net_at, release_texts_at,
 };
@@ -115,17 +115,19 @@ fn net_for<S: Alter>(
     }
 }
 
-/// The releases of the network of the name, as far as they are read. Where all of them are, the known texts are taken.
+/// The releases of the network of the name, as far as they are read. Where all of them are, the known texts are taken,
+/// and nothing is remembered any more.
 /// The errors are those of [`view_at`].
 fn releases_for<S: Alter>(
     alloc: Global,
     tx: &mut Transaction<'_, S>,
     name: &NetName,
     releases: ReleasesRead,
-    known: &mut Option<RememberedTexts>,
+    known: &mut Remembered,
 ) -> Result<ReleasesSeen, Error>
     ensures found { Asks S.Store tx.old tx.new result
         (OnNetThere name.now (λ net found. AreRead releases net.releases found)) }
+    ensures known { (known.new ≡ known.old) ⊎ (known.new ≡ None) }
     ensures frame { ReadsWhileOpen S.Store tx.old tx.new result }
 {
     match releases {
@@ -135,23 +137,24 @@ fn releases_for<S: Alter>(
             Ok(ReleasesSeen::without_texts(sheets))
         }
         ReleasesRead::All => {
-            let read = release_texts_at(alloc, tx, name, taken(alloc, known))?;
+            let read = release_texts_at(alloc, tx, name, known.take_texts(alloc))?;
             Ok(ReleasesSeen::of(read))
         }
     }
 }
 
 /// What is seen of the network of the name where so much is read of it, `None` where it isn't there. Where all releases
-/// are read, the known texts are taken. An error is out of memory, what `sqlite` answers, or `InvalidQuery` where the
-/// rows are no office's.
+/// are read, the known texts are taken, and nothing is remembered any more. An error is out of memory, what `sqlite`
+/// answers, or `InvalidQuery` where the rows are no office's.
 pub(crate) fn view_at<S: Alter>(
     alloc: Global,
     tx: &mut Transaction<'_, S>,
     name: &NetName,
     reads: Reads,
-    known: &mut Option<RememberedTexts>,
+    known: &mut Remembered,
 ) -> Result<Option<NetSeen>, Error>
     ensures found { Asks S.Store tx.old tx.new result (OnNetAndBook name.now (IsSeen reads)) }
+    ensures known { (known.new ≡ known.old) ⊎ (known.new ≡ None) }
     ensures frame { ReadsOnly S.Store tx.old tx.new result }
 {
     let Some(net) = net_for(alloc, tx, name, reads.messages)? else {

@@ -2,14 +2,29 @@ use Rattle.std.proofs.Common.{◌≡◌, inl, inr, refl, sym, subst, ◌∙◌, 
 use Rattle.sqlite.specs.Held.{state}
 use Rattle.sqlite.specs.State.{HasCleanDisk}
 use Rattle.office_types.specs.declared.state.Office.{Office}
+use Rattle.store_tables.specs.Tables.{tables_of}
 use Rattle.store.specs.Calls.{KeepsStatistics, LeavesStatistics}
 use Rattle.store.specs.Holding.{Holding}
 use Rattle.store.specs.Looking.{IsShown, bytes_of}
 use Rattle.store.specs.Office.{OfficeView}
 use Rattle.store.specs.Opening.{HasTables}
+use Rattle.store.proofs.Remembered.{remembered_shown}
 use Rattle.store.proofs.Same.{held_tables, same_holds}
 use Rattle.store.proofs.Statistics.{keeps_asked, keeps_if_same, leaves_asked}
 use Rattle.store.proofs.stored_office.StoredOffice.look.Goals as goal
+
+pub returns-in-Ok-Some-clause-shown : goal.returns-in-Ok-Some-clause-shown
+returns-in-Ok-Some-clause-shown g c clean h holds office legal =
+    let begun = subst (λ (o : OfficeView _). Holding h (state g.S.Store o.conn)) (sym c.self.view_is) holds in
+    let clean_inside = subst (λ (o : OfficeView _). HasCleanDisk (state g.S.Store o.conn)) (sym c.self.view_is) clean in
+    let it = begun.keeps.holds.holds in
+    let same : it.office ≡ office =
+    c.histories_leave_offices.ensures.one h h it.office office refl it.legal legal in
+    let t = tables_of (state g.S.Store c.self.inside.conn).now.trees in
+    let truth = c.self.invariant.1 clean_inside (held_tables h _ begun) in
+    subst (λ (o : Office). IsShown h o c.args.look.now (bytes_of c.in-Ok-Some.text)) same
+    (remembered_shown h t begun.keeps.holds c.args.look.now (bytes_of c.in-Ok-Some.text)
+    (rw c.in-Ok-Some.field-0-is at (c.in-Ok-Some.ensures t truth)))
 
 pub returns-in-Ok-clause-shown : goal.returns-in-Ok-clause-shown
 returns-in-Ok-clause-shown g c clean h holds office legal =

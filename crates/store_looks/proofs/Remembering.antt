@@ -1,0 +1,65 @@
+-- What is remembered after a look is so in the tables, if what was before it is.
+use Rattle.std.proofs.Common.{◌≡◌, ◌⊎◌, inl, inr, Bool, ℕ, List, Option, Some, None, ap, sym, subst, ◌∙◌}
+use Rattle.std.specs.Option.{option_and_then, option_map}
+use Rattle.std.specs.Prelude.{IsTrue}
+use Rattle.office_types.specs.declared.book.SpnBook.{SpnBook}
+use Rattle.office_types.specs.declared.look.Look.TheVariants as look
+use Rattle.office_types.specs.declared.look.NetLook.{NetLook}
+use Rattle.office_types.specs.declared.state.Net.{Net}
+use Rattle.office_seen.specs.View.{view_of}
+use Rattle.office_seen.specs.declared.view.View.{View}
+use Rattle.office_looks.specs.Looks.{net_text, text_of}
+use Rattle.office_page.specs.Page.{page_of, release_page}
+use Rattle.store_tables.specs.Tables.{Tables}
+use Rattle.store_looks.specs.Seen.{IsTextOn, IsTrueOf, Known, MayRemember, OnNetAndBook, whole_view}
+
+-- this is all of the network of the name
+abbrev pub IsWhole : List ℕ → Option View → Tables → Type 0
+IsWhole name seen t = OnNetAndBook name (λ net book found. found ≡ whole_view net book) seen t
+
+kept : (name : List ℕ) (is_whole : Bool) (seen : Option View) (old new : Known) (t : Tables)
+    → (IsTrue is_whole → IsWhole name seen t) → MayRemember name is_whole seen old new → IsTrueOf old t
+    → IsTrueOf new t
+kept name is_whole seen old new t whole (inl same) truth = subst (λ known. IsTrueOf known t) (sym same) truth
+kept name is_whole seen old new t whole (inr (inl none)) truth = subst (λ known. IsTrueOf known t) (sym none) tt
+kept name is_whole seen old new t whole (inr (inr it)) truth =
+    subst (λ known. IsTrueOf known t) (sym it.1.2)
+    (subst (λ found. IsWhole name found t) it.1.1 (whole it.0))
+
+-- between, texts may have been taken
+pub still_true : (name : List ℕ) (is_whole : Bool) (seen : Option View) (old between new : Known) (t : Tables)
+    → (IsTrue is_whole → IsWhole name seen t) → (between ≡ old) ⊎ (between ≡ None)
+    → MayRemember name is_whole seen between new → IsTrueOf old t → IsTrueOf new t
+still_true name is_whole seen old between new t whole (inl same) may truth =
+    kept name is_whole seen between new t whole may (subst (λ known. IsTrueOf known t) (sym same) truth)
+still_true name is_whole seen old between new t whole (inr none) may truth =
+    kept name is_whole seen between new t whole may (subst (λ known. IsTrueOf known t) (sym none) tt)
+
+-- ---- the texts of what is remembered
+
+seen_is : (name : List ℕ) (view : View) (known : Known) (t : Tables) → known ≡ Some (name, view) → IsTrueOf known t
+    → IsWhole name (Some view) t
+seen_is name view known t is truth = subst (λ k. IsTrueOf k t) is truth
+
+net_text_is : (l : NetLook) (view : View) (net : Option Net) (book : SpnBook) → Some view ≡ whole_view net book
+    → text_of l view ≡ net_text net book l
+net_text_is l view None book whole = absurd (cc)
+net_text_is l view (Some net) book whole =
+    let same : view ≡ view_of net book = cc in
+    ap (text_of l) same
+
+pub look_on : (name : List ℕ) (l : NetLook) (view : View) (known : Known) (t : Tables) (text : Option (List ℕ))
+    → known ≡ Some (name, view) → IsTrueOf known t → text ≡ text_of l view → IsTextOn (look.Net name l) text t
+look_on name l view known t text is truth same net at book in_book =
+    same ∙ net_text_is l view net book (seen_is name view known t is truth net at book in_book)
+
+pub page_on : (name : List ℕ) (view : View) (known : Known) (t : Tables) (text : List ℕ)
+    → known ≡ Some (name, view) → IsTrueOf known t → text ≡ page_of view → IsTextOn (look.Page name) (Some text) t
+page_on name view known t text is truth same net at book in_book =
+    ap Some same ∙ ap (option_map page_of) (seen_is name view known t is truth net at book in_book)
+
+pub release_page_on : (name : List ℕ) (number : ℕ) (view : View) (known : Known) (t : Tables)
+    (text : Option (List ℕ)) → known ≡ Some (name, view) → IsTrueOf known t → text ≡ release_page view number
+    → IsTextOn (look.ReleasePage name number) text t
+release_page_on name number view known t text is truth same net at book in_book =
+    same ∙ ap (option_and_then (λ v. release_page v number)) (seen_is name view known t is truth net at book in_book)

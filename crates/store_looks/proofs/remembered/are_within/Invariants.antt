@@ -1,0 +1,7 @@
+use Rattle.std.proofs.Common.{◌≡◌, ◌+◌, take}
+use Rattle.store_bodies.specs.ReadText.{text_bytes}
+use Rattle.store_looks.proofs.remembered.are_within.Given as goal
+
+-- what the texts so far leave of the limit
+abbrev pub invariant-loop-text : goal.invariant-loop-text
+invariant-loop-text l = text_bytes (take l.text-index l.texts) + l.room ≡ l.limit

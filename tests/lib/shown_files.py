@@ -15,14 +15,19 @@ def page_text(page):
         return file.read()
 
 
+def shown_file(text, name):
+    """The first file of this name that a text of a page shows."""
+    block = re.search(rf"`{re.escape(name)}`[^\n]*:\n\n((?:    .*\n|\n)+)", text)[1].rstrip("\n") + "\n"
+    return re.sub("^    ", "", block, flags=re.MULTILINE)
+
+
 def write_shown(page, section, names, replaced, folder="."):
     """Writes the files of these names into the folder, as the section of the page shows them, but with other texts for
     those that are to be replaced.
     """
     shown = re.search(rf"^## {re.escape(section)}\n(.*?)(?:^## |\Z)", page_text(page), re.MULTILINE | re.DOTALL)[1]
     for name in names:
-        text = re.search(rf"`{re.escape(name)}`[^\n]*:\n\n((?:    .*\n|\n)+)", shown)[1].rstrip("\n") + "\n"
-        text = re.sub("^    ", "", text, flags=re.MULTILINE)
+        text = shown_file(shown, name)
         for old, new in replaced.items():
             text = text.replace(old, new)
         path = os.path.join(folder, name)

@@ -67,11 +67,24 @@ class Root:
         with open(self.path(name), "w") as file:
             file.write(text)
 
+    def copy(self, path):
+        """Copies a file of this machine."""
+        os.makedirs(os.path.dirname(self.folder + path), exist_ok=True)
+        shutil.copy(path, self.folder + path)
+
     def add_program(self, program):
-        """Copies a program of this machine, and the libraries that it loads."""
-        for path in {program, *re.findall(r"(/\S+) \(0x", output_of(["ldd", program]))}:
-            os.makedirs(os.path.dirname(self.folder + path), exist_ok=True)
-            shutil.copy(path, self.folder + path)
+        """Copies a program of this machine, and the libraries that it loads, of which a script has none."""
+        loaded = subprocess.run(["ldd", program], capture_output=True, text=True).stdout
+        for path in {program, *re.findall(r"(/\S+) \(0x", loaded)}:
+            self.copy(path)
+
+    def add_package(self, name):
+        """Copies the files of a package of this machine."""
+        for path in filter(os.path.isfile, output_of(["dpkg", "--listfiles", name]).splitlines()):
+            if os.access(path, os.X_OK):
+                self.add_program(path)
+            else:
+                self.copy(path)
 
     def add_folder(self, name, user):
         os.makedirs(self.path(name))
@@ -84,14 +97,18 @@ class Root:
                 os.chown(path, self.users[user], self.users[user])
         os.chmod(self.path(name), 0o700)
 
-    def install(self):
-        """Makes the package of the program that is tried, and installs it as dpkg does, where nothing but the C library
-        is installed.
+    def make_package(self):
+        """Makes the package of the program that is tried, and gives its path. For dpkg nothing but the C library is
+        installed.
         """
         output_of([f"{TOP}/scripts/package", "made", os.environ["CANOFFICE"]],
                   env={"SOURCE_DATE_EPOCH": "1767225600", **os.environ})
         self.write("var/lib/dpkg/status", output_of(["dpkg", "--status", "libc6"]))
-        output_of(["dpkg", f"--root={self.folder}", "--install", *glob.glob("made/*.deb")])
+        return glob.glob("made/*.deb")[0]
+
+    def install(self):
+        """Makes the package, and installs it as dpkg does."""
+        output_of(["dpkg", f"--root={self.folder}", "--install", self.make_package()])
 
     def remove(self, name):
         """Removes a package that was installed."""

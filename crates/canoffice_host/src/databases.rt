@@ -1,7 +1,7 @@
 //! The databases of the machine that the program runs on.
-ghost use Rattle.std.specs.Prelude.{◌≡◌, Err, IfOk, IsFalse, IsOk, IsTrue, false};
-ghost use Rattle.sqlite.specs.Files.{file_state};
+ghost use Rattle.std.specs.Prelude.{◌≡◌, Err, IsFalse, IsOk, IsTrue};
 
+use crate::files::{Work, on_file};
 use canoffice_cli::{
     Answers, Databases, Progress, Reasons, ServeEnd, answer_on, answers_when_closed, look_on,
     migrate_on, nothing_answered,
@@ -9,7 +9,7 @@ use canoffice_cli::{
 use desk::{Routes, ServeFault, listen, serve};
 use desk_advice::NoteLines;
 use office_history::Arrival;
-use sqlite::{Connection, File, FileStore};
+use sqlite::{Alter, Connection};
 use std::alloc::{AllocError, Global};
 use std::io::{ErrorKind, Write};
 use std::rt::Files;
@@ -23,31 +23,11 @@ pub struct HostDatabases<'r> {
     pub rt: &'r HostRuntime,
 }
 
-/// A connection to the database file at the path.
-fn open(rt: &HostRuntime, path: &str) -> Result<Connection<FileStore<File>>, Lost>
-    ensures { IfOk result (λ conn. (file_state conn).in_transaction ≡ false) }
-{
-    let opened = Connection::open(rt, path);
-    match opened {
-        Ok(conn) if conn.is_autocommit() => Ok(conn),
-        Ok(_) => Err(Lost::Store),
-        Err(error) => Err(Lost::from(error)),
-    }
-}
-
 /// Whether there is no file at the path, as far as the machine says, or an empty one. Opening it would make a database.
 fn is_absent(rt: &HostRuntime, path: &str) -> bool {
     match rt.metadata(path) {
         Ok(found) => found.is_file() && found.len() == 0,
         Err(error) => error.kind() == ErrorKind::NotFound,
-    }
-}
-
-/// Ends the connection.
-fn close(conn: Connection<FileStore<File>>) -> Result<(), Lost> {
-    match conn.close() {
-        Ok(()) => Ok(()),
-        Err(error) => Err(Lost::from(error)),
     }
 }
 
@@ -62,10 +42,10 @@ struct Serving {
 /// Serves connections of the port by the office. Standard error says when it listens, and when the office fails; or
 /// that too few file descriptors are left for a connection: then none is accepted. Where it is requested, standard error
 /// also says of each answer other than 200 why.
-fn serve_at(
+fn serve_at<S: Alter>(
     rt: &HostRuntime,
     routes: &Routes,
-    office: &mut StoredOffice<FileStore<File>>,
+    office: &mut StoredOffice<S>,
     serving: Serving,
 ) -> Result<(), ServeFault> {
     let mut listener = listen(rt, serving.port)?;
@@ -116,24 +96,123 @@ fn end_of(served: Result<(), ServeFault>, failed: bool) -> Result<(), ServeEnd>
     }
 }
 
-/// Serves connections of the port by an office on the connection, which is given back.
-fn serve_on(
-    rt: &HostRuntime,
-    conn: Connection<FileStore<File>>,
+/// Answers arrivals.
+struct Answering<'a, W: Write> {
+    alloc: Global,
+    script: &'a [u8],
+    arrivals: &'a [Arrival],
+    strict: bool,
+    reasons: &'a mut Reasons,
+    progress: &'a mut Progress<W>,
+}
+
+impl<W: Write> Drop for Answering<'_, W> {
+    fn drop(self) {
+        let Answering {
+            alloc: _alloc,
+            script: _script,
+            arrivals: _arrivals,
+            strict: _strict,
+            reasons: _reasons,
+            progress: _progress,
+        } = self;
+    }
+}
+
+impl<W: Write> Work for Answering<'_, W> {
+    ghost use Rattle.std.specs.Prelude.{IfOk};
+    ghost use Rattle.canoffice_cli.specs.Answered.{IsFarEnough};
+
+    type Done = Result<Answers, AllocError>;
+
+    ghost promised = { λ it done. IfOk done
+        (λ reported. IsFarEnough it.strict it.arrivals.now reported.answers.items reported.lost) };
+
+    fn run<S: Alter + Drop>(&mut self, conn: Connection<S>) -> (Self::Done, Connection<S>) {
+        answer_on(
+            self.alloc,
+            conn,
+            self.script,
+            self.arrivals,
+            self.strict,
+            self.reasons,
+            self.progress,
+        )
+    }
+}
+
+/// Looks.
+#[derive(Clone, Copy)]
+struct Looking<'a> {
+    alloc: Global,
+    look: &'a Look,
+}
+
+impl Work for Looking<'_> {
+    ghost use Rattle.std.specs.Prelude.{⊤};
+
+    type Done = Result<Option<Vec<u8>>, Lost>;
+
+    ghost promised = { λ it done. ⊤ };
+
+    fn run<S: Alter + Drop>(&mut self, conn: Connection<S>) -> (Self::Done, Connection<S>) {
+        look_on(self.alloc, conn, self.look)
+    }
+}
+
+/// Carries tables over.
+struct Migrating<'a, W: Write> {
+    alloc: Global,
+    progress: &'a mut Progress<W>,
+}
+
+impl<W: Write> Drop for Migrating<'_, W> {
+    fn drop(self) {
+        let Migrating {
+            alloc: _alloc,
+            progress: _progress,
+        } = self;
+    }
+}
+
+impl<W: Write> Work for Migrating<'_, W> {
+    ghost use Rattle.std.specs.Prelude.{⊤};
+
+    type Done = Result<(), Lost>;
+
+    ghost promised = { λ it done. ⊤ };
+
+    fn run<S: Alter + Drop>(&mut self, conn: Connection<S>) -> (Self::Done, Connection<S>) {
+        migrate_on(self.alloc, conn, self.progress)
+    }
+}
+
+/// Serves connections of the port.
+#[derive(Clone, Copy)]
+struct OnPort<'r> {
+    rt: &'r HostRuntime,
     serving: Serving,
-) -> (Result<(), ServeEnd>, Connection<FileStore<File>>)
-    requires { (file_state conn).in_transaction ≡ false }
-{
-    let Ok(routes) = Routes::new(rt.alloc()) else {
-        return (Err(ServeEnd::IsLost(Lost::Memory)), conn);
-    };
-    match StoredOffice::open(conn) {
-        Ok(mut office) => {
-            let served = serve_at(rt, &routes, &mut office, serving);
-            let end = end_of(served, office.is_failed());
-            (end, office.close())
+}
+
+impl Work for OnPort<'_> {
+    ghost use Rattle.std.specs.Prelude.{⊤};
+
+    type Done = Result<(), ServeEnd>;
+
+    ghost promised = { λ it done. ⊤ };
+
+    fn run<S: Alter + Drop>(&mut self, conn: Connection<S>) -> (Self::Done, Connection<S>) {
+        let Ok(routes) = Routes::new(self.rt.alloc()) else {
+            return (Err(ServeEnd::IsLost(Lost::Memory)), conn);
+        };
+        match StoredOffice::open(conn) {
+            Ok(mut office) => {
+                let served = serve_at(self.rt, &routes, &mut office, self.serving);
+                let end = end_of(served, office.is_failed());
+                (end, office.close())
+            }
+            Err((lost, conn)) => (Err(ServeEnd::IsLost(lost)), conn),
         }
-        Err((lost, conn)) => (Err(ServeEnd::IsLost(lost)), conn),
     }
 }
 
@@ -152,14 +231,16 @@ impl Databases for HostDatabases<'_> {
         reasons: &mut Reasons,
         progress: &mut Progress<W>,
     ) -> Result<Answers, AllocError> {
-        match open(self.rt, path) {
-            Ok(conn) => {
-                let (reported, conn) = answer_on(
-                    alloc, conn, script, arrivals, strict, reasons, progress,
-                );
-                let closed = close(conn);
-                Ok(answers_when_closed(reported?, closed))
-            }
+        let mut work = Answering {
+            alloc,
+            script,
+            arrivals,
+            strict,
+            reasons,
+            progress,
+        };
+        match on_file(self.rt, path, &mut work) {
+            Ok((reported, closed)) => Ok(answers_when_closed(reported?, closed)),
             Err(lost) => Ok(nothing_answered(alloc, lost)),
         }
     }
@@ -168,9 +249,7 @@ impl Databases for HostDatabases<'_> {
         if is_absent(self.rt, path) {
             return Ok(None);
         }
-        let conn = open(self.rt, path)?;
-        let (shown, conn) = look_on(alloc, conn, look);
-        let closed = close(conn);
+        let (shown, closed) = on_file(self.rt, path, &mut Looking { alloc, look })?;
         let text = shown?;
         closed?;
         Ok(text)
@@ -182,9 +261,7 @@ impl Databases for HostDatabases<'_> {
         path: &str,
         progress: &mut Progress<W>,
     ) -> Result<(), Lost> {
-        let conn = open(self.rt, path)?;
-        let (done, conn) = migrate_on(alloc, conn, progress);
-        let closed = close(conn);
+        let (done, closed) = on_file(self.rt, path, &mut Migrating { alloc, progress })?;
         done?;
         closed
     }
@@ -197,17 +274,19 @@ impl Databases for HostDatabases<'_> {
         count: u32,
         explain: bool,
     ) -> Result<(), ServeEnd> {
-        let conn = match open(self.rt, path) {
-            Ok(conn) => conn,
-            Err(lost) => return Err(ServeEnd::IsLost(lost)),
-        };
         let serving = Serving {
             port,
             count,
             explain,
         };
-        let (served, conn) = serve_on(self.rt, conn, serving);
-        let closed = close(conn);
+        let mut work = OnPort {
+            rt: self.rt,
+            serving,
+        };
+        let (served, closed) = match on_file(self.rt, path, &mut work) {
+            Ok(ended) => ended,
+            Err(lost) => return Err(ServeEnd::IsLost(lost)),
+        };
         served?;
         match closed {
             Ok(()) => Ok(()),

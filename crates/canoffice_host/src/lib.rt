@@ -1,0 +1,9 @@
+//! The machine that the program runs on: its database files and its desks, as the program's library takes them.
+#![tactic(auto)]
+
+mod databases;
+mod desks;
+mod files;
+
+pub use databases::HostDatabases;
+pub use desks::HostDesks;

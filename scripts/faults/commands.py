@@ -52,7 +52,9 @@ class Printing:
             return "whole"
         if fault.call == "write" and answer.status == LOST:
             is_part = self.answer.output.startswith(answer.output) and self.answer.errors.startswith(answer.errors)
-            return "not written" if is_part else None
+            # What goes to standard error comes after the whole output.
+            is_in_order = not answer.errors or answer.output == self.answer.output
+            return "not written" if is_part and is_in_order else None
         if answer in [Answer(b"", f"cannot read {name}\n".encode(), LOST) for name in self.files]:
             return "not read"
         if not self.is_beginning(answer.output):

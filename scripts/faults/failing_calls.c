@@ -15,6 +15,7 @@
                        half           it moves half of its bytes, and answers the error
                        stop-before    the process is killed before the call, by SIGKILL
                        stop-after     or after it
+     FAULT_PIECE     where it is there, each call of the name moves at most so many bytes; those that fail do as above
      FAULT_UNSYNCED  with a stop, what becomes of the bytes that no fdatasync or fsync of their file followed:
                        kept           they stay, as after a kill (so it is if this is absent)
                        lost           they are as they were, as if the machine had stopped
@@ -58,7 +59,7 @@ struct counts {
 
 static struct counts own_counts, *counts = &own_counts;
 static const char *call = "", *armed;
-static uint64_t at, last, every, seed;
+static uint64_t at, last, every, piece, seed;
 static enum effect effect = ERROR;
 static enum unsynced unsynced;
 static int error_number, is_ready, has_idle_sync;
@@ -101,6 +102,7 @@ __attribute__((constructor)) static void begin(void)
     last = number_of("FAULT_LAST", at);
     if (last == 0) last = UINT64_MAX;
     every = number_of("FAULT_EVERY", 1);
+    piece = number_of("FAULT_PIECE", 0);
     seed = number_of("FAULT_SEED", 1) * 2654435761u + at;
     error_number = (int)number_of("FAULT_ERROR", EIO);
     int index = index_of("FAULT_EFFECT", effects, sizeof effects / sizeof *effects);
@@ -112,11 +114,16 @@ __attribute__((constructor)) static void begin(void)
     is_ready = 1;
 }
 
+/* Whether this is a call of the name that counts. */
+static int is_counted(const char *name)
+{
+    return is_ready && strcmp(name, call) == 0 && (!armed || syscall(SYS_access, armed, F_OK) == 0);
+}
+
 /* Whether this call of the name is one that fails. */
 static int is_chosen(const char *name)
 {
-    if (!is_ready || strcmp(name, call) != 0) return 0;
-    if (armed && syscall(SYS_access, armed, F_OK) != 0) return 0;
+    if (!is_counted(name)) return 0;
     uint64_t number = __sync_add_and_fetch(&counts->calls, 1);
     if (at == 0 || number < at || number > last || (number - at) % every != 0) return 0;
     __sync_add_and_fetch(&counts->failed, 1);
@@ -229,6 +236,12 @@ void *realloc(void *old, size_t size)
     return effect_on("alloc") ? refused() : __libc_realloc(old, size);
 }
 
+/* How many of these bytes a call of the name moves that doesn't fail. */
+static size_t piece_of(const char *name, size_t count)
+{
+    return piece && piece < count && is_counted(name) ? piece : count;
+}
+
 /* The next library's function of the name, in `real`. */
 #define FIND_REAL(name, result, parameters)                   \
     typedef result(*real_type) parameters;                    \
@@ -240,6 +253,7 @@ void *realloc(void *old, size_t size)
     ssize_t name parameters                                   \
     {                                                         \
         FIND_REAL(name, ssize_t, parameters);                 \
+        count = piece_of(#name, count);                       \
         size_t part = half_of(count);                         \
         ssize_t done = 0;                                     \
         switch (effect_on(#name)) {                           \

@@ -22,13 +22,14 @@ class Fault:
 
     The effect is the name of an error (`EIO`, `ENOSPC`, ..), `short`, `empty` or `half`, or a stop: `stop-before` or
     `stop-after`, and with `-lost` or `-torn` what becomes of the bytes that aren't synced. The reach is `one`, `two`
-    (the call and the next), `later` (the call and all later ones) or `every` and a number. The head of failing_calls.c
-    shows what they do."""
+    (the call and the next), `later` (the call and all later ones) or `every` and a number. With a piece no call of the
+    name moves more bytes. The head of failing_calls.c shows what they do."""
 
     call: str
     effect: str
     reach: str = "one"
     seed: int = 1
+    piece: int | None = None
 
     @property
     def is_stop(self):
@@ -58,6 +59,8 @@ class Fault:
             found["FAULT_LAST"] = str(at + 1) if self.reach == "two" else "0"
         if self.reach.startswith("every"):
             found["FAULT_EVERY"] = self.reach.removeprefix("every")
+        if self.piece:
+            found["FAULT_PIECE"] = str(self.piece)
         if armed:
             found["FAULT_ARMED"] = armed
         if "FAULT_IDLE_SYNC" in os.environ:

@@ -18,9 +18,10 @@ def free_port():
 
 class Serve:
     """`canoffice serve` on a database and a free port, or on this one, from when it listens. If a file size is given, no file
-    may grow beyond it: a write there fails, as on a disk that is full. If a count of files is given, no more may be open."""
+    may grow beyond it: a write there fails, as on a disk that is full. If a count of files is given, no more may be open.
+    Variables are added to its environment."""
 
-    def __init__(self, count, file_size=None, database="office.db", files=None, port=None, options=()):
+    def __init__(self, count, file_size=None, database="office.db", files=None, port=None, options=(), variables=None):
         self.port = port or free_port()
 
         def limit():
@@ -32,7 +33,8 @@ class Serve:
 
         words = [PROGRAM, "serve", "--db", database, "--port", str(self.port), "--count", str(count), *options]
         self.process = subprocess.Popen(
-            words, stdin=subprocess.DEVNULL, stdout=subprocess.PIPE, stderr=subprocess.PIPE, text=True, preexec_fn=limit)
+            words, stdin=subprocess.DEVNULL, stdout=subprocess.PIPE, stderr=subprocess.PIPE, text=True, preexec_fn=limit,
+            env=os.environ | (variables or {}))
         atexit.register(self.process.kill)
         self.expect(self.process.stderr.readline(), f"listening on 127.0.0.1:{self.port}\n", "the first line")
 

@@ -20,6 +20,8 @@ pub(crate) enum Which {
 pub(crate) enum Unsynced {
     IsLost,
     IsKept,
+    /// Every other sector is lost.
+    IsTorn,
 }
 
 /// How the files of a connection are taken.
@@ -41,6 +43,42 @@ fn file_of(alloc: Global, bytes: &[u8], calls: u64) -> io::Result<Fused> {
         file.sync()?;
     }
     Ok(Fuse::new(file, calls))
+}
+
+/// How many bytes a disk writes as one.
+const SECTOR: usize = 512;
+
+/// A file of which every other sector has what was synced, and zeros where that had ended, and the others what was
+/// written.
+fn torn(alloc: Global, synced: &[u8], written: &[u8]) -> Result<Vec<u8>, AllocError> {
+    let mut bytes = Vec::new(alloc);
+    for (at, byte) in written.iter().enumerate() {
+        let left = if at / SECTOR % 2 == 0 {
+            *byte
+        } else {
+            synced.get(at).copied().unwrap_or(0)
+        };
+        bytes.push(left)?;
+    }
+    Ok(bytes)
+}
+
+/// What a stop at this moment leaves of the file.
+fn left_of_file(
+    alloc: Global,
+    file: &mut Fused,
+    unsynced: Unsynced,
+) -> Result<Vec<u8>, AllocError> {
+    let written = Vec::from_slice(alloc, file.inner().bytes())?;
+    if unsynced == Unsynced::IsKept {
+        return Ok(written);
+    }
+    file.crash();
+    let synced = file.inner().bytes();
+    match unsynced {
+        Unsynced::IsTorn => torn(alloc, synced, &written),
+        _ => Vec::from_slice(alloc, synced),
+    }
 }
 
 /// The bytes of both files.
@@ -65,13 +103,9 @@ impl Bytes {
         mut files: Files<Fused>,
         unsynced: Unsynced,
     ) -> Result<Bytes, AllocError> {
-        if unsynced == Unsynced::IsLost {
-            files.log.crash();
-            files.db.crash();
-        }
         Ok(Bytes {
-            log: Vec::from_slice(alloc, files.log.inner().bytes())?,
-            db: Vec::from_slice(alloc, files.db.inner().bytes())?,
+            log: left_of_file(alloc, &mut files.log, unsynced)?,
+            db: left_of_file(alloc, &mut files.db, unsynced)?,
         })
     }
 

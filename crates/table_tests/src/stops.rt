@@ -1,7 +1,7 @@
 //! Stops at each call of each file, and after each of them the list again.
 use crate::disks::{Bytes, Taking, Unsynced, Which, is_whole};
 use crate::lists::{BUNDLES, ELEVEN, FREE, HELD, List, arrivals};
-use crate::offices::{Opening, Trial, Way, is_after, passes_on, sent, try_on};
+use crate::offices::{Opening, Trial, Way, is_after, is_run, passes_on, sent, try_on};
 use office_history::Arrival;
 use sqlite::{Alter, Files};
 use sqlite_disk::Disk;
@@ -180,20 +180,27 @@ fn try_calls(rt: &HostRuntime, work: Work<'_>, stop: Stop, name: &str) -> io::Re
     println!(rt; "{name}: TOO MANY CALLS")
 }
 
+/// What is left of the files after a stop, and its name. Files of which no further call is made are torn too.
+const WAYS: [(Taking, Unsynced, &str); 5] = [
+    (Taking::Closed, Unsynced::IsLost, "closed, lost"),
+    (Taking::Closed, Unsynced::IsKept, "closed, kept"),
+    (Taking::Left, Unsynced::IsLost, "left, lost"),
+    (Taking::Left, Unsynced::IsKept, "left, kept"),
+    (Taking::Left, Unsynced::IsTorn, "left, torn"),
+];
+
 /// Stops the work at each call of each file, in each way.
 fn try_work(rt: &HostRuntime, work: Work<'_>, of: &str) -> io::Result<()> {
     for (which, file) in [(Which::Log, "log"), (Which::Database, "database")] {
-        for (taking, taken) in [(Taking::Closed, "closed"), (Taking::Left, "left")] {
-            for (unsynced, left) in [(Unsynced::IsLost, "lost"), (Unsynced::IsKept, "kept")] {
-                let name = format!(in rt.alloc(); "{of}, {file}, {taken}, {left}")?;
-                let stop = Stop {
-                    which,
-                    calls: 0,
-                    taking,
-                    unsynced,
-                };
-                try_calls(rt, work, stop, name.as_str())?;
-            }
+        for (taking, unsynced, left) in WAYS {
+            let name = format!(in rt.alloc(); "{of}, {file}, {left}")?;
+            let stop = Stop {
+                which,
+                calls: 0,
+                taking,
+                unsynced,
+            };
+            try_calls(rt, work, stop, name.as_str())?;
         }
     }
     Ok(())
@@ -214,6 +221,29 @@ fn work_on_eleven<'a>(new: &'a Bytes, list: &'a [Arrival], last: &'a [Arrival]) 
             steps: &HELD,
             arrivals: last,
         },
+    }
+}
+
+/// That the list gets its replies by `run`, and leaves what is due.
+#[derive(Drop)]
+struct Run<'a> {
+    list: List<'a>,
+}
+
+impl Trial for Run<'_> {
+    fn is_passed<S: Alter>(&mut self, alloc: Global, office: &mut StoredOffice<S>) -> bool {
+        let steps = self.list.steps;
+        is_run(alloc, office, self.list) && is_after(alloc, office, steps, steps.len(), 0)
+    }
+}
+
+/// Has a new office answer the list by `run`, without a stop.
+fn try_run(rt: &HostRuntime, list: List<'_>) -> io::Result<()> {
+    let files = Bytes::none(rt.alloc()).whole_files(rt.alloc())?;
+    if passes_on(rt.alloc(), files, Opening::Open, &mut Run { list }) {
+        println!(rt; "run: right")
+    } else {
+        println!(rt; "run: WRONG")
     }
 }
 
@@ -258,6 +288,7 @@ pub(crate) fn try_stops(rt: &HostRuntime, older: Vec<u8>) -> io::Result<()> {
         opening: Opening::Migrate,
         ..by_arrive
     };
+    try_run(rt, by_arrive.list)?;
     try_work(rt, by_arrive, "arrive")?;
     try_work(rt, by_serve_one, "serve_one")?;
     try_bundles(rt, &new)?;

@@ -228,6 +228,29 @@ pub(crate) fn sent<S: Alter>(
     Some(list.steps.len())
 }
 
+/// Whether the answer is there, and is the reply of these words.
+fn is_answered(alloc: Global, answered: &Result<Answer, Lost>, words: &str) -> bool {
+    match answered {
+        Ok(answer) => is_reply(alloc, answer, words),
+        Err(_) => false,
+    }
+}
+
+/// Whether the list gets its replies by `run`.
+pub(crate) fn is_run<S: Alter>(
+    alloc: Global,
+    office: &mut StoredOffice<S>,
+    list: List<'_>,
+) -> bool {
+    let Ok(answers) = office.run(alloc, list.arrivals) else {
+        return false;
+    };
+    answers.len() == list.steps.len()
+        && answers.iter().zip(list.steps.iter()).all(|(answered, step)| is_answered(
+            alloc, answered, step.reply,
+        ))
+}
+
 /// Whether the network's live sheet is that after the first steps, so many, or after at most so many more.
 pub(crate) fn is_after<S: Alter>(
     alloc: Global,

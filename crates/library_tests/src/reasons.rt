@@ -1,15 +1,13 @@
-//! Why commands are refused: a row for each sentence.
+//! Why commands are refused, of refusals that no small script leads to, and of those that were kept. The other
+//! sentences are in the case `explained_reasons`.
 ghost use Rattle.std.specs.Prelude.{IfOk};
 ghost use Rattle.office_rules.specs.Change.{AllFit};
 
 mod rows;
 mod stages;
 
-use crate::reasons::rows::{
-    BITS_ROWS, BLOCKS_ROWS, BUNDLES_ROWS, FILES_ROWS, GIVEN, Given, MESSAGES_ROWS, NETWORKS_ROWS,
-    NUMBERS_ROWS, REVIEWS_ROWS, Row,
-};
-use crate::reasons::stages::{Stage, lines_of};
+use crate::reasons::rows::{GIVEN, Given};
+use crate::reasons::stages::COACH;
 use base::Items;
 use office_decide::{Draft, change_all, decide};
 use office_history::Arrival;
@@ -96,8 +94,8 @@ fn carried_out(alloc: Global, state: State, arrival: &Arrival) -> Option<State> 
     Some(state)
 }
 
-/// The state after the stages.
-fn state_after(alloc: Global, before: &[Stage], file: &[u8]) -> Option<State> {
+/// The state of a network of two teams.
+fn coach(alloc: Global) -> Option<State> {
     let mut state = State {
         draft: Draft {
             net: None,
@@ -105,12 +103,9 @@ fn state_after(alloc: Global, before: &[Stage], file: &[u8]) -> Option<State> {
         },
         name: None,
     };
-    for stage in before {
-        let lines = lines_of(*stage);
-        let arrivals = arrivals_of(alloc, lines, Dash::LineNumber, &Filed { bytes: file }).ok()?;
-        for arrival in &arrivals {
-            state = carried_out(alloc, state, arrival)?;
-        }
+    let arrivals = arrivals_of(alloc, COACH, Dash::LineNumber, &Filed { bytes: b"" }).ok()?;
+    for arrival in &arrivals {
+        state = carried_out(alloc, state, arrival)?;
     }
     Some(state)
 }
@@ -119,14 +114,6 @@ fn state_after(alloc: Global, before: &[Stage], file: &[u8]) -> Option<State> {
 fn arrival_of(alloc: Global, line: &[u8], file: &[u8]) -> Option<Arrival> {
     let arrivals = arrivals_of(alloc, line, Dash::LineNumber, &Filed { bytes: file }).ok()?;
     arrivals.into_iter().next()
-}
-
-/// The networks that a sentence names.
-fn networks(alloc: Global) -> Option<Vec<NetName>> {
-    let mut names = Vec::new(alloc);
-    names.push(NetName::of(alloc, b"bus").ok()??).ok()?;
-    names.push(NetName::of(alloc, b"truck").ok()??).ok()?;
-    Some(names)
 }
 
 /// The refusal of the command as it is decided.
@@ -138,16 +125,11 @@ fn refusal_of(alloc: Global, state: &State, arrival: &Arrival) -> Option<Refusal
     }
 }
 
-/// The sentence of the row's refusal: of the one that is decided, or of this one.
-fn sentence(alloc: Global, row: Row, given: Option<Refusal>) -> Option<Vec<u8>> {
-    let state = state_after(alloc, row.before, row.file)?;
-    let arrival = arrival_of(alloc, row.command, row.file)?;
-    let refusal = match given {
-        Some(refusal) => refusal,
-        None => refusal_of(alloc, &state, &arrival)?,
-    };
-    let names = networks(alloc)?;
-    let seen = Seen::of(state.draft.net.as_ref(), &names, &state.draft.book);
+/// What is reported of this refusal of the command on the network.
+fn given_sentence(alloc: Global, command: &[u8], refusal: Refusal) -> Option<Vec<u8>> {
+    let state = coach(alloc)?;
+    let arrival = arrival_of(alloc, command, b"")?;
+    let seen = Seen::of(state.draft.net.as_ref(), &[], &state.draft.book);
     reason(
         alloc,
         &arrival.team,
@@ -158,68 +140,9 @@ fn sentence(alloc: Global, row: Row, given: Option<Refusal>) -> Option<Vec<u8>> 
     .ok()
 }
 
-/// Whether the row's refusal, as it is decided, has its sentence.
-fn is_explained(alloc: Global, row: Row) -> bool {
-    match sentence(alloc, row, None) {
-        Some(reported) => reported.as_slice() == row.wanted,
-        None => false,
-    }
-}
-
-/// Whether each of the rows is explained by its sentence.
-fn are_explained(alloc: Global, rows: &[Row]) -> bool {
-    rows.iter().all(|row| is_explained(alloc, *row))
-}
-
-#[test]
-fn refusals_about_networks_are_explained(rt: HostRuntime) {
-    assert!(rt; are_explained(rt.alloc(), &NETWORKS_ROWS));
-}
-
-#[test]
-fn refusals_about_blocks_are_explained(rt: HostRuntime) {
-    assert!(rt; are_explained(rt.alloc(), &BLOCKS_ROWS));
-}
-
-#[test]
-fn refusals_about_numbers_are_explained(rt: HostRuntime) {
-    assert!(rt; are_explained(rt.alloc(), &NUMBERS_ROWS));
-}
-
-#[test]
-fn refusals_about_messages_are_explained(rt: HostRuntime) {
-    assert!(rt; are_explained(rt.alloc(), &MESSAGES_ROWS));
-}
-
-#[test]
-fn refusals_about_bits_are_explained(rt: HostRuntime) {
-    assert!(rt; are_explained(rt.alloc(), &BITS_ROWS));
-}
-
-#[test]
-fn refusals_about_reviews_are_explained(rt: HostRuntime) {
-    assert!(rt; are_explained(rt.alloc(), &REVIEWS_ROWS));
-}
-
-#[test]
-fn refusals_about_files_are_explained(rt: HostRuntime) {
-    assert!(rt; are_explained(rt.alloc(), &FILES_ROWS));
-}
-
-#[test]
-fn refusals_about_bundles_are_explained(rt: HostRuntime) {
-    assert!(rt; are_explained(rt.alloc(), &BUNDLES_ROWS));
-}
-
 /// Whether this refusal of the command on the network has its sentence.
 fn is_explained_as(alloc: Global, given: Given) -> bool {
-    let row = Row {
-        before: &[Stage::Coach],
-        command: given.command,
-        file: b"",
-        wanted: given.wanted,
-    };
-    match sentence(alloc, row, Some(given.refusal)) {
+    match given_sentence(alloc, given.command, given.refusal) {
         Some(reported) => reported.as_slice() == given.wanted,
         None => false,
     }
@@ -246,7 +169,7 @@ fn nodes_file(alloc: Global, count: u32) -> Option<Vec<u8>> {
 /// What is reported of an import of so many nodes.
 fn nodes_sentence(alloc: Global, count: u32) -> Option<Vec<u8>> {
     let file = nodes_file(alloc, count)?;
-    let state = state_after(alloc, &[Stage::Coach], b"")?;
+    let state = coach(alloc)?;
     let arrival = arrival_of(alloc, b"- engine import net=coach file=a", &file)?;
     let refusal = refusal_of(alloc, &state, &arrival)?;
     let seen = Seen::of(state.draft.net.as_ref(), &[], &state.draft.book);
@@ -269,27 +192,9 @@ fn too_many_nodes_of_a_file_are_counted(rt: HostRuntime) {
     );
 }
 
-/// What is reported of a command of a network that isn't there where there is no other one.
-fn alone_sentence(alloc: Global) -> Option<Vec<u8>> {
-    let arrival = arrival_of(alloc, b"- engine submit net=coach", b"")?;
-    let book = empty_book(alloc);
-    let seen = Seen::of(None, &[], &book);
-    let command = &arrival.request.command;
-    reason(alloc, &arrival.team, command, Refusal::NoNet, &seen).ok()
-}
-
-#[test]
-fn no_network_is_open(rt: HostRuntime) {
-    let reported = alone_sentence(rt.alloc());
-    assert!(rt;
-        reported.is_some_and(|reported| reported.as_slice()
-            == b"there is no network coach; no network is open".as_slice())
-    );
-}
-
 /// What is reported of a kept refusal of the command on the network.
 fn kept_sentence(alloc: Global, command: &[u8], refusal: Refusal) -> Option<Vec<u8>> {
-    let state = state_after(alloc, &[Stage::Coach], b"")?;
+    let state = coach(alloc)?;
     let arrival = arrival_of(alloc, command, b"")?;
     let seen = Seen::of(state.draft.net.as_ref(), &[], &state.draft.book);
     kept_reason(
@@ -335,7 +240,7 @@ fn kept_refusals_are_explained(rt: HostRuntime) {
 
 /// What is reported of such a refusal where it isn't known whether it was kept.
 fn answer_sentence(alloc: Global, command: &[u8], refusal: Refusal) -> Option<Vec<u8>> {
-    let state = state_after(alloc, &[Stage::Coach], b"")?;
+    let state = coach(alloc)?;
     let arrival = arrival_of(alloc, command, b"")?;
     let seen = Seen::of(state.draft.net.as_ref(), &[], &state.draft.book);
     answer_reason(

@@ -3,8 +3,8 @@
     SUM CRATE/EDIT FUNCTION CLAUSE
 
 with the function and the clause that refused it, and the SHA-256 of all that this stands on: the edit, the sources,
-specs and proofs of its crate and of those below, their lines of crates.txt, and the toolchain. The sum is the same on
-each machine, and a document, a case or a script doesn't change it. scripts/edits reads and writes these lines.
+specs and proofs of its crate and of those below, their lines of crates.txt, and the prover's logic. The sum is the same
+on each machine, and a document, a case or a script doesn't change it. scripts/edits reads and writes these lines.
 """
 import functools
 import glob
@@ -64,8 +64,10 @@ def list_of(crate):
 
 
 @functools.lru_cache(maxsize=None)
-def toolchain():
-    return subprocess.run(["rt", "version"], stdout=subprocess.PIPE, text=True, check=True).stdout.strip()
+def logic():
+    """The prover's logic, which `rt version` prints after the kit's name. Kits of one logic refuse the same edits."""
+    version = subprocess.run(["rt", "version"], stdout=subprocess.PIPE, text=True, check=True).stdout.strip()
+    return version.partition(" logic ")[2] or version
 
 
 def sums_of(edits):
@@ -77,7 +79,7 @@ def sums_of(edits):
 def sum_of(edit):
     crate = edit.split("/")[0]
     lists = [list_of(it) for it in [*crates_below(crate), crate]]
-    return hashlib.sha256("\n".join([toolchain(), sum_of_file(path_of(edit)), *lists]).encode()).hexdigest()
+    return hashlib.sha256("\n".join([logic(), sum_of_file(path_of(edit)), *lists]).encode()).hexdigest()
 
 
 # Lines.

@@ -36,7 +36,7 @@ impl Keyed for u32 {
 }
 
 /// Where an item goes in a list.
-#[derive(Clone, Copy, Debug, PartialEq, Eq)]
+#[derive(Clone, Copy, PartialEq, Eq)]
 pub enum Slot {
     /// It replaces the item at this index, which has its key.
     At(usize),

@@ -11,7 +11,7 @@ pub const GREATEST_EXTENDED: u32 = 536_870_911;
 pub const EXTENDED_FLAG: u32 = 2_147_483_648;
 
 /// How many bits an identifier has: the frame format of ISO 11898-1 that it belongs to.
-#[derive(Clone, Copy, Debug, PartialEq, Eq)]
+#[derive(Clone, Copy, PartialEq, Eq)]
 pub enum IdentForm {
     /// 11 bits, the base frame format: 0 to [`GREATEST_STANDARD`].
     Standard,

@@ -16,7 +16,7 @@ const FIRST_PDU2: u8 = 240;
 const GLOBAL: u8 = 255;
 
 /// The fields of a 29-bit identifier. Contracts see it as the record of them, each in its range.
-#[derive(Clone, Copy, Debug, PartialEq, Eq)]
+#[derive(Clone, Copy, PartialEq, Eq)]
 pub struct J1939 {
     priority: u8,
     extended_page: bool,

@@ -9,7 +9,7 @@ use office_views::{ChartSignal, chart_text, first_clash_of, signal_of};
 use std::alloc::{AllocError, AllocFailed, Global};
 
 /// Why the words describe no signals.
-#[derive(Debug, Drop)]
+#[derive(Drop)]
 pub(crate) enum WordFault<'a> {
     /// This word is malformed, and those before it aren't.
     Wrong(&'a str),

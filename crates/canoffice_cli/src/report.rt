@@ -7,7 +7,7 @@ use dbc_advice::shown_path;
 use std::alloc::{AllocError, Global};
 
 /// How the program ends.
-#[derive(Clone, Copy, Debug, PartialEq, Eq)]
+#[derive(Clone, Copy, PartialEq, Eq)]
 pub enum Status {
     /// All went well: 0.
     Success,

@@ -10,7 +10,7 @@ use std::alloc::{AllocError, Global};
 use store::Lost;
 
 /// Why serving ended before all connections were served, or wasn't all well.
-#[derive(Clone, Copy, Debug, PartialEq, Eq)]
+#[derive(Clone, Copy, PartialEq, Eq)]
 pub enum ServeEnd {
     /// The port can't be listened on.
     CannotListen,

@@ -32,7 +32,7 @@ pub trait Desks {
 }
 
 /// No desk at any port.
-#[derive(Clone, Copy, Debug)]
+#[derive(Clone, Copy)]
 pub struct NoDesk;
 
 impl Desks for NoDesk {

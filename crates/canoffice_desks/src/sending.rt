@@ -16,7 +16,7 @@ use std::alloc::{AllocError, Global};
 const TRY_AGAIN: u16 = 503;
 
 /// Why a request has no answer.
-#[derive(Clone, Copy, Debug, PartialEq, Eq)]
+#[derive(Clone, Copy, PartialEq, Eq)]
 pub enum SendFault {
     /// No try is left, or what came back is no answer of an office.
     NoReply,

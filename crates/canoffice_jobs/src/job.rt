@@ -153,7 +153,7 @@ pub enum Job<'a> {
 }
 
 /// Why the words of the command line request no job.
-#[derive(Debug, Drop)]
+#[derive(Drop)]
 pub enum JobFault {
     /// They request help, or the version, and this is its text.
     Help(String),
@@ -164,7 +164,7 @@ pub enum JobFault {
 }
 
 /// Why the values of a subcommand make no job.
-#[derive(Clone, Copy, Debug)]
+#[derive(Clone, Copy)]
 enum ValueFault<'a> {
     /// This word gives no such number, in its range.
     WrongNumber(Number, &'a str),

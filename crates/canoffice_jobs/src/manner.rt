@@ -1,7 +1,7 @@
 //! How a script is applied or sent.
 
 /// How a script is applied.
-#[derive(Clone, Copy, Debug, PartialEq, Eq)]
+#[derive(Clone, Copy, PartialEq, Eq)]
 pub struct Manner {
     /// Whether it stops at the first refusal.
     pub strict: bool,
@@ -10,7 +10,7 @@ pub struct Manner {
 }
 
 /// To which desk a script is sent, and how.
-#[derive(Clone, Copy, Debug, PartialEq, Eq)]
+#[derive(Clone, Copy, PartialEq, Eq)]
 pub struct Sending {
     /// The port of this machine, from 1.
     pub port: u16,

@@ -31,7 +31,7 @@ const TRIES_LIMIT: u32 = 1_000;
 const RELEASE_LIMIT: u32 = 65_535;
 
 /// A number that a word of the command line gives.
-#[derive(Clone, Copy, Debug)]
+#[derive(Clone, Copy)]
 pub(crate) enum Number {
     /// The length of a message.
     Length,

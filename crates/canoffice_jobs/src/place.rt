@@ -9,7 +9,7 @@ use clap::Command;
 use std::alloc::{AllocError, Global};
 
 /// Where an office is looked at.
-#[derive(Clone, Copy, Debug)]
+#[derive(Clone, Copy)]
 pub enum Place<'a> {
     /// In the database of this path.
     Database(&'a str),
@@ -18,7 +18,7 @@ pub enum Place<'a> {
 }
 
 /// A subcommand that looks at an office.
-#[derive(Clone, Copy, Debug)]
+#[derive(Clone, Copy)]
 pub(crate) enum LookCommand {
     /// `compare`, of releases.
     Compare,
@@ -43,7 +43,7 @@ impl LookCommand {
 }
 
 /// Why the values of `--db` and `--port` name no place, or not all is named that is looked at there.
-#[derive(Clone, Copy, Debug)]
+#[derive(Clone, Copy)]
 pub(crate) enum PlaceFault<'a> {
     /// Neither is given.
     Neither,

@@ -6,7 +6,7 @@ ghost use Rattle.canoffice_looks.specs.What.{fits, shown_by, what_given, what_of
 use std::alloc::{AllocError, Global};
 
 /// What is shown of a network.
-#[derive(Clone, Copy, Debug, PartialEq, Eq)]
+#[derive(Clone, Copy, PartialEq, Eq)]
 pub enum What {
     /// What it has once, and how many there are of each kind of thing.
     State,
@@ -79,7 +79,7 @@ impl What {
 }
 
 /// Why nothing is shown by the words after a network's name.
-#[derive(Clone, Copy, Debug)]
+#[derive(Clone, Copy)]
 pub enum WhatFault<'a> {
     /// Nothing is called so.
     Unknown(&'a str),

@@ -8,7 +8,7 @@ use base::{Checked, Rule};
 use std::alloc::{AllocError, Global};
 
 /// Where bytes are shown.
-#[derive(Clone, Copy, Debug, PartialEq, Eq)]
+#[derive(Clone, Copy, PartialEq, Eq)]
 enum Column {
     /// In a column, or as an item of a list with commas.
     Word,

@@ -5,7 +5,7 @@ ghost use Rattle.columns.specs.Run.{joined, later_runs, run_text, runs_of, runs_
 use std::alloc::{AllocError, Global};
 
 /// Numbers from `first` to `last`, inclusive, with neighbours one step apart.
-#[derive(Clone, Copy, Debug, PartialEq, Eq)]
+#[derive(Clone, Copy, PartialEq, Eq)]
 pub struct Run {
     /// The least.
     pub first: u32,

@@ -6,7 +6,7 @@ ghost use Rattle.dbc_advice.specs.Lines.{line_feed};
 use crate::lines::bytes_before;
 
 /// Where an offset is, as people and editors say it.
-#[derive(Clone, Copy, Debug, PartialEq, Eq)]
+#[derive(Clone, Copy, PartialEq, Eq)]
 pub struct Position {
     /// The line, from 1.
     pub line: usize,

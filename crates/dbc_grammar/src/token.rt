@@ -1,6 +1,6 @@
 //! Kinds of token.
 /// The kinds of token of a DBC file.
-#[derive(Clone, Copy, Debug, PartialEq, Eq)]
+#[derive(Clone, Copy, PartialEq, Eq)]
 pub enum TokenKind {
     /// A C identifier of any length, also a keyword.
     Name,

@@ -6,7 +6,7 @@ ghost use Rattle.dbc_keep_law.specs.Kept.{place_of};
 use dbc_words::Keyword;
 
 /// A place between the parts of a canonical text, in their order.
-#[derive(Clone, Copy, Debug, PartialEq, Eq)]
+#[derive(Clone, Copy, PartialEq, Eq)]
 pub(crate) enum Place {
     /// After the messages: the signals of no message.
     Messages,

@@ -21,7 +21,7 @@ use dbc_words::Keyword;
 use std::alloc::{AllocError, Global};
 
 /// A skipped statement that doesn't stay, and why.
-#[derive(Clone, Copy, Debug, PartialEq, Eq)]
+#[derive(Clone, Copy, PartialEq, Eq)]
 pub struct LeftOut {
     /// Where it begins, and its keyword.
     pub statement: Passed,

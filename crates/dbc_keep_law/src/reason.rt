@@ -1,7 +1,7 @@
 //! Why skipped statements don't stay.
 
 /// Why a skipped statement of a source doesn't stay in the text of another sheet.
-#[derive(Clone, Copy, Debug, PartialEq, Eq)]
+#[derive(Clone, Copy, PartialEq, Eq)]
 pub enum Reason {
     /// It cites a node that the sheet doesn't have.
     NoNode,

@@ -2,7 +2,7 @@
 use dbc_grammar::TokenKind;
 
 /// A token of a DBC text, and where it is.
-#[derive(Clone, Copy, Debug, PartialEq, Eq)]
+#[derive(Clone, Copy, PartialEq, Eq)]
 pub struct Token<'a> {
     /// Its kind: a name, a number, a text or a mark.
     pub kind: TokenKind,

@@ -6,7 +6,7 @@ ghost use Rattle.std.specs.Str.{bytes_eq};
 ghost use Rattle.dbc_lint.specs.Kind.{first_unknown, is_chosen, is_unknown, kind_name, kind_number, kind_of, parts_of};
 
 /// A kind of remark.
-#[derive(Clone, Copy, Debug, PartialEq, Eq)]
+#[derive(Clone, Copy, PartialEq, Eq)]
 pub enum Kind {
     /// 80: the name of a message, a signal, a node or a value table is longer than 32 bytes.
     LongName,

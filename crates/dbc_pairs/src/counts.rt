@@ -6,7 +6,7 @@ use crate::pairing::partner;
 use dbc_sheet::Sheet;
 
 /// How many messages of a newer sheet differ from those of an older one.
-#[derive(Clone, Copy, Debug, PartialEq, Eq)]
+#[derive(Clone, Copy, PartialEq, Eq)]
 pub struct Counts {
     /// Those of the newer sheet that have no partner in the older one.
     pub added: usize,

@@ -3,7 +3,7 @@ use dbc_words::{SheetCode, SheetFault};
 use std::alloc::AllocError;
 
 /// Why a part of a sheet isn't built.
-#[derive(Clone, Copy, Debug, PartialEq, Eq)]
+#[derive(Clone, Copy, PartialEq, Eq)]
 pub(crate) enum Refusal {
     /// Out of memory.
     Memory,

@@ -45,7 +45,7 @@ impl TableLine {
 }
 
 /// The offsets at which a signal is described.
-#[derive(Clone, Copy, Debug, PartialEq, Eq)]
+#[derive(Clone, Copy, PartialEq, Eq)]
 pub struct SignalOffsets {
     /// The offset of its name.
     pub at: usize,

@@ -4,7 +4,7 @@ ghost use Rattle.std.specs.Str.{bytes_eq};
 ghost use Rattle.dbc_words.specs.Keyword.{keyword_of, ends_keyword};
 
 /// A word that DBC text reserves (Vector's DBC File Format Documentation, the keywords of its statements).
-#[derive(Clone, Copy, Debug, PartialEq, Eq)]
+#[derive(Clone, Copy, PartialEq, Eq)]
 pub enum Keyword {
     /// `VERSION`. The file's version text.
     Version,

@@ -6,7 +6,7 @@ use crate::limits::LENGTH_LIMIT;
 use std::marker::Model;
 
 /// A message's length: 0 to [`LENGTH_LIMIT`] bytes. Contracts see it as the number.
-#[derive(Clone, Copy, Debug, PartialEq, Eq, PartialOrd, Ord)]
+#[derive(Clone, Copy, PartialEq, Eq, PartialOrd, Ord)]
 pub struct PayloadLength {
     bytes: u16,
 }

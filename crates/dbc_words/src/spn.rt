@@ -7,7 +7,7 @@ use std::marker::Model;
 
 /// The suspect parameter number of a signal (SAE J1939): 0 to [`SPN_LIMIT`], where 0 is none. Contracts see it as the
 /// number.
-#[derive(Clone, Copy, Debug, PartialEq, Eq, PartialOrd, Ord)]
+#[derive(Clone, Copy, PartialEq, Eq, PartialOrd, Ord)]
 pub struct Spn {
     number: u32,
 }

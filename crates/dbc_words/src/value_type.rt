@@ -4,7 +4,7 @@ ghost use Rattle.dbc_words.specs.ValueType.{value_type_number, value_type_of};
 
 /// How the bits of a signal are to be read (the signal value types of Vector's DBC File Format Documentation). It is
 /// kept and written again, and has no other effect.
-#[derive(Clone, Copy, Debug, PartialEq, Eq)]
+#[derive(Clone, Copy, PartialEq, Eq)]
 pub enum ValueType {
     /// A whole number: 0, and the default for a signal without `SIG_VALTYPE_`.
     Integer,

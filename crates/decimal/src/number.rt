@@ -1,7 +1,6 @@
 //! The decimal itself.
 ghost use Rattle.std.specs.Prelude.{◌≡◌, ◌↔◌, IsTrue, pos};
 
-use std::fmt;
 use std::marker::Model;
 
 /// A whole mantissa times a power of ten.
@@ -117,14 +116,4 @@ impl Eq for Decimal {
     ghost use Rattle.std.proofs.Common.{rules};
 
     ghost laws = { Prim.search (comparing, rules) };
-}
-
-impl fmt::Debug for Decimal {
-    /// The mantissa and the exponent.
-    fn fmt<W: fmt::Write>(&self, f: &mut fmt::Formatter<W>) -> fmt::Result {
-        f.debug_struct("Decimal")
-            .field("mantissa", &self.mantissa())
-            .field("exponent", &self.exponent())
-            .finish()
-    }
 }

@@ -12,7 +12,7 @@ use desk_head::{Header, empty_headers, header_named};
 use httparse::spans::{HeaderSpan, parse_response};
 
 /// What a desk says of a request by the status of its response (RFC 9110, on status codes).
-#[derive(Clone, Copy, Debug, PartialEq, Eq)]
+#[derive(Clone, Copy, PartialEq, Eq)]
 pub enum Status {
     /// 200: the body is what was asked for.
     Success,
@@ -36,7 +36,7 @@ impl Status {
 }
 
 /// A response that came whole.
-#[derive(Debug, Drop)]
+#[derive(Drop)]
 pub struct Response {
     /// Its status.
     pub status: Status,
@@ -45,7 +45,7 @@ pub struct Response {
 }
 
 /// What came back.
-#[derive(Debug, Drop)]
+#[derive(Drop)]
 pub enum Received {
     /// A whole response. What follows its body isn't looked at.
     Whole(Response),

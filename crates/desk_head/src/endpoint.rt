@@ -2,7 +2,7 @@
 use office_fields::ActionKind;
 
 /// What a target of `GET` shows.
-#[derive(Clone, Copy, Debug, PartialEq, Eq)]
+#[derive(Clone, Copy, PartialEq, Eq)]
 pub enum Showing {
     /// `/nets`: the list of networks.
     Nets,

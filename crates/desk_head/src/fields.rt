@@ -6,7 +6,7 @@ ghost use Rattle.desk_head.specs.Fields.{IsHeader, named, same_name};
 use httparse::spans::HeaderSpan;
 
 /// What a request has under the name of a header.
-#[derive(Clone, Copy, Debug)]
+#[derive(Clone, Copy)]
 pub enum Header<'b> {
     /// There is no header of this name.
     Absent,

@@ -8,7 +8,7 @@ use httparse::Status;
 use httparse::spans::{EMPTY_HEADER_SPAN, HeaderSpan, RequestSpans, parse_request};
 
 /// What bytes say of the head of a request.
-#[derive(Clone, Copy, Debug)]
+#[derive(Clone, Copy)]
 pub enum HeadState {
     /// The bytes begin with the whole head. Its headers are at the front of the array.
     Complete(RequestSpans),

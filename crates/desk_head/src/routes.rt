@@ -12,7 +12,7 @@ use std::alloc::{AllocError, Global};
 use std::str::from_utf8;
 
 /// A route.
-#[derive(Clone, Copy, Debug, PartialEq, Eq)]
+#[derive(Clone, Copy, PartialEq, Eq)]
 pub(crate) enum Route {
     /// `/do/{command}`
     Do,

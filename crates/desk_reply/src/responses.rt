@@ -16,7 +16,7 @@ use serde_json::Value;
 use std::alloc::{AllocError, Global};
 
 /// What a body is.
-#[derive(Clone, Copy, Debug, PartialEq, Eq)]
+#[derive(Clone, Copy, PartialEq, Eq)]
 pub enum BodyKind {
     /// JSON: replies and problems.
     Json,

@@ -6,7 +6,7 @@ ghost use Rattle.desk_types.specs.Counts.{CountsFailure};
 use std::io::{Read, Write};
 
 /// A call of a device failed.
-#[derive(Clone, Copy, Debug, PartialEq, Eq)]
+#[derive(Clone, Copy, PartialEq, Eq)]
 pub struct Failed;
 
 /// Where requests come from.

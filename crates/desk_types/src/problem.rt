@@ -3,7 +3,7 @@ ghost use Rattle.std.specs.Prelude.{◌≡◌};
 ghost use Rattle.desk_types.specs.Problem.{problem_status, problem_text};
 
 /// Why a request is answered by an error, and the office isn't changed.
-#[derive(Clone, Copy, Debug, PartialEq, Eq)]
+#[derive(Clone, Copy, PartialEq, Eq)]
 pub enum Problem {
     /// 400: the head or the body has not the form that it must have, or the input ends in it.
     BadRequest,

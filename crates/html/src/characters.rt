@@ -4,7 +4,7 @@ ghost use Rattle.html.specs.Characters.{char_at, four, is_between, is_later, lon
 ghost use Rattle.html.specs.Characters.{number_of_three, three, two};
 
 /// A character, and how many bytes after its first one write it.
-#[derive(Clone, Copy, Debug, PartialEq, Eq)]
+#[derive(Clone, Copy, PartialEq, Eq)]
 pub(crate) struct Character {
     /// Its number.
     pub(crate) number: u32,

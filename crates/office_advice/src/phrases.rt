@@ -8,7 +8,7 @@ use office_fields::FieldKind;
 use std::alloc::{AllocError, Global};
 
 /// Which whole numbers are values, both ends inclusive.
-#[derive(Clone, Copy, Debug, PartialEq, Eq)]
+#[derive(Clone, Copy, PartialEq, Eq)]
 pub struct NumberRange {
     /// The least.
     pub least: u32,

@@ -22,7 +22,7 @@ pub struct Arrival {
 }
 
 /// What an arrival is answered.
-#[derive(Debug, PartialEq, Eq, Drop)]
+#[derive(PartialEq, Eq, Drop)]
 pub enum Answer {
     /// What the office replied to the first arrival of the team's key.
     Reply(Reply),

@@ -5,7 +5,7 @@ ghost use Rattle.office_looks.specs.Reads.{reads_of};
 use office_types::NetLook;
 
 /// How much is read of live messages.
-#[derive(Clone, Copy, Debug, PartialEq, Eq)]
+#[derive(Clone, Copy, PartialEq, Eq)]
 pub enum MessagesRead {
     /// No message.
     Nothing,
@@ -18,7 +18,7 @@ pub enum MessagesRead {
 }
 
 /// How much is read of releases.
-#[derive(Clone, Copy, Debug, PartialEq, Eq)]
+#[derive(Clone, Copy, PartialEq, Eq)]
 pub enum ReleasesRead {
     /// No release.
     Nothing,
@@ -29,7 +29,7 @@ pub enum ReleasesRead {
 }
 
 /// What is read of a network: so much of its live messages and of its releases, and the rest whole.
-#[derive(Clone, Copy, Debug, PartialEq, Eq)]
+#[derive(Clone, Copy, PartialEq, Eq)]
 pub struct Reads {
     /// How much of the live messages.
     pub messages: MessagesRead,

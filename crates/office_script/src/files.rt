@@ -5,7 +5,7 @@ ghost use Rattle.office_script.specs.Files.{Holding, Gives, FailsWith};
 use std::alloc::Global;
 
 /// Why a file's bytes can't be had.
-#[derive(Clone, Copy, Debug, PartialEq, Eq)]
+#[derive(Clone, Copy, PartialEq, Eq)]
 pub enum PathFault {
     /// No file can be read at the path.
     Unreadable,

@@ -8,7 +8,7 @@ use office_history::Key;
 use std::alloc::Global;
 
 /// What `-` means as the key of a line.
-#[derive(Clone, Copy, Debug, PartialEq, Eq)]
+#[derive(Clone, Copy, PartialEq, Eq)]
 pub enum Dash {
     /// The key `line-N`, where N is the number of the line in its script, from 1.
     LineNumber,

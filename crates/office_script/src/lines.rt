@@ -5,7 +5,7 @@ ghost use Rattle.office_script.specs.Lines.{lines_of, AreLinesOf, says_nothing};
 use base::split_once;
 
 /// The first line of a text, and what follows it.
-#[derive(Clone, Copy, Debug)]
+#[derive(Clone, Copy)]
 pub struct FirstLine<'a> {
     /// The bytes before the first line feed, or all of them if there is none. A carriage return is a byte of its line.
     pub line: &'a [u8],

@@ -5,7 +5,7 @@ ghost use Rattle.office_script.specs.Words.{words_of, words_after, AreWordsOf};
 use base::split_once;
 
 /// The first word of a line, and what follows it.
-#[derive(Clone, Copy, Debug)]
+#[derive(Clone, Copy)]
 pub struct FirstWord<'a> {
     /// The bytes before the first space, or all of them if there is none. It may be empty.
     pub word: &'a [u8],

@@ -1,7 +1,7 @@
 //! What has become of a suspect parameter number.
 
 /// What has become of a suspect parameter number on a network.
-#[derive(Clone, Copy, Debug, PartialEq, Eq)]
+#[derive(Clone, Copy, PartialEq, Eq)]
 pub(crate) enum SpnUse {
     /// A live signal has it.
     Live,

@@ -9,7 +9,7 @@ use std::marker::Model;
 pub const GREATEST_PGN: u32 = 131_071;
 
 /// The numbers from `first` to `last`, inclusive; none where `last` is below `first`.
-#[derive(Clone, Copy, Debug, PartialEq, Eq)]
+#[derive(Clone, Copy, PartialEq, Eq)]
 pub struct Block {
     /// The least number.
     pub first: u32,
@@ -18,7 +18,7 @@ pub struct Block {
 }
 
 /// What the numbers of a granted block are.
-#[derive(Clone, Copy, Debug, PartialEq, Eq, PartialOrd, Ord)]
+#[derive(Clone, Copy, PartialEq, Eq, PartialOrd, Ord)]
 pub enum BlockForm {
     /// 11-bit identifiers, 0 to 2047.
     Std,
@@ -99,7 +99,7 @@ impl BlockForm {
 }
 
 /// A block of numbers of one form: at least one number, and none below the form's least or above its greatest.
-#[derive(Clone, Copy, Debug, PartialEq, Eq)]
+#[derive(Clone, Copy, PartialEq, Eq)]
 pub struct FormBlock {
     form: BlockForm,
     first: u32,

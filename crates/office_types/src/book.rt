@@ -34,7 +34,7 @@ pub struct SpnBlock {
 }
 
 /// A suspect parameter number that a signal may be given: 1 to [`SPN_LIMIT`]. Contracts see it as the number.
-#[derive(Clone, Copy, Debug, PartialEq, Eq)]
+#[derive(Clone, Copy, PartialEq, Eq)]
 pub struct UsableSpn {
     number: u32,
 }

@@ -70,7 +70,7 @@ pub enum Action {
 }
 
 /// Whether J1939 parameter groups are allotted on a network.
-#[derive(Clone, Copy, Debug, PartialEq, Eq)]
+#[derive(Clone, Copy, PartialEq, Eq)]
 pub enum NetKind {
     /// A plain CAN network.
     Can,

@@ -15,7 +15,7 @@ use can_id::{IdentForm, has_destination};
 use dbc_words::SPN_LIMIT;
 
 /// What the requested numbers are.
-#[derive(Clone, Copy, Debug, PartialEq, Eq)]
+#[derive(Clone, Copy, PartialEq, Eq)]
 pub enum NumberForm {
     /// 11-bit identifiers, 0 to 2047.
     Std,

@@ -4,7 +4,6 @@ ghost use Rattle.office_types.specs.Parts.{AreParts};
 
 use base::{Copying, Items};
 use std::alloc::{AllocError, Global};
-use std::fmt;
 use std::marker::Model;
 
 /// The greatest number of parts of a bundle.
@@ -89,12 +88,6 @@ impl<T: Eq> Eq for Parts<T> {
     ghost use Rattle.std.specs.Cmp.Lexicographic.{lists_equiv};
 
     ghost laws = { lists_equiv T.Eq.laws };
-}
-
-impl<T: fmt::Debug> fmt::Debug for Parts<T> {
-    fn fmt<W: fmt::Write>(&self, f: &mut fmt::Formatter<W>) -> fmt::Result {
-        self.things.as_slice().fmt(f)
-    }
 }
 
 impl<T: Drop> Drop for Parts<T> {

@@ -6,7 +6,7 @@ ghost use Rattle.office_types.specs.declared.refusal.Refusal.{Refusal};
 /// What is wrong with an imported file: the number of a fault of reading, and its byte offset; or 22, 23 or 24, and the
 /// DBC number of the first message whose signals don't fit together. Or with a bundle: the number of the refusal of its
 /// first refused part, and that part's number, from 1.
-#[derive(Clone, Copy, Debug, PartialEq, Eq)]
+#[derive(Clone, Copy, PartialEq, Eq)]
 pub struct FileFault {
     /// The fault's number.
     pub fault: u8,
@@ -15,7 +15,7 @@ pub struct FileFault {
 }
 
 /// Why the office refused a command.
-#[derive(Clone, Copy, Debug, PartialEq, Eq)]
+#[derive(Clone, Copy, PartialEq, Eq)]
 pub enum Refusal {
     /// 22: a bit of the signal is outside the message's payload.
     OutsidePayload,

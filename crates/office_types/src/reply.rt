@@ -13,7 +13,7 @@ use std::alloc::{AllocError, Global};
 use std::fmt;
 
 /// What the office answers to a command. Its text is the reply's line, without the line's end.
-#[derive(Debug, PartialEq, Eq, Drop)]
+#[derive(PartialEq, Eq, Drop)]
 pub enum Reply {
     /// The command was carried out.
     Done,
@@ -38,7 +38,7 @@ pub enum Reply {
 }
 
 /// What a part of a bundle is answered that is carried out. Its text is that of the reply.
-#[derive(Clone, Copy, Debug, PartialEq, Eq)]
+#[derive(Clone, Copy, PartialEq, Eq)]
 pub enum PartReply {
     /// The part was carried out.
     Done,
@@ -51,7 +51,7 @@ pub enum PartReply {
 }
 
 /// A reply as four numbers: its kind, and up to three that it holds, 0 where there are fewer.
-#[derive(Clone, Copy, Debug, PartialEq, Eq)]
+#[derive(Clone, Copy, PartialEq, Eq)]
 pub struct ReplyNumbers {
     /// Done is 0, a number 1, a start 2, counts 3, a release 4, a refusal 5, a bundle 6.
     pub kind: u32,
@@ -64,7 +64,7 @@ pub struct ReplyNumbers {
 }
 
 /// The answer of a part as two numbers: its kind, that of the reply, and its value, 0 where it has none.
-#[derive(Clone, Copy, Debug, PartialEq, Eq)]
+#[derive(Clone, Copy, PartialEq, Eq)]
 pub struct PartNumbers {
     /// Done is 0, a number 1, a start 2, a release 4.
     pub kind: u32,

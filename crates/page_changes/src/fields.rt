@@ -14,7 +14,7 @@ use page_plan::sender_of;
 use std::alloc::{AllocError, Global};
 
 /// A field of a message.
-#[derive(Clone, Copy, Debug, PartialEq, Eq)]
+#[derive(Clone, Copy, PartialEq, Eq)]
 pub(crate) enum MessageField {
     Number,
     Name,
@@ -24,7 +24,7 @@ pub(crate) enum MessageField {
 }
 
 /// A field of a signal.
-#[derive(Clone, Copy, Debug, PartialEq, Eq)]
+#[derive(Clone, Copy, PartialEq, Eq)]
 pub enum SignalField {
     /// How it is multiplexed.
     Multiplexing,

@@ -5,7 +5,7 @@ ghost use Rattle.page_messages.specs.Bits.{join_row};
 use std::alloc::AllocError;
 
 /// A row of a payload.
-#[derive(Clone, Copy, Debug, PartialEq, Eq)]
+#[derive(Clone, Copy, PartialEq, Eq)]
 pub(crate) enum Row {
     /// Bytes, from the first to the last, in which no drawn signal has a bit.
     Free(u16, u16),

@@ -183,7 +183,7 @@ fn push_note_cell(text: &mut Vec<u8>, signal: &Signal) -> Result<(), AllocError>
 }
 
 /// Which columns of the table are there.
-#[derive(Clone, Copy, Debug, PartialEq, Eq)]
+#[derive(Clone, Copy, PartialEq, Eq)]
 struct Columns {
     /// How the signals are coded.
     codings: bool,

@@ -19,7 +19,7 @@ use page_plan::{CAPITAL, Plan, SMALL, place_of, push_letters, push_tone};
 use std::alloc::AllocError;
 
 /// What a number is.
-#[derive(Clone, Copy, Debug, PartialEq, Eq)]
+#[derive(Clone, Copy, PartialEq, Eq)]
 pub(crate) enum CellKind {
     /// A live message has it.
     Live,

@@ -5,7 +5,7 @@ ghost use Rattle.page_numbers.specs.Map.{IsPage, addressed_page, broadcast_page,
 use office_types::BlockForm;
 
 /// A page of the map: rows of 16 numbers.
-#[derive(Clone, Copy, Debug, PartialEq, Eq)]
+#[derive(Clone, Copy, PartialEq, Eq)]
 pub(crate) struct MapPage {
     /// What the numbers are.
     pub(crate) form: BlockForm,

@@ -5,7 +5,7 @@ ghost use Rattle.page_plan.specs.Plan.{has_groups, has_releases, is_live, shows_
 use office_types::NetKind;
 
 /// What a page is of.
-#[derive(Clone, Copy, Debug, PartialEq, Eq)]
+#[derive(Clone, Copy, PartialEq, Eq)]
 pub enum Subject {
     /// The live network.
     Live(NetKind),

@@ -6,7 +6,7 @@ use sqlite::{Error, ErrorCode};
 use std::fmt;
 
 /// Why a call is lost: it was not carried out. Its text is `lost` and its number.
-#[derive(Clone, Copy, Debug, PartialEq, Eq)]
+#[derive(Clone, Copy, PartialEq, Eq)]
 pub enum Lost {
     /// Memory ran out. The tables are as before, and the next call may succeed.
     Memory,

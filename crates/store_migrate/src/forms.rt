@@ -8,7 +8,7 @@ use sqlite::{Alter, Connection};
 use store_tables::is_begun;
 
 /// The tables of an office of some time.
-#[derive(Clone, Copy, Debug, PartialEq, Eq)]
+#[derive(Clone, Copy, PartialEq, Eq)]
 pub enum SchemaForm {
     /// The nine tables of the first offices, whose live messages are bodies.
     Bodies,

@@ -12,7 +12,7 @@ use sqlite::{Alter, Connection, Error, Row};
 use store_statements::select_profile;
 
 /// What the rows of the profile say.
-#[derive(Clone, Copy, Debug, PartialEq, Eq)]
+#[derive(Clone, Copy, PartialEq, Eq)]
 pub enum ProfileRows {
     /// Profile 1, with live messages as bodies: the row (1, 1) alone.
     Bodies,

@@ -18,7 +18,7 @@ use store_rows::items_of;
 use store_statements::{select_held_numbers, select_msg_numbers};
 
 /// A table of identifiers that a network doesn't give out.
-#[derive(Clone, Copy, Debug, PartialEq, Eq)]
+#[derive(Clone, Copy, PartialEq, Eq)]
 pub(crate) enum TakenTable {
     /// `msg`: those of its live messages.
     Live,

@@ -1,7 +1,7 @@
 //! How much is read of the signals of live messages.
 
 /// How much is read of signals.
-#[derive(Clone, Copy, Debug, PartialEq, Eq)]
+#[derive(Clone, Copy, PartialEq, Eq)]
 pub enum SignalParts {
     /// All of them.
     All,

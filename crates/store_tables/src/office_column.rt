@@ -4,7 +4,7 @@ use sqlite_schema::schema::Kind;
 
 /// A column of an office's table, by its name and type. The table is STRICT but for an untyped column, no column has
 /// a default, and each compares texts byte by byte.
-#[derive(Clone, Copy, Debug, PartialEq, Eq)]
+#[derive(Clone, Copy, PartialEq, Eq)]
 pub(crate) enum OfficeColumn {
     /// One of the key, which takes no NULL.
     Key(&'static [u8], Kind),

@@ -3,7 +3,7 @@
 use crate::office_table::OfficeTable;
 
 /// An index of an office, which SQLite makes of columns that are unique together.
-#[derive(Clone, Copy, Debug, PartialEq, Eq)]
+#[derive(Clone, Copy, PartialEq, Eq)]
 pub(crate) enum OfficeIndex {
     /// The key of networks.
     Net,

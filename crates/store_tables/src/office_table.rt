@@ -5,7 +5,7 @@ use crate::office_column::OfficeColumn::{Key, Other, Untyped};
 use sqlite_schema::schema::Kind::{Blob, Integer, Text};
 
 /// A table of an office.
-#[derive(Clone, Copy, Debug, PartialEq, Eq)]
+#[derive(Clone, Copy, PartialEq, Eq)]
 pub(crate) enum OfficeTable {
     /// The profile of the tables.
     Profile,

@@ -6,7 +6,7 @@ use super::{FileSource, PathFault, StandardInput};
 use std::alloc::Global;
 
 /// The bytes of a file, and the path that names it.
-#[derive(Clone, Copy, Debug)]
+#[derive(Clone, Copy)]
 pub struct NamedFile<'a> {
     /// The path.
     pub path: &'a str,
@@ -15,7 +15,7 @@ pub struct NamedFile<'a> {
 }
 
 /// The files of a list, and no others, and a standard input. If a path occurs twice, the first file counts.
-#[derive(Clone, Copy, Debug)]
+#[derive(Clone, Copy)]
 pub struct ListedFiles<'a> {
     /// The files, in order.
     pub files: &'a [NamedFile<'a>],

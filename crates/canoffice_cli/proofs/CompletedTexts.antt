@@ -3,7 +3,7 @@ use Rattle.std.proofs.Common.{◌≡◌, ℕ, Bool, true, false, List, Option, S
 use Rattle.std.specs.Prelude.{IfOk}
 use Rattle.std.specs.Borrow.{Bor}
 use Rattle.std.specs.declared.alloc.AllocError.{AllocError}
-use Rattle.dbc_complete.specs.Completed.{NamedText}
+use Rattle.dbc_keep.specs.Completed.{NamedText}
 use Rattle.office_script.specs.Files.{Files, Holding}
 use Rattle.canoffice_cli.specs.Databases.{Databases}
 use Rattle.canoffice_cli.specs.Exported.{IsCompletedOutcome, IsTextOutcome}

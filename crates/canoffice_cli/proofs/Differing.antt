@@ -5,8 +5,8 @@ use Rattle.dbc_compare.specs.Differences.{differences}
 use Rattle.dbc_compare.specs.Laws.{TellsApart}
 use Rattle.dbc_compare.specs.Lines.{breaks, compare_text, text_of_differences}
 use Rattle.dbc_compare.specs.declared.difference.Difference.{Difference}
-use Rattle.dbc_pairs.specs.Pairs.{counts_of}
-use Rattle.dbc_pairs.specs.declared.counts.Counts.{Counts}
+use Rattle.dbc_sheet.specs.Pairs.{counts_of}
+use Rattle.dbc_sheet.specs.declared.counts.Counts.{Counts}
 use Rattle.dbc_sheet.specs.declared.sheet.Sheet.{Sheet}
 use Rattle.canoffice_cli.specs.Compared.{has_no_difference}
 

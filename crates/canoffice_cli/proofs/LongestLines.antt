@@ -22,9 +22,9 @@ use Rattle.office_history.specs.declared.arrival.Answer.TheVariants.{Reply, KeyR
 use Rattle.office_history.specs.declared.arrival.Arrival.{Arrival}
 use Rattle.office_types.specs.declared.command.Action.{Action}
 use Rattle.office_types.specs.declared.command.Command.{Command}
-use Rattle.office_echo.specs.Lines.{action_heading, answer_line, answer_text, bundle_echo, echo_lines, echoes}
-use Rattle.office_echo.specs.Lines.{longest_echo, longest_echoes, longest_part, longest_parts, longest_refusal}
-use Rattle.office_echo.specs.Lines.{part_lines, parts_of, task_heading, whole_echo}
+use Rattle.office_script.specs.Echoes.{action_heading, answer_line, answer_text, bundle_echo, echo_lines, echoes}
+use Rattle.office_script.specs.Echoes.{longest_echo, longest_echoes, longest_part, longest_parts, longest_refusal}
+use Rattle.office_script.specs.Echoes.{part_lines, parts_of, task_heading, whole_echo}
 use Rattle.canoffice_cli.specs.Answered.{answer_lines}
 use Rattle.canoffice_cli.proofs.CanAnswer.{step_can_answer}
 use Rattle.canoffice_cli.specs.LongestLines.{AnswersFit, CanAnswer, CanAnswerBundle, CanAnswerSingle, Has32Bits}

@@ -2,7 +2,7 @@
 use Rattle.std.specs.Prelude.{◌≡◌, ◌⊎◌, ℕ, ◌≤◌, Bool, true, false, ◌&&◌, List, [], ◌∷◌, ◌++◌, length, map, codes}
 use Rattle.std.specs.Prelude.{Option, Some, None, Ok, IsSome, IsTrue, if◌then◌else◌}
 use Rattle.std.specs.List.{flat_map, list_any}
-use Rattle.office_echo.specs.Lines.{answer_line, echoes, is_refused}
+use Rattle.office_script.specs.Echoes.{answer_line, echoes, is_refused}
 use Rattle.office_history.specs.declared.arrival.Answer.{Answer}
 use Rattle.office_history.specs.declared.arrival.Arrival.{Arrival}
 use Rattle.office_history.specs.History.{Answered, IsLegalHistory}

@@ -1,7 +1,7 @@
 -- The outcome of an export.
 use Rattle.std.specs.Prelude.{◌≡◌, ◌⊎◌, ◌==◌, ℕ, Bool, true, false, List, Option, Some, None, Result, Ok, Err}
 use Rattle.std.specs.Prelude.{if◌then◌else◌}
-use Rattle.dbc_complete.specs.Completed.{CannotBeCompleted, IsCompleted, NamedText}
+use Rattle.dbc_keep.specs.Completed.{CannotBeCompleted, IsCompleted, NamedText}
 use Rattle.dbc_lex.specs.declared.fault.ReadFault.{ReadFault}
 use Rattle.office_types.specs.PlainName.{IsPlainName}
 use Rattle.store.specs.declared.lost.Lost.{Lost}

@@ -17,7 +17,7 @@ use Rattle.office_rules.specs.Step.{Step}
 use Rattle.office_history.specs.declared.arrival.Answer.{Answer}
 use Rattle.office_history.specs.declared.arrival.Answer.TheVariants as answer
 use Rattle.office_history.specs.declared.arrival.Arrival.{Arrival}
-use Rattle.office_echo.specs.Lines.{answer_line, echoes, longest_echoes}
+use Rattle.office_script.specs.Echoes.{answer_line, echoes, longest_echoes}
 use Rattle.canoffice_cli.specs.Answered.{answer_lines}
 
 -- The longest lines, with their newlines. A fault has 8 bits, and a number, a count and a release have 32.

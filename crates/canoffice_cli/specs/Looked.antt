@@ -1,8 +1,8 @@
 -- What a look at an office prints.
 use Rattle.std.specs.Prelude.{◌≡◌, ℕ, List, Option, Some, None, Result, Ok, Err, IfOk}
 use Rattle.canoffice_desks.specs.Desks.{Asked, Desks}
-use Rattle.canoffice_looks.specs.Words.{requests_look, show_look}
-use Rattle.canoffice_looks.specs.declared.what.What.{What}
+use Rattle.canoffice_jobs.specs.Words.{requests_look, show_look}
+use Rattle.canoffice_jobs.specs.declared.what.What.{What}
 use Rattle.desk_head.specs.Asked.{target_of}
 use Rattle.office_types.specs.declared.state.Office.{Office}
 use Rattle.office_history.specs.History.{Answered, IsLegal}

@@ -3,7 +3,7 @@ use Rattle.std.specs.Prelude.{◌≡◌, ◌⊎◌, ◌==◌, ◌-◌, ℕ, Bool
 use Rattle.std.specs.List.{suffix_len}
 use Rattle.std.specs.Str.{bytes_eq}
 use Rattle.canoffice_desks.specs.Desks.{Desks}
-use Rattle.canoffice_looks.specs.Words.{page_look}
+use Rattle.canoffice_jobs.specs.Words.{page_look}
 use Rattle.dbc_grammar.specs.Reads.{Reads}
 use Rattle.dbc_lex.specs.declared.fault.ReadFault.{ReadFault}
 use Rattle.dbc_read.specs.Reading.{IsReadFault}

@@ -3,7 +3,7 @@ ghost use Rattle.std.specs.Prelude.{◌≡◌, ◌⊎◌, ◌++◌, ◌&&◌, []
 ghost use Rattle.std.specs.Prelude.{IfErr, OnErr};
 ghost use Rattle.sqlite.specs.Held.{state};
 ghost use Rattle.std.specs.List.{list_any};
-ghost use Rattle.office_echo.specs.Lines.{is_refused};
+ghost use Rattle.office_script.specs.Echoes.{is_refused};
 ghost use Rattle.office_history.specs.declared.arrival.Arrival.{Arrival as AnArrival};
 ghost use Rattle.office_history.specs.History.{IsLegalHistory};
 ghost use Rattle.store.specs.Calls.{HoldsOnErr, IsSettled, KeepsDoubt, OnHistory};
@@ -20,9 +20,9 @@ use crate::reasons::Reasons;
 use crate::report::{Report, Status};
 use crate::room::Room;
 use canoffice_jobs::Manner;
-use office_echo::{add_answer, add_echoes, is_refused};
+use office::KeyedOffice;
 use office_history::{Answer, Arrival, histories_grow};
-use office_keyed::KeyedOffice;
+use office_script::{add_answer, add_echoes, is_refused};
 use sqlite::{Alter, Connection};
 use std::alloc::{AllocError, Global};
 use std::io::Write;
@@ -260,7 +260,7 @@ pub fn answers_when_closed(reported: Answers, closed: Result<(), Lost>) -> Answe
 }
 
 impl PrintedLine for Answer {
-    ghost use Rattle.office_echo.specs.Lines.{answer_line};
+    ghost use Rattle.office_script.specs.Echoes.{answer_line};
 
     ghost line = { answer_line };
 

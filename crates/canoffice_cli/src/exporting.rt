@@ -5,7 +5,7 @@ ghost use Rattle.canoffice_cli.specs.Exported.{IsCompletedOutcome, IsExportWith,
 ghost use Rattle.canoffice_cli.specs.Exported.{sheet_requested};
 ghost use Rattle.canoffice_cli.specs.Outcome.{outcome_of};
 ghost use Rattle.canoffice_cli.specs.Performance.{IsExported};
-ghost use Rattle.dbc_complete.specs.Completed.{named_text};
+ghost use Rattle.dbc_keep.specs.Completed.{named_text};
 ghost use Rattle.store.specs.Looking.{bytes_of};
 
 use crate::databases::Databases;
@@ -16,7 +16,7 @@ use crate::looking::{not_found, shown_report};
 use crate::report::{Report, Status};
 use canoffice_jobs::Extras;
 use dbc_advice::{Source, shown_path};
-use dbc_complete::{Besides, complete};
+use dbc_keep::{Besides, complete};
 use office_types::{Look, NetName};
 use std::alloc::{AllocError, Global};
 use store::Lost;

@@ -5,10 +5,9 @@
 //!   offices in databases, of which one in memory is here, and the crate `canoffice_desks` those that desks serve;
 //!   those of the machine are in the program itself.
 //! - `apply`, `sending`, `looking`, `exporting`, `migrating`, `serving`, `charting`, `checking`, `linting`,
-//!   `comparing`, `formatting`, `paging` and `tabling` do the jobs. What the words of `show`, `page` and `requests`
-//!   look up is in the crate `canoffice_looks`. `answering` answers the arrivals of a script, by an office in memory or
-//!   on a connection to a database, `progress` shows how far it is, and `room` is taken before for what is printed
-//!   after.
+//!   `comparing`, `formatting`, `paging` and `tabling` do the jobs. `answering` answers the arrivals of a script, by an
+//!   office in memory or on a connection to a database, `progress` shows how far it is, and `room` is taken before for
+//!   what is printed after.
 //! - `file_jobs` does the jobs that read a file, and `explaining` says what `--explain` adds to them; `reasons` has
 //!   what it adds of the commands of a script that are refused.
 //! - `report` is the result of a run: bytes for standard output and standard error, and a `Status`.

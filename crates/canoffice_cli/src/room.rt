@@ -2,11 +2,11 @@
 ghost use Rattle.std.specs.Prelude.{◌≡◌, ◌≤◌, length, IfOk, IfSome, IsTrue};
 ghost use Rattle.std.specs.String.{string_capacity};
 ghost use Rattle.std.specs.Vec.{vec_capacity};
-ghost use Rattle.office_echo.specs.Lines.{longest_echoes};
+ghost use Rattle.office_script.specs.Echoes.{longest_echoes};
 ghost use Rattle.canoffice_cli.specs.LongestLines.{AnswersFit, longest_line, longest_loss, room_for};
 
-use office_echo::add_longest_echoes;
 use office_history::Arrival;
+use office_script::add_longest_echoes;
 use office_types::Task;
 use std::alloc::{AllocError, Global};
 

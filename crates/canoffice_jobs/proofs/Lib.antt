@@ -8,3 +8,4 @@ pub mod FilledWalk
 pub mod GivenValues
 pub mod EnteredSubcommand
 pub mod EnteredLine
+pub mod Rows

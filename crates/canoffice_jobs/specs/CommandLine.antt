@@ -22,7 +22,7 @@ use Rattle.canoffice_jobs.specs.declared.manner.Manner.{Manner}
 use Rattle.canoffice_jobs.specs.declared.place.Place.{Place}
 use Rattle.canoffice_jobs.specs.Numbers.{count_given, page_number, port_given, release_number, tries_given}
 use Rattle.canoffice_jobs.specs.Place.{IsNoPlace, IsPlace}
-use Rattle.canoffice_looks.specs.What.{shown_by}
+use Rattle.canoffice_jobs.specs.What.{shown_by}
 use Rattle.dbc_lint.specs.Kind.{first_unknown}
 
 -- ---- the description for clap

@@ -3,3 +3,5 @@ pub mod Place
 pub mod CommandLine
 pub mod Meant
 pub mod Built
+pub mod What
+pub mod Words

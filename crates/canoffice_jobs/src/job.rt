@@ -15,7 +15,7 @@ use crate::numbers::{
 };
 use crate::place::{LookCommand, Place, PlaceFault, place_given};
 use crate::remarks::remark_refusal;
-use canoffice_looks::{What, WhatFault, shown_by};
+use crate::what::{What, WhatFault, shown_by};
 use clap::error::ErrorKind;
 use clap::{ArgMatches, Command, Error};
 use dbc_lint::first_unknown;

@@ -6,6 +6,9 @@
 //! - `numbers` has the ranges of the numbers that words give, `place` where an office is looked at, and `manner` how a
 //!   script is applied or sent.
 //! - `meant` and `remarks` have the words that are read as others: `help --help`, and `--lint` without names.
+//! - `what` and `words` have what the words of `show`, `page` and `requests` look up: [`What`] is what `show` shows of
+//!   a network, and [`show_look`], [`page_look`] and [`requests_look`] give the [`Look`](office_types::Look) of words,
+//!   or none where one of them hasn't the form of what it names.
 //!
 //! `specs/CommandLine.antt` has the same in terms of what clap finds in the words: `IsLine`.
 #![tactic(auto)]
@@ -18,6 +21,8 @@ mod meant;
 mod numbers;
 mod place;
 mod remarks;
+mod what;
+mod words;
 
 pub use extras::Extras;
 pub use job::{Job, JobFault, job_of, not_utf8_fault};
@@ -25,3 +30,5 @@ pub use manner::{Manner, Sending};
 pub use meant::name_before_help;
 pub use place::Place;
 pub use remarks::{is_check, lint_entered};
+pub use what::{What, WhatFault, shown_by};
+pub use words::{page_look, requests_look, show_look};

@@ -7,7 +7,7 @@ use Rattle.dbc_sheet.specs.Messages.{AreMessages, number_of}
 use Rattle.dbc_sheet.specs.Signals.{signal_name}
 use Rattle.dbc_sheet.specs.declared.message.Message.{Message}
 use Rattle.dbc_sheet.specs.declared.signal.Signal.{Signal}
-use Rattle.dbc_pairs.specs.Pairs.{partner}
+use Rattle.dbc_sheet.specs.Pairs.{partner}
 use Rattle.dbc_compare.specs.Differences.{below, between, by_numbers, changes_between, differences_about, gone_message}
 use Rattle.dbc_compare.specs.Differences.{message_differences, pair_differences, shown_message, thing_differences}
 use Rattle.dbc_compare.specs.Fields.{message_fields, signal_fields}

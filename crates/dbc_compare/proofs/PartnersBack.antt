@@ -14,7 +14,7 @@ use Rattle.dbc_words.proofs.NamedThings.{none_found}
 use Rattle.dbc_words.proofs.Naming.{bytes_eq-flip}
 use Rattle.dbc_sheet.specs.Messages.{AreMessages, by_number, has_number, message_at, message_name, number_of}
 use Rattle.dbc_sheet.specs.declared.message.Message.{Message}
-use Rattle.dbc_pairs.specs.Pairs.{is_renumbered, partner, renumbered}
+use Rattle.dbc_sheet.specs.Pairs.{is_renumbered, partner, renumbered}
 use Rattle.dbc_compare.proofs.Members.{In, each_in, find_none, find_only, found_in, in_cons, in_first, in_later}
 use Rattle.dbc_compare.proofs.Members.{none_if_empty, one_alone}
 

@@ -8,7 +8,7 @@ use Rattle.dbc_sheet.specs.Sheet.{node_name, table_name}
 use Rattle.dbc_sheet.specs.Signals.{signal_name}
 use Rattle.dbc_sheet.specs.declared.message.Message.{Message}
 use Rattle.dbc_sheet.specs.declared.sheet.Sheet.{Sheet}
-use Rattle.dbc_pairs.specs.Pairs.{partner}
+use Rattle.dbc_sheet.specs.Pairs.{partner}
 use Rattle.dbc_compare.specs.Fields.{Valued, message_fields, node_fields, sheet_fields, signal_fields, table_fields}
 use Rattle.dbc_compare.specs.Value.{Value, same_names, same_value, value_text}
 use Rattle.dbc_compare.specs.declared.difference.Change.{Change}

@@ -11,8 +11,7 @@ use crate::place::Place;
 use crate::sheets::differences;
 use crate::values::digits;
 use columns::{ident_columns, no_ident_columns, set_left};
-use dbc_pairs::{Counts, counts_of};
-use dbc_sheet::Sheet;
+use dbc_sheet::{Counts, Sheet, counts_of};
 use dbc_words::Name;
 use std::alloc::{AllocError, Global};
 

@@ -2,7 +2,7 @@
 ghost use Rattle.std.specs.Prelude.{◌≡◌, ◌≤◌, ◌++◌, ◌∷◌, [], None, length, IfOk, OnOk};
 ghost use Rattle.std.specs.List.{flat_map};
 ghost use Rattle.std.specs.Option.{option_copied};
-ghost use Rattle.dbc_pairs.specs.Pairs.{partner};
+ghost use Rattle.dbc_sheet.specs.Pairs.{partner};
 ghost use Rattle.dbc_compare.specs.Differences.{below, between, differences_about, gone_message, message_differences};
 ghost use Rattle.dbc_compare.specs.Differences.{pair_differences, shown_message};
 
@@ -11,8 +11,7 @@ use crate::fields::message_changes;
 use crate::place::{MessageKey, Place};
 use crate::things::{push_difference, push_here, push_things};
 use base::Copying;
-use dbc_pairs::partner;
-use dbc_sheet::{Message, Sheet};
+use dbc_sheet::{Message, Sheet, partner};
 use std::alloc::{AllocError, Global};
 
 /// What the message is known by. The error is out of memory.

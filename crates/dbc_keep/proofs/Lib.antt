@@ -7,3 +7,4 @@ mod Lines
 mod Whole
 mod WordsRead
 mod StayingTexts
+mod Counted

@@ -4,3 +4,5 @@ pub mod Parts
 pub mod Keeping
 pub mod Staying
 pub mod J1939
+pub mod LeftOut
+pub mod Completed

@@ -12,19 +12,27 @@
 //! [`text_with_staying`] does the same for another sheet, as a release of the network that the source describes. Of the
 //! statements that were skipped, those stay that cite only what the sheet has (`staying`, `citing`, `words`); the
 //! others are listed with why. [`text_with_j1939`] adds to such a text the attributes by which other tools take its
-//! messages as those of SAE J1939 (`j1939`).
+//! messages as those of SAE J1939 (`j1939`). [`complete`] is both, as an export asks for them ([`Besides`]). The text
+//! reads as the sheet and as no other. Each statement of the original that is left out gets a line `FILE:LINE:COLUMN:
+//! passed KEYWORD: why` (`left_out`), of the form in which `dbc_advice` reports what is skipped. Lines are counted on
+//! from one statement to the next (`counting`), so a long list takes one walk over the file.
 #![tactic(auto)]
 
 mod citing;
+mod completing;
+mod counting;
 mod j1939;
 mod kept;
+mod left_out;
 mod passages;
 mod places;
 mod said;
 mod staying;
 mod words;
 
+pub use completing::{Besides, Completed, complete};
 pub use dbc_keep_law::Reason;
 pub use j1939::text_with_j1939;
 pub use kept::kept_text_of;
+pub use left_out::left_out_lines;
 pub use staying::{LeftOut, text_with_staying};

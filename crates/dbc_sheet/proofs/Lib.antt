@@ -5,3 +5,4 @@ mod MessageRules
 mod SheetRows
 mod KeptRows
 mod ChangeRows
+pub mod Found

@@ -6,3 +6,4 @@ pub mod Sheet
 pub mod Signal
 pub mod Signals
 pub mod WellFormed
+pub mod Pairs

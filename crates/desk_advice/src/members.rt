@@ -3,7 +3,7 @@
 use crate::pieces::{may_be_shown, text_in};
 use crate::senders::without_but;
 use crate::values::{found_word, phrase_in, value_unlike};
-use desk_body::{bytes_of, is_name_of, json_name};
+use desk_call::{bytes_of, is_name_of, json_name};
 use office_advice::{Cause, LineCommand, Wrong, meaning_of, values_wrong};
 use office_fields::{CommandKind, Field, GivenValue, Occurrence, Unread, command_of, part_of};
 use serde_json::{Map, Value};

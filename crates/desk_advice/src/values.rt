@@ -1,7 +1,7 @@
 //! What JSON values are, and what they must be.
 
 use crate::pieces::{text_in, text_of};
-use desk_body::bytes_of;
+use desk_call::bytes_of;
 use office_advice::phrase_of;
 use office_fields::FieldKind;
 use serde_json::Value;

@@ -4,3 +4,7 @@ pub mod One
 pub mod Rows
 pub mod SoughtBack
 pub mod Whole
+pub mod Names
+pub mod Pairs
+pub mod BodyRows
+pub mod Texts

@@ -22,8 +22,8 @@ use Rattle.desk_head.specs.declared.endpoint.Posting.{Posting}
 use Rattle.desk_head.specs.declared.endpoint.Posting.TheVariants.{Act, Import, Bundle}
 use Rattle.desk_head.specs.declared.endpoint.Showing.{Showing}
 use Rattle.desk_head.specs.declared.endpoint.Showing.TheVariants as showing
-use Rattle.desk_body.specs.Body.{command_in}
-use Rattle.desk_body.specs.Bundle.{bundle_in}
+use Rattle.desk_call.specs.Body.{command_in}
+use Rattle.desk_call.specs.Bundle.{bundle_in}
 use Rattle.desk_call.specs.declared.call.Call as declared
 use Rattle.desk_call.specs.declared.call.Call.TheVariants as call
 use Rattle.office_types.specs.declared.look.Look.{Look}

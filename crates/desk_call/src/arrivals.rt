@@ -8,9 +8,10 @@ ghost use Rattle.desk_head.specs.Fields.{named};
 ghost use Rattle.desk_call.specs.Call.{arrival_of, bundle_of, command_of, content_of, import_of, key_of};
 ghost use Rattle.desk_call.specs.Read.{ReadsArrival};
 
+use crate::body::command_in;
+use crate::bundle::bundle_in;
 use crate::values::{key_of, net_in};
 use base::Items;
-use desk_body::{bundle_in, command_in};
 use desk_head::{Header, Posting, header_named};
 use httparse::spans::HeaderSpan;
 use office_fields::{Unread, team_of};

@@ -17,7 +17,7 @@ use Rattle.office_fields.specs.Given.{Readings}
 use Rattle.office_fields.specs.Value.{◌>>=◌}
 use Rattle.office_fields.specs.declared.field.Occurrence.{Occurrence}
 use Rattle.office_fields.specs.declared.field.Occurrence.TheVariants.{Required, Optional, Repeated}
-use Rattle.desk_body.specs.Body.{json_name}
+use Rattle.desk_call.specs.Body.{json_name}
 use Rattle.desk_send.specs.Fields.{Entry}
 use Rattle.desk_send.specs.Json.{data_of, items_by, with_as, with_entries, with_entry, with_list, with_value}
 use Rattle.desk_send.proofs.Entries.{are_unlike, negated}

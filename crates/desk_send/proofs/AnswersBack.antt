@@ -20,7 +20,7 @@ use Rattle.office_types.specs.declared.reply.PartReply.TheVariants as part
 use Rattle.office_types.specs.declared.reply.Reply.TheVariants.{Done, Number, Start, Counts, Release, Refused, Bundle}
 use Rattle.office_history.specs.declared.arrival.Answer.{Answer}
 use Rattle.office_history.specs.declared.arrival.Answer.TheVariants as answer
-use Rattle.desk_body.specs.Body.{json_in}
+use Rattle.desk_call.specs.Body.{json_in}
 use Rattle.desk_reply.specs.Reply.{answer_data, fault_data, part_data, parts_data, refused_data}
 use Rattle.desk_send.specs.Answer.{IsAnswer, IsPartAnswer, IsWritten, answer_at, answer_in, part_in, parts_in}
 use Rattle.desk_send.proofs.JsonTexts.{ArePlain, IsPlain, text_back}

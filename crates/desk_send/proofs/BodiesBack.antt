@@ -34,9 +34,9 @@ use Rattle.office_fields.specs.declared.field.FieldKind.TheVariants as kind
 use Rattle.office_fields.specs.declared.field.Occurrence.{Occurrence}
 use Rattle.office_fields.specs.declared.field.Occurrence.TheVariants.{Required, Optional, Repeated}
 use Rattle.office_fields.specs.declared.kind.CommandKind.TheVariants.{Act}
-use Rattle.desk_body.specs.Body.{bytes_of, command_in, each_given, given_as, given_by, given_in, has_just, is_name_of}
-use Rattle.desk_body.specs.Body.{json_in, json_name, named}
-use Rattle.desk_body.specs.Bundle.{bundle_in, has_just_part, is_part_name, part_in, parts_of_items}
+use Rattle.desk_call.specs.Body.{bytes_of, command_in, each_given, given_as, given_by, given_in, has_just, is_name_of}
+use Rattle.desk_call.specs.Body.{json_in, json_name, named}
+use Rattle.desk_call.specs.Bundle.{bundle_in, has_just_part, is_part_name, part_in, parts_of_items}
 use Rattle.desk_head.proofs.Parameters.{Lacks}
 use Rattle.desk_send.specs.Fields.{Entry, all_named, entries_of, filled, kind_of, named_of, texts_as}
 use Rattle.desk_send.specs.Json.{data_of, items_by, part_data, whole_data, with_as, with_entries, with_entry, with_list}

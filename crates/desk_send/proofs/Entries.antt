@@ -16,7 +16,7 @@ use Rattle.office_fields.specs.Value.{value_from}
 use Rattle.office_fields.specs.declared.field.Field.{Field}
 use Rattle.office_fields.specs.declared.field.Occurrence.{Occurrence}
 use Rattle.office_fields.specs.declared.field.Occurrence.TheVariants.{Required, Optional, Repeated}
-use Rattle.desk_body.specs.Body.{named}
+use Rattle.desk_call.specs.Body.{named}
 use Rattle.desk_send.specs.Fields.{Entry, all_named, named_of, texts_as}
 use Rattle.desk_send.specs.Texts.{IsValue, text_of}
 use Rattle.desk_send.proofs.ValuesBack.{values_come_back}

@@ -22,8 +22,8 @@ use Rattle.serde_json.specs.Read.{max_depth, of_json, read}
 use Rattle.serde_json.specs.Written.{comma_if, compact_text, items_outline, items_text, members_outline, members_text}
 use Rattle.serde_json.specs.Written.{outline}
 use Rattle.serde_json.proofs.Texts.{print-outline}
-use Rattle.desk_body.specs.Body.{json_in}
-use Rattle.desk_body.proofs.Texts.{is_json}
+use Rattle.desk_call.specs.Body.{json_in}
+use Rattle.desk_call.proofs.Texts.{is_json}
 
 -- ---- values of which the text is read: whole numbers of 64 bits, and texts that are UTF-8
 

@@ -7,8 +7,8 @@ use Rattle.serde_json.specs.Read.{max_depth, read}
 use Rattle.serde_json.specs.Written.{has_float}
 use Rattle.office_types.specs.declared.command.Action.{Action}
 use Rattle.office_fields.specs.declared.field.Field.TheVariants as field
-use Rattle.desk_body.specs.Body.{json_in}
-use Rattle.desk_body.proofs.Texts.{is_json}
+use Rattle.desk_call.specs.Body.{json_in}
+use Rattle.desk_call.proofs.Texts.{is_json}
 use Rattle.desk_send.specs.Fields.{entries_of, filled}
 use Rattle.desk_send.specs.Json.{items_by, part_data, with_entries, with_list}
 use Rattle.desk_send.proofs.Flat.{bundle_flat, entries_flat, object_shallow, object_whole}

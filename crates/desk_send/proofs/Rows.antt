@@ -16,7 +16,7 @@ use Rattle.office_types.specs.declared.refusal.Refusal.TheVariants as no
 use Rattle.office_types.specs.declared.reply.PartReply.TheVariants as part
 use Rattle.office_types.specs.declared.reply.Reply.TheVariants as reply
 use Rattle.office_history.specs.declared.arrival.Answer.TheVariants.{Reply, KeyReused}
-use Rattle.desk_body.specs.Body.{json_in}
+use Rattle.desk_call.specs.Body.{json_in}
 use Rattle.desk_send.specs.Answer.{answer_at}
 use Rattle.desk_send.specs.Body.{body_of}
 use Rattle.desk_send.specs.Request.{request_bytes}

@@ -37,7 +37,7 @@ use Rattle.office_fields.specs.declared.field.Occurrence.{Occurrence}
 use Rattle.office_fields.specs.declared.field.Occurrence.TheVariants.{Required, Optional, Repeated}
 use Rattle.serde_json.specs.Data.{Data, Members, array, item, no_members, object, put, string}
 use Rattle.serde_json.specs.Written.{compact_text}
-use Rattle.desk_body.specs.Body.{json_name}
+use Rattle.desk_call.specs.Body.{json_name}
 use Rattle.office_history.specs.Key.{is_key_byte}
 use Rattle.desk_head.proofs.TargetParts.{IsPart, name_part, plain_part}
 use Rattle.desk_send.specs.Body.{is_text_action, is_text_task, task_body}

@@ -18,7 +18,7 @@ use Rattle.office_history.specs.declared.arrival.Answer.{Answer}
 use Rattle.office_history.specs.declared.arrival.Answer.TheVariants as answer
 use Rattle.office_fields.specs.Value.{◌>>=◌, at_most, where_true}
 use Rattle.desk_reply.specs.Reply.{answer_data, answer_status}
-use Rattle.desk_body.specs.Body.{json_in}
+use Rattle.desk_call.specs.Body.{json_in}
 
 -- a desk writes the answer so: by a response of this status with this body
 pub record IsWritten (code : ℕ) (text : List ℕ) (a : Answer) : Type 0 where

@@ -18,7 +18,7 @@ use Rattle.office_fields.specs.declared.field.Occurrence.{Occurrence}
 use Rattle.office_fields.specs.declared.field.Occurrence.TheVariants.{Required, Optional, Repeated}
 use Rattle.office_fields.specs.declared.kind.ActionKind.{ActionKind}
 use Rattle.office_fields.specs.declared.kind.ActionKind.TheVariants as kind
-use Rattle.desk_body.specs.Body.{named}
+use Rattle.desk_call.specs.Body.{named}
 use Rattle.desk_send.specs.Texts.{addressing_of, text_of}
 
 abbrev pub kind_of : Action → ActionKind

@@ -1,4 +1,4 @@
--- The values of fields as JSON, and the object of a command's fields: the other way round than `desk_body` reads them.
+-- The values of fields as JSON, and the object of a command's fields: the other way round than `desk_call` reads them.
 -- `None` where a text isn't UTF-8, which JSON can't hold.
 use Rattle.std.specs.Prelude.{ℕ, List, [], ◌∷◌, Option, Some, None, codes}
 use Rattle.std.specs.Option.{option_map}
@@ -17,7 +17,7 @@ use Rattle.office_fields.specs.declared.field.FieldKind.{FieldKind}
 use Rattle.office_fields.specs.declared.field.FieldKind.TheVariants as kind
 use Rattle.office_fields.specs.declared.field.Occurrence.{Occurrence}
 use Rattle.office_fields.specs.declared.field.Occurrence.TheVariants.{Required, Optional, Repeated}
-use Rattle.desk_body.specs.Body.{json_name}
+use Rattle.desk_call.specs.Body.{json_name}
 use Rattle.desk_send.specs.Fields.{Entry, entries_of, filled, kind_of}
 use Rattle.desk_send.specs.Texts.{text_of}
 

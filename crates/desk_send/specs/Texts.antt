@@ -28,7 +28,7 @@ use Rattle.office_types.specs.declared.command.NetKind.TheVariants.{Can, J1939}
 use Rattle.office_fields.specs.Value.{Value, value_from}
 use Rattle.office_fields.specs.declared.field.FieldKind.{FieldKind}
 use Rattle.office_fields.specs.declared.field.FieldKind.TheVariants as kind
-use Rattle.desk_body.specs.Body.{truth_word}
+use Rattle.desk_call.specs.Body.{truth_word}
 
 -- ---- words
 

@@ -4,7 +4,7 @@ ghost use Rattle.serde_json.specs.View.{members_view};
 ghost use Rattle.decimal.specs.Printing as printed;
 ghost use Rattle.office_fields.specs.declared.field.Field.TheVariants as field;
 ghost use Rattle.office_types.specs.declared.command.Action.TheVariants as act;
-ghost use Rattle.desk_body.specs.Body.{json_name};
+ghost use Rattle.desk_call.specs.Body.{json_name};
 ghost use Rattle.desk_send.specs.Fields.{destination_of, entries_of, filled, mark_of};
 ghost use Rattle.desk_send.specs.Json.{text_data, with_entries, with_entry, with_value};
 ghost use Rattle.desk_send.specs.Writing.{Adds};

@@ -3,7 +3,7 @@ ghost use Rattle.std.specs.Prelude.{◌≡◌, Some, IfOk, map};
 ghost use Rattle.serde_json.specs.Data.{boolean};
 ghost use Rattle.serde_json.specs.View.{items_view, members_view, view};
 ghost use Rattle.decimal.specs.Printing as printed;
-ghost use Rattle.desk_body.specs.Body.{json_name};
+ghost use Rattle.desk_call.specs.Body.{json_name};
 ghost use Rattle.office_fields.specs.declared.field.FieldKind.TheVariants as FieldKind;
 ghost use Rattle.desk_send.specs.Json.{data_list, data_of, items_by, pair_data, text_data, whole_data, with_as};
 ghost use Rattle.desk_send.specs.Json.{with_list, with_value};

@@ -5,7 +5,7 @@ ghost use Rattle.serde_json.specs.Read.{max_depth};
 ghost use Rattle.serde_json.specs.View.{items_view, members_view, view};
 ghost use Rattle.serde_json.specs.Written.{compact_text, has_float};
 ghost use Rattle.office_fields.specs.declared.field.Field.TheVariants as field;
-ghost use Rattle.desk_body.specs.Body.{json_in};
+ghost use Rattle.desk_call.specs.Body.{json_in};
 ghost use Rattle.desk_send.specs.Fields.{entries_of, filled};
 ghost use Rattle.desk_send.specs.Json.{data_list, items_by, part_data, with_entries, with_list};
 ghost use Rattle.desk_send.specs.Writing.{Writes};

@@ -3,7 +3,7 @@ ghost use Rattle.std.specs.Prelude.{◌≡◌, IfOk, codes};
 ghost use Rattle.std.specs.Option.{option_map};
 ghost use Rattle.serde_json.specs.Find.{get};
 ghost use Rattle.serde_json.specs.View.{items_view, view};
-ghost use Rattle.desk_body.specs.Body.{json_in};
+ghost use Rattle.desk_call.specs.Body.{json_in};
 ghost use Rattle.desk_send.specs.Answer.{answer_at, answer_in, bundle_reply, counts_in, numbers_in, part_in};
 ghost use Rattle.desk_send.specs.Answer.{part_numbers_in, parts_in, refused_in, reply_in, single_in, single_numbers_in};
 ghost use Rattle.desk_send.specs.Answer.{whole_in};
@@ -16,7 +16,7 @@ use std::alloc::{AllocError, Global};
 use std::str::from_utf8;
 
 /// The JSON value that the bytes are the text of, or `None` where they are no text of one.
-#[tactic(auto, unfolding(desk_body::specs::Body::json_in))]
+#[tactic(auto, unfolding(desk_call::specs::Body::json_in))]
 fn json_in(alloc: Global, bytes: &[u8]) -> Result<Option<Value>, AllocError>
     ensures { IfOk result (λ found. option_map view found ≡ json_in bytes.now) }
 {

@@ -1,6 +1,6 @@
 //! Values that are one word of a few, and the kind of an action.
 ghost use Rattle.std.specs.Prelude.{◌≡◌};
-ghost use Rattle.desk_body.specs.Body.{json_name};
+ghost use Rattle.desk_call.specs.Body.{json_name};
 ghost use Rattle.desk_send.specs.Fields.{kind_of};
 ghost use Rattle.desk_send.specs.Texts.{addressing_of, addressing_word, block_form_word, ident_form_word};
 ghost use Rattle.desk_send.specs.Texts.{net_kind_word, order_word};

@@ -1,6 +1,6 @@
 //! Lines of answers, and echoes of the requests that they answer.
-use office_echo::{add_answer, add_echoes, add_longest_echoes, is_refused};
 use office_history::{Answer, Arrival, Key, Request};
+use office_script::{add_answer, add_echoes, add_longest_echoes, is_refused};
 use office_types::{Action, Command, NetName, Reply, Task, Team};
 use std::alloc::Global;
 

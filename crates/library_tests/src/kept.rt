@@ -1,7 +1,9 @@
 //! Texts that keep what the reader skips.
 use dbc_advice::Source;
-use dbc_complete::{Besides, complete, left_out_lines};
-use dbc_keep::{LeftOut, Reason, kept_text_of, text_with_j1939, text_with_staying};
+use dbc_keep::{
+    Besides, LeftOut, Reason, complete, kept_text_of, left_out_lines, text_with_j1939,
+    text_with_staying,
+};
 use dbc_read::{Passed, read};
 use dbc_words::Keyword;
 use std::alloc::Global;

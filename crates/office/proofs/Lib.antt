@@ -6,3 +6,6 @@ mod Indexes
 mod Looked
 mod Changed
 mod CarriedThere
+pub mod Kept
+pub mod Ran
+mod Examples

@@ -1,2 +1,4 @@
 pub mod OfficeApplied
 pub mod Indexed
+pub mod Keyed
+pub mod Running

@@ -9,3 +9,6 @@ pub mod Tallies
 mod MessageRows
 mod WhoRows
 mod NodesRows
+mod FirstLine
+mod Parts
+mod Rows

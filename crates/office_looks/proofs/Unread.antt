@@ -4,7 +4,7 @@ use Rattle.std.proofs.Common.{filter, codes, nat_lt, refl, ap, ◌∙◌}
 use Rattle.std.specs.Prelude.{count_by, fold, sum, not, ◌==◌, if◌then◌else◌}
 use Rattle.std.specs.List.{flat_map}
 use Rattle.std.proofs.lemmas.List.{length-map}
-use Rattle.dbc_pairs.specs.Pairs.{counts_of}
+use Rattle.dbc_sheet.specs.Pairs.{counts_of}
 use Rattle.dbc_sheet.specs.declared.message.Message.{Message}
 use Rattle.dbc_sheet.specs.declared.node.Node.{Node}
 use Rattle.dbc_sheet.specs.declared.sheet.Sheet.{Sheet}

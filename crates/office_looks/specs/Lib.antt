@@ -9,3 +9,4 @@ pub mod Who
 pub mod Compared
 pub mod Looks
 pub mod Reads
+pub mod Requests

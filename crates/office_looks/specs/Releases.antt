@@ -1,8 +1,8 @@
 -- The releases, and what each changed.
 use Rattle.std.specs.Prelude.{ℕ, ◌+◌, List, [], ◌∷◌, ◌++◌, length, codes, decimal}
 use Rattle.columns.specs.Padding.{set_right}
-use Rattle.dbc_pairs.specs.Pairs.{counts_of}
-use Rattle.dbc_pairs.specs.declared.counts.Counts.{Counts}
+use Rattle.dbc_sheet.specs.Pairs.{counts_of}
+use Rattle.dbc_sheet.specs.declared.counts.Counts.{Counts}
 use Rattle.dbc_sheet.specs.Sheet.{empty_sheet}
 use Rattle.dbc_sheet.specs.declared.sheet.Sheet.{Sheet}
 use Rattle.office_views.specs.Table.{signal_count}

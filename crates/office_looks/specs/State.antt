@@ -1,8 +1,8 @@
 -- What a network has once, and how many there are of each kind of thing.
 use Rattle.std.specs.Prelude.{ℕ, ◌-◌, List, [], ◌++◌, length, codes, decimal, unwrap_or}
 use Rattle.columns.specs.Word.{word, words}
-use Rattle.dbc_pairs.specs.Pairs.{counts_of}
-use Rattle.dbc_pairs.specs.declared.counts.Counts.{Counts}
+use Rattle.dbc_sheet.specs.Pairs.{counts_of}
+use Rattle.dbc_sheet.specs.declared.counts.Counts.{Counts}
 use Rattle.dbc_sheet.specs.declared.sheet.Sheet.{Sheet}
 use Rattle.office_types.specs.State.{submitter_of}
 use Rattle.office_views.specs.NetList.{kind_word, phase_word}

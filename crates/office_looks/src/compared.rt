@@ -5,8 +5,7 @@ ghost use Rattle.dbc_compare.specs.Lines.{compare_text};
 ghost use Rattle.office_looks.specs.Compared.{compared_text, numbered_sheet};
 
 use dbc_compare::{differences, text_of_differences};
-use dbc_pairs::counts_of;
-use dbc_sheet::Sheet;
+use dbc_sheet::{Sheet, counts_of};
 use office_seen::View;
 use std::alloc::{AllocError, Global};
 

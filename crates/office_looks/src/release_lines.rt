@@ -4,8 +4,7 @@ ghost use Rattle.dbc_sheet.specs.Sheet.{empty_sheet};
 ghost use Rattle.office_looks.specs.Releases.{change_columns, lines_after, release_line, releases_text};
 
 use columns::number_right;
-use dbc_pairs::{Counts, counts_of};
-use dbc_sheet::Sheet;
+use dbc_sheet::{Counts, Sheet, counts_of};
 use office_seen::{FrozenSheets, View, counted, last_of, total};
 use office_views::signal_count;
 use std::alloc::{AllocError, Global};

@@ -1,6 +1,6 @@
 //! What a network has once, and how many there are of each kind of thing.
 ghost use Rattle.std.specs.Prelude.{◌≡◌, ◌++◌, [], IfOk, OnOk, string_bytes, unwrap_or};
-ghost use Rattle.dbc_pairs.specs.Pairs.{counts_of};
+ghost use Rattle.dbc_sheet.specs.Pairs.{counts_of};
 ghost use Rattle.office_types.specs.State.{submitter_of};
 ghost use Rattle.office_seen.specs.Lines.{fact, number_fact};
 ghost use Rattle.office_seen.specs.Since.{last_release};
@@ -8,8 +8,7 @@ ghost use Rattle.office_looks.specs.State.{change_facts, head_facts, lacking};
 ghost use Rattle.office_looks.specs.State.{office_facts, review_facts, sheet_facts, state_text};
 
 use columns::{word, words};
-use dbc_pairs::{Counts, counts_of};
-use dbc_sheet::Sheet;
+use dbc_sheet::{Counts, Sheet, counts_of};
 use office_seen::{View, fact, last_release, number_fact};
 use office_types::Phase;
 use office_views::{kind_word, phase_word, signal_count};

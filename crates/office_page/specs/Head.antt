@@ -3,8 +3,8 @@ use Rattle.std.specs.Prelude.{ℕ, ◌-◌, ◌==◌, ◌&&◌, not, Bool, List,
 use Rattle.std.specs.Prelude.{if◌then◌else◌}
 use Rattle.std.specs.List.{list_any}
 use Rattle.std.specs.Str.{bytes_eq}
-use Rattle.dbc_pairs.specs.Pairs.{counts_of}
-use Rattle.dbc_pairs.specs.declared.counts.Counts.{Counts}
+use Rattle.dbc_sheet.specs.Pairs.{counts_of}
+use Rattle.dbc_sheet.specs.declared.counts.Counts.{Counts}
 use Rattle.html.specs.Elements.{joined}
 use Rattle.html.specs.Text.{escaped}
 use Rattle.office_types.specs.declared.command.NetKind.{NetKind}

@@ -11,8 +11,7 @@ ghost use Rattle.office_page.specs.Head.{since_or_none, since_paragraph, since_t
 ghost use Rattle.office_page.specs.Head.{title_line, wanted_text};
 
 use base::{Checked, Items, Rule};
-use dbc_pairs::{Counts, counts_of};
-use dbc_sheet::Sheet;
+use dbc_sheet::{Counts, Sheet, counts_of};
 use html::{push_names, push_number, push_text};
 use office_seen::{View, last_of};
 use office_types::{NetKind, Phase, Team};

@@ -7,3 +7,4 @@ mod Fillings
 mod Scripts
 mod Rows
 mod RequestRows
+mod EchoRows

@@ -7,3 +7,4 @@ pub mod Bundles
 pub mod Requests
 pub mod Files
 pub mod Script
+pub mod Echoes

@@ -7,7 +7,7 @@ use Rattle.dbc_sheet.specs.Same.{same_message}
 use Rattle.dbc_sheet.specs.Sheet.{empty_sheet}
 use Rattle.dbc_sheet.specs.declared.message.Message.{Message}
 use Rattle.dbc_sheet.specs.declared.sheet.Sheet.{Sheet}
-use Rattle.dbc_pairs.specs.Pairs.{partner}
+use Rattle.dbc_sheet.specs.Pairs.{partner}
 
 -- the last release; before the first one, the empty sheet
 abbrev pub last_release : List Sheet → Sheet

@@ -8,8 +8,7 @@ ghost use Rattle.office_seen.specs.Since.{last_release, numbered_where, releases
 
 use crate::frozen::FrozenSheets;
 use columns::{filled, runs_of, runs_text};
-use dbc_pairs::{has_number, partner};
-use dbc_sheet::{Message, Sheet};
+use dbc_sheet::{Message, Sheet, has_number, partner};
 use std::alloc::{AllocError, Global};
 
 /// The last of the releases; of none the empty sheet.

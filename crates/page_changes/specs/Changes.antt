@@ -6,8 +6,8 @@ use Rattle.std.specs.Option.{option_map_or}
 use Rattle.std.specs.Str.{bytes_eq}
 use Rattle.can_id.specs.J1939.{ident_fields, pgn_of}
 use Rattle.can_id.specs.declared.ident.Ident.{Ident}
-use Rattle.dbc_pairs.specs.Pairs.{has_changed, partner}
-use Rattle.dbc_pairs.specs.declared.counts.Counts.{Counts}
+use Rattle.dbc_sheet.specs.Pairs.{has_changed, partner}
+use Rattle.dbc_sheet.specs.declared.counts.Counts.{Counts}
 use Rattle.dbc_sheet.specs.Messages.{message_at, number_of}
 use Rattle.dbc_sheet.specs.declared.message.Message.{Message}
 use Rattle.dbc_sheet.specs.declared.signal.Signal.{Signal}

@@ -2,7 +2,7 @@
 ghost use Rattle.std.specs.Prelude.{◌≡◌, ◌++◌, IfOk, OnOk, filter, is_none};
 ghost use Rattle.std.specs.List.{flat_map};
 ghost use Rattle.std.specs.Option.{option_copied};
-ghost use Rattle.dbc_pairs.specs.Pairs.{partner};
+ghost use Rattle.dbc_sheet.specs.Pairs.{partner};
 ghost use Rattle.page_changes.specs.Changes.{about, added_if, added_line, changed_if, changed_item, changed_item_if};
 ghost use Rattle.page_changes.specs.Changes.{changed_line, changes_list, count_if, differing_line, found_lines};
 ghost use Rattle.page_changes.specs.Changes.{group_text, is_absent, is_here, is_nothing, items_changed};
@@ -13,8 +13,7 @@ use crate::fields::{message_differences, signal_differences};
 use crate::mark::{Mark, mark_start};
 use base::Items;
 use can_id::{Ident, J1939};
-use dbc_pairs::{Counts, partner};
-use dbc_sheet::{Message, Sheet, Signal};
+use dbc_sheet::{Counts, Message, Sheet, Signal, partner};
 use html::{push_joined, push_number};
 use page_plan::{Plan, push_counted, push_ident_code, push_message_link};
 use std::alloc::{AllocError, Global};

@@ -2,8 +2,8 @@
 use Rattle.std.specs.Prelude.{ℕ, ◌+◌, ◌-◌, ◌==◌, ◌&&◌, nat_le, Bool, List, [], ◌++◌, codes, decimal, length, slice_get}
 use Rattle.std.specs.Prelude.{unwrap_or, if◌then◌else◌}
 use Rattle.std.specs.List.{flat_map, range_with_len}
-use Rattle.dbc_pairs.specs.Pairs.{counts_of}
-use Rattle.dbc_pairs.specs.declared.counts.Counts.{Counts}
+use Rattle.dbc_sheet.specs.Pairs.{counts_of}
+use Rattle.dbc_sheet.specs.declared.counts.Counts.{Counts}
 use Rattle.dbc_sheet.specs.declared.sheet.Sheet.{Sheet}
 use Rattle.office_views.specs.Table.{signal_count}
 use Rattle.page_changes.specs.Changes.{changes_list, is_nothing, summed}

@@ -5,8 +5,7 @@ ghost use Rattle.page_lists.specs.Releases.{anchor_at, changes_if, first_item, i
 ghost use Rattle.page_lists.specs.Releases.{item_after, item_summary, items, later_item, releases_part};
 ghost use Rattle.page_lists.specs.Releases.{releases_section, sheet_at, sizes, title_at};
 
-use dbc_pairs::{Counts, counts_of};
-use dbc_sheet::Sheet;
+use dbc_sheet::{Counts, Sheet, counts_of};
 use html::push_number;
 use office_views::signal_count;
 use page_changes::{is_nothing, push_changes, push_summed};

@@ -4,7 +4,7 @@ use Rattle.std.specs.Prelude.{Option, Some, None, if◌then◌else◌}
 use Rattle.std.specs.List.{flat_map}
 use Rattle.can_id.specs.J1939.{Fields, ident_fields, is_pdu1, pgn_of}
 use Rattle.can_id.specs.declared.ident.Ident.{Ident}
-use Rattle.dbc_pairs.specs.Pairs.{has_changed, partner}
+use Rattle.dbc_sheet.specs.Pairs.{has_changed, partner}
 use Rattle.dbc_sheet.specs.Messages.{has_number, number_of}
 use Rattle.dbc_sheet.specs.declared.message.Message.{Message}
 use Rattle.dbc_sheet.specs.declared.sheet.Sheet.{Sheet}

@@ -1,7 +1,7 @@
 -- What releases say of a message.
 use Rattle.std.specs.Prelude.{ℕ, ◌==◌, List, [], ◌∷◌, ◌++◌, codes, length, Option, Some, None, if◌then◌else◌}
 use Rattle.columns.specs.Run.{runs_of}
-use Rattle.dbc_pairs.specs.Pairs.{partner}
+use Rattle.dbc_sheet.specs.Pairs.{partner}
 use Rattle.dbc_sheet.specs.Messages.{has_number}
 use Rattle.dbc_sheet.specs.Same.{same_message}
 use Rattle.dbc_sheet.specs.declared.message.Message.{Message}

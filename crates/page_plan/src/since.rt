@@ -9,8 +9,7 @@ ghost use Rattle.page_plan.specs.Since.{emphasized, releases_with, state, state_
 use crate::numbers::push_runs;
 use crate::plan::Plan;
 use columns::runs_of;
-use dbc_pairs::{has_number, partner};
-use dbc_sheet::{Message, Sheet};
+use dbc_sheet::{Message, Sheet, has_number, partner};
 use office_seen::last_of;
 use std::alloc::{AllocError, Global};
 

@@ -12,7 +12,7 @@ use Rattle.office_types.specs.declared.look.Look.TheVariants.{Chart, Live, Nets,
 use Rattle.office_types.specs.declared.look.Look.TheVariants.{Requests, Table}
 use Rattle.office_history.specs.History.{Answered}
 use Rattle.office_looks.specs.Looks.{net_text}
-use Rattle.office_requests.specs.Requests.{IsRequestsText}
+use Rattle.office_looks.specs.Requests.{IsRequestsText}
 use Rattle.store_looks.specs.Seen.{net_page, net_release_page}
 
 -- After a history that left this office: the list of networks; of a network, the table and the canonical text of its

@@ -17,8 +17,8 @@ use Rattle.sqlite.specs.Order.{Row}
 use Rattle.sqlite_trees.proofs.ListLemmas.{all-filter, all-permutation}
 use Rattle.office_history.specs.declared.arrival.Answer.{Answer}
 use Rattle.office_history.specs.History.{Answered, first_arrivals, first_of, same_pair}
-use Rattle.office_requests.specs.Requests.{IsReplied, IsRequestsText, answer_lines, answered_lines, by_key, is_of_team}
-use Rattle.office_requests.specs.Requests.{is_refusal, is_refused, last_line, request_lines, requests_text, was_refused}
+use Rattle.office_looks.specs.Requests.{IsReplied, IsRequestsText, answer_lines, answered_lines, by_key, is_of_team}
+use Rattle.office_looks.specs.Requests.{is_refusal, is_refused, last_line, request_lines, requests_text, was_refused}
 use Rattle.store_rows.specs.Listed.{AreShown}
 use Rattle.store_net.specs.Kept.{AreKept, AreKeysOf, IsKept, content_and_answer, kept_answer}
 use Rattle.store_net.specs.declared.requests.KeptRequest.{KeptRequest}

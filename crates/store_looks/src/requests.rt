@@ -2,13 +2,13 @@
 ghost use Rattle.std.specs.Prelude.{◌≡◌, List, map};
 ghost use Rattle.std.specs.List.{AllByRecursion};
 ghost use Rattle.office_history.specs.History.{Answered};
-ghost use Rattle.office_requests.specs.Requests.{IsRequestsText, requests_text};
+ghost use Rattle.office_looks.specs.Requests.{IsRequestsText, requests_text};
 ghost use Rattle.store_looks.specs.Asked.{IsFirstOf};
 ghost use Rattle.store_net.specs.Kept.{AreKept, AreKeptParts, content_and_answer, kept_answer};
 ghost use Rattle.store_tables.specs.Frames.{Asks, ReadsOnly, ReadsWhileOpen};
 
 use office_history::Key;
-use office_requests::{add_request, add_total, is_refused};
+use office_looks::{add_request, add_total, is_refused};
 use office_types::Team;
 use sqlite::{Alter, Error, Transaction};
 use std::alloc::Global;

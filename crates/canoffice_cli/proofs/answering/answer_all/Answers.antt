@@ -3,7 +3,7 @@ use Rattle.std.proofs.Common.{length-append}
 use Rattle.std.proofs.lemmas.List.{take_more}
 use Rattle.std.specs.List.{list_any}
 use Rattle.std.specs.Prelude.{IsFalse}
-use Rattle.office_echo.specs.Lines.{is_refused}
+use Rattle.office_script.specs.Echoes.{is_refused}
 use Rattle.canoffice_cli.proofs.Stopping.{ends_here, far_at_loss, far_at_refusal, still_none}
 use Rattle.sqlite.specs.Held.{state}
 use Rattle.sqlite.specs.State.{HasCleanDisk}

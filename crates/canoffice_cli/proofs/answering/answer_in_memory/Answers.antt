@@ -1,9 +1,9 @@
 use Rattle.std.proofs.Common.{◌≡◌, ◌+◌, ◌<◌, ◌++◌, ◌∷◌, [], length, take, ap, ◌∙◌, subst, arith, length-append}
 use Rattle.std.proofs.lemmas.List.{take_more}
 use Rattle.std.specs.List.{list_any}
-use Rattle.office_echo.specs.Lines.{is_refused}
+use Rattle.office_script.specs.Echoes.{is_refused}
 use Rattle.canoffice_cli.proofs.Stopping.{far_at_refusal, ends_here, still_none}
-use Rattle.office_keyed.specs.Keyed.{HoldsHistory}
+use Rattle.office.specs.Keyed.{HoldsHistory}
 use Rattle.office_history.specs.History.{IsLegalHistory}
 use Rattle.canoffice_cli.proofs.Reported.{history_at_first, history_so_far, reported_next}
 use Rattle.canoffice_cli.proofs.answering.answer_in_memory.Goals as goal

@@ -1,6 +1,6 @@
 use Rattle.std.proofs.Common.{◌≡◌, ◌≤◌, length, take}
 use Rattle.std.specs.Vec.{vec_capacity, vec_len}
-use Rattle.office_keyed.specs.Keyed.{HoldsHistory}
+use Rattle.office.specs.Keyed.{HoldsHistory}
 use Rattle.std.specs.Prelude.{IsTrue}
 use Rattle.canoffice_cli.specs.Answered.{NoneRefused, answered_with}
 use Rattle.canoffice_cli.proofs.answering.answer_in_memory.Given as goal

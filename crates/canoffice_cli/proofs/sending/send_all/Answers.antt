@@ -1,7 +1,7 @@
 use Rattle.std.proofs.Common.{◌≡◌, ◌+◌, ◌<◌, ◌++◌, ◌∷◌, [], length, take, ap, ◌∙◌, Ok, Err, arith, length-append}
 use Rattle.std.proofs.lemmas.List.{take_more}
 use Rattle.std.specs.List.{list_any}
-use Rattle.office_echo.specs.Lines.{is_refused}
+use Rattle.office_script.specs.Echoes.{is_refused}
 use Rattle.canoffice_desks.proofs.Trying.{comes_more, still_on}
 use Rattle.canoffice_cli.specs.Sent.{comes_of}
 use Rattle.canoffice_cli.proofs.Sent.{answered_more, answered_none, come_all, come_to_a_loss}

@@ -1,7 +1,7 @@
 use Rattle.std.proofs.Common.{◌∙◌, Option, ap, codes, inr, option_map, refl}
 use Rattle.std.specs.Borrow.{Bor}
 use Rattle.clap.specs.Words.{Text, first_of, found_of, rows_of}
-use Rattle.canoffice_looks.specs.What.{shown_by}
+use Rattle.canoffice_jobs.specs.What.{shown_by}
 use Rattle.canoffice_jobs.proofs.CommandLine.{optional_in_rows}
 use Rattle.canoffice_jobs.proofs.job.show_job.Goals as goal
 

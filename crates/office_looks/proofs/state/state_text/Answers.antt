@@ -1,5 +1,5 @@
 use Rattle.std.proofs.Common.{◌++◌, List, length, codes, ap, ◌∙◌}
-use Rattle.dbc_pairs.specs.Pairs.{counts_of}
+use Rattle.dbc_sheet.specs.Pairs.{counts_of}
 use Rattle.dbc_sheet.specs.declared.sheet.Sheet.{Sheet}
 use Rattle.office_seen.specs.Lines.{number_fact}
 use Rattle.office_seen.specs.Since.{last_release}

@@ -1,5 +1,5 @@
 use Rattle.std.proofs.Common.{◌≡◌, ◌++◌, codes, decimal, ap, ◌∙◌}
-use Rattle.dbc_pairs.specs.Pairs.{counts_of}
+use Rattle.dbc_sheet.specs.Pairs.{counts_of}
 use Rattle.dbc_sheet.specs.declared.sheet.Sheet.{Sheet}
 use Rattle.html.proofs.Pushing.{also}
 use Rattle.office_page.specs.Head.{changes_link}

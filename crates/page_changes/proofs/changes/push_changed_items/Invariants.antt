@@ -1,6 +1,6 @@
 use Rattle.std.proofs.Common.{◌≡◌, ◌++◌, take}
 use Rattle.std.specs.List.{flat_map}
-use Rattle.dbc_pairs.specs.Pairs.{partner}
+use Rattle.dbc_sheet.specs.Pairs.{partner}
 use Rattle.page_changes.specs.Changes.{changed_item_if}
 use Rattle.page_changes.proofs.changes.push_changed_items.Given as goal
 

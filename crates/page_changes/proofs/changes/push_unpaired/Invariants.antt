@@ -1,7 +1,7 @@
 use Rattle.std.proofs.Common.{◌≡◌, ◌++◌, filter, take}
 use Rattle.std.specs.List.{flat_map}
 use Rattle.std.specs.Prelude.{is_none}
-use Rattle.dbc_pairs.specs.Pairs.{partner}
+use Rattle.dbc_sheet.specs.Pairs.{partner}
 use Rattle.page_changes.specs.Changes.{message_line}
 use Rattle.page_changes.proofs.changes.push_unpaired.Given as goal
 

@@ -1,4 +1,4 @@
-use Rattle.dbc_pairs.specs.Pairs.{counts_of}
+use Rattle.dbc_sheet.specs.Pairs.{counts_of}
 use Rattle.page_lists.specs.Releases.{changes_if, item_start, item_summary}
 use Rattle.std.specs.Prelude.{codes}
 use Rattle.html.proofs.Pushing.{also}

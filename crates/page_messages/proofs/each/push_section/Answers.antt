@@ -1,6 +1,6 @@
 use Rattle.std.proofs.Common.{◌≡◌, ◌++◌, ap, ◌∙◌}
 use Rattle.std.specs.Option.{option_copied}
-use Rattle.dbc_pairs.specs.Pairs.{partner}
+use Rattle.dbc_sheet.specs.Pairs.{partner}
 use Rattle.dbc_sheet.specs.declared.sheet.Sheet.{Sheet}
 use Rattle.html.proofs.Pushing.{also}
 use Rattle.office_seen.specs.Since.{last_release}

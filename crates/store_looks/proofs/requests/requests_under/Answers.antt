@@ -4,7 +4,7 @@ use Rattle.sqlite.specs.Held.{state}
 use Rattle.sqlite.specs.State.{HasCleanDisk}
 use Rattle.sqlite.proofs.Callers.{unchanged_then}
 use Rattle.sqlite.proofs.InsideLemmas.{keeps_then}
-use Rattle.office_requests.specs.Requests.{is_refused, request_lines}
+use Rattle.office_looks.specs.Requests.{is_refused, request_lines}
 use Rattle.store_tables.specs.Tables.{IsOffice, tables_of}
 use Rattle.store_net.specs.Kept.{AreKept, AreKeptParts}
 use Rattle.store_net.proofs.Whole.{nothing_left}

@@ -1,0 +1,144 @@
+//! What `show` shows of a network.
+ghost use Rattle.std.specs.Prelude.{◌≡◌, None, Some, IfErr, IfOk};
+ghost use Rattle.std.specs.Option.{option_map};
+ghost use Rattle.canoffice_jobs.specs.What.{fits, shown_by, what_given, what_of, word_of};
+
+use std::alloc::{AllocError, Global};
+
+/// What is shown of a network.
+#[derive(Clone, Copy, PartialEq, Eq)]
+pub enum What {
+    /// What it has once, and how many there are of each kind of thing.
+    State,
+    /// Its blocks: all, or those of the team whose name follows.
+    Blocks,
+    /// Its live messages: all, or those of the team whose name follows.
+    Messages,
+    /// The live message whose name follows.
+    Message,
+    /// The identifiers that are held.
+    Held,
+    /// The releases.
+    Releases,
+    /// The nodes, or what the one whose name follows sends and receives.
+    Nodes,
+    /// The suspect parameter numbers.
+    Spns,
+    /// Who has the name or the number that follows.
+    Who,
+}
+
+/// All that can be shown.
+const ALL: [What; 9] = [
+    What::State,
+    What::Blocks,
+    What::Messages,
+    What::Message,
+    What::Held,
+    What::Releases,
+    What::Nodes,
+    What::Spns,
+    What::Who,
+];
+
+impl What {
+    /// Its word.
+    pub fn word(self) -> &'static str
+        ensures { result.now ≡ word_of self }
+    {
+        match self {
+            What::State => "state",
+            What::Blocks => "blocks",
+            What::Messages => "messages",
+            What::Message => "message",
+            What::Held => "held",
+            What::Releases => "releases",
+            What::Nodes => "nodes",
+            What::Spns => "spns",
+            What::Who => "who",
+        }
+    }
+
+    /// What the word names, or `None` where it names nothing that is shown.
+    pub fn of_word(word: &str) -> Option<What>
+        ensures { result ≡ what_of word.now }
+    {
+        ALL.iter().copied().find(|what| what.word() == word)
+    }
+
+    /// Whether it can be shown where a name follows, or where none does.
+    pub fn fits(self, is_named: bool) -> bool
+        ensures { result ≡ fits self is_named }
+    {
+        match self {
+            What::State | What::Held | What::Releases | What::Spns => !is_named,
+            What::Blocks | What::Messages | What::Nodes => true,
+            What::Message | What::Who => is_named,
+        }
+    }
+}
+
+/// Why nothing is shown by the words after a network's name.
+#[derive(Clone, Copy)]
+pub enum WhatFault<'a> {
+    /// Nothing is called so.
+    Unknown(&'a str),
+    /// A name must follow this, and none does.
+    NoName(What),
+    /// This name follows something after which none may.
+    NameAfter(What, &'a str),
+}
+
+impl WhatFault<'_> {
+    /// What is wrong, in one line. The error is out of memory.
+    pub fn message(self, alloc: Global) -> Result<String, AllocError> {
+        match self {
+            WhatFault::Unknown(word) => {
+                let all = "state, blocks, messages, message, held, releases, nodes, spns and who";
+                format!(in alloc; "invalid value '{word}' for '[WHAT]': not one of {all}")
+            }
+            WhatFault::NoName(what) => {
+                let what = what.word();
+                format!(in alloc; "no value for '[NAME]': '{what}' needs one")
+            }
+            WhatFault::NameAfter(what, name) => {
+                let what = what.word();
+                format!(in alloc; "unexpected value '{name}' for '[NAME]': '{what}' takes none")
+            }
+        }
+    }
+}
+
+/// What the word names; the state where there is no word.
+fn what_given<'a>(what: Option<&'a str>) -> Result<What, WhatFault<'a>>
+    ensures given { IfOk result
+        (λ shown. what_given (option_map (λ w. w.now) what.entry) ≡ Some shown) }
+    ensures wrong { IfErr result
+        (λ fault. what_given (option_map (λ w. w.now) what.entry) ≡ None) }
+{
+    let Some(word) = what else {
+        return Ok(What::State);
+    };
+    match What::of_word(word) {
+        Some(what) => Ok(what),
+        None => Err(WhatFault::Unknown(word)),
+    }
+}
+
+/// What is shown of a network by these words after its name: the word for what it is, without which it is the state,
+/// and the name after it. The error is why they show nothing.
+pub fn shown_by<'a>(what: Option<&'a str>, name: Option<&'a str>) -> Result<What, WhatFault<'a>>
+    ensures given { IfOk result (λ shown. shown_by (option_map (λ w. w.now) what.entry)
+        (option_map (λ w. w.now) name.entry) ≡ Some shown) }
+    ensures wrong { IfErr result (λ fault. shown_by (option_map (λ w. w.now) what.entry)
+        (option_map (λ w. w.now) name.entry) ≡ None) }
+{
+    let what = what_given(what)?;
+    if what.fits(name.is_some()) {
+        return Ok(what);
+    }
+    match name {
+        Some(name) => Err(WhatFault::NameAfter(what, name)),
+        None => Err(WhatFault::NoName(what)),
+    }
+}

@@ -1,2 +1,0 @@
-pub mod What
-pub mod Words

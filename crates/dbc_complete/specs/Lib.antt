@@ -1,2 +1,0 @@
-pub mod LeftOut
-pub mod Completed

@@ -1,4 +1,0 @@
-pub mod Names
-pub mod Pairs
-pub mod Rows
-pub mod Texts

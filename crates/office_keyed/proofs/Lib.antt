@@ -1,3 +1,0 @@
-pub mod Kept
-pub mod Ran
-mod Examples

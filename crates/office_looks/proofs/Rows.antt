@@ -1,0 +1,93 @@
+-- The lines of requests computed.
+use Rattle.std.proofs.Common.{◌≡◌, ℕ, List, [], ◌∷◌, ◌++◌, codes, map, refl, arith}
+use Rattle.std.specs.Fmt.{digits}
+use Rattle.std.specs.List.Sorted.{IsStrictlySortedBy}
+use Rattle.std.proofs.lemmas.List.Elements.{All-from_recursion}
+use Rattle.std.proofs.lemmas.List.Sorted.{IsPermutation-refl}
+use Rattle.office_types.specs.declared.command.Action.TheVariants as act
+use Rattle.office_types.specs.declared.command.Command.{Command}
+use Rattle.office_types.specs.declared.command.Task.TheVariants.{Act}
+use Rattle.office_types.specs.declared.refusal.Refusal.TheVariants as no
+use Rattle.office_types.specs.declared.reply.PartReply.TheVariants as part
+use Rattle.office_types.specs.declared.reply.Reply.TheVariants.{Done, Refused, Bundle}
+use Rattle.office_rules.specs.Profile.{Two}
+use Rattle.office_history.specs.declared.arrival.Answer.{Answer}
+use Rattle.office_history.specs.declared.arrival.Answer.TheVariants as answer
+use Rattle.office_history.specs.History.{Answered}
+use Rattle.office_looks.specs.Requests.{IsReplied, IsRequestsText, content_text, last_line, request_lines}
+
+bundle : request_lines (codes "drivercard")
+    (codes "bundle net=truck file=examples/truck/tachograph/DriverCard.txt\ntake_pgn name=DriverCard")
+    (Bundle (part.Number 65330 ∷ part.Start 0 ∷ part.Done ∷ []))
+    ≡ codes "drivercard               bundle 3                 <- bundle net=truck file=examples/truck/tachograph/DriverCard.txt ..\n"
+    ++ codes "drivercard               number 65330             <- command 1\n"
+    ++ codes "drivercard               start 0                  <- command 2\n"
+    ++ codes "drivercard               done                     <- command 3\n"
+unfolding digits
+bundle = refl
+
+refused : request_lines (codes "x5") (codes "take_bits net=coach message=ECM_Oil signal=OilX start=60")
+    (Refused no.OutsidePayload)
+    ≡ codes "x5                       refused 22 OutsidePayload <- take_bits net=coach message=ECM_Oil signal=OilX start=60\n"
+unfolding digits
+refused = refl
+
+-- a key with a comma, and one that is wider than its columns
+keys : map (λ key. request_lines key (codes "submit net=coach") Done)
+    (codes "a,b" ∷ codes "0123456789-123456789-123456789-1" ∷ [])
+    ≡ codes "a%2cb                    done                     <- submit net=coach\n"
+    ∷ codes "0123456789-123456789-123456789-1 done                     <- submit net=coach\n" ∷ []
+unfolding digits
+keys = refl
+
+-- nothing, a first line of nothing, bytes that are not shown as they are
+contents : map content_text ([] ∷ codes "\nsubmit" ∷ codes "-" ∷ (65 ∷ 0 ∷ 176 ∷ codes " %, ") ∷ codes "submit\n" ∷ [])
+    ≡ codes "-" ∷ codes "- .." ∷ codes "%2d" ∷ codes "A%00%b0 %25, " ∷ codes "submit .." ∷ []
+unfolding digits
+contents = refl
+
+ends : last_line 40 15 ++ last_line 0 0 ≡ codes "requests 40 refused 15\nrequests 0 refused 0\n"
+unfolding digits
+ends = refl
+
+-- ---- the requests of a team
+
+abbrev asks : Command
+asks = record { net = codes "bus"; task = Act act.Submit }
+
+abbrev answered : List ℕ → List ℕ → Answer → Answered
+answered team key answer =
+    record { profile = Two; team = team; key = key; content = codes "submit net=bus"; command = asks; answer = answer }
+
+abbrev done : Answered
+done = answered (codes "engine") (codes "s2") (answer.Reply Done)
+
+abbrev not_done : Answered
+not_done = answered (codes "engine") (codes "s10") (answer.Reply (Refused no.InReview))
+
+-- one of another team, and a repeat
+abbrev history : List Answered
+history = done ∷ answered (codes "brakes") (codes "s1") (answer.Reply (Refused no.InReview)) ∷ not_done ∷ done ∷ []
+
+of_engine : IsRequestsText (codes "engine") history
+    (codes "s10                      refused 54 InReview      <- submit net=bus\n"
+    ++ codes "s2                       done                     <- submit net=bus\n"
+    ++ codes "requests 2 refused 1\n")
+unfolding digits IsStrictlySortedBy
+of_engine = record {
+  listed = not_done ∷ done ∷ [];
+  same = record { moves = (0, 1) ∷ []; below = (omega arith, omega arith, tt); is = refl };
+  ascending = ((refl, tt), (tt, tt));
+  replied = All-from_recursion IsReplied (not_done ∷ done ∷ []) ((Refused no.InReview, refl), ((Done, refl), tt));
+  is = refl;
+}
+
+of_nobody : IsRequestsText (codes "lights") history (codes "requests 0 refused 0\n")
+unfolding digits IsStrictlySortedBy
+of_nobody = record {
+  listed = [];
+  same = IsPermutation-refl [];
+  ascending = tt;
+  replied = All-from_recursion IsReplied [] tt;
+  is = refl;
+}

@@ -1,3 +1,0 @@
-mod FirstLine
-mod Parts
-mod Rows

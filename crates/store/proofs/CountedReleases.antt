@@ -8,7 +8,7 @@ use Rattle.office_rules.specs.Change.{IsDecision}
 use Rattle.office_rules.specs.Commands.{reads_bodies}
 use Rattle.office_law.specs.Released.{BodiesDontCount}
 use Rattle.store_net.specs.Counted.{HasAsMany}
-use Rattle.store_net.specs.Writing.{IsNext, next_number}
+use Rattle.store_changes.specs.Writing.{IsNext, next_number}
 
 pub net_counted : BodiesDontCount → (team : List ℕ) (c : Command) (d : Decision) (net made : Option Net)
     (book : SpnBook) (next : ℕ) → reads_bodies c.task ≡ false → HasAsMany net made → next ≡ next_number made

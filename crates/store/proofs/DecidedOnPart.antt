@@ -26,7 +26,7 @@ use Rattle.office_facts.specs.FactsOf.{facts_in}
 use Rattle.office_facts.specs.Scope.{Scope, reads_part, scope_of}
 use Rattle.office_facts.specs.declared.excerpt.Excerpt.{Excerpt}
 use Rattle.store_net.specs.Excerpts.{IsExcerptIn}
-use Rattle.store_net.specs.Writing.{IsNext}
+use Rattle.store_changes.specs.Writing.{IsNext}
 
 -- ---- a network that isn't there
 

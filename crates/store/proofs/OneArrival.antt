@@ -26,8 +26,8 @@ use Rattle.office_history.specs.declared.arrival.Answer.TheVariants as answer
 use Rattle.office_history.specs.History.{Answered, IsAnsweredAs, IsLegal, first_of}
 use Rattle.office_history.specs.Laws.{HistoriesLeaveOffices, IsInRange}
 use Rattle.office_history.proofs.Histories.{histories_grow}
-use Rattle.store_net.specs.Kept.{AreKept, AreKeptParts, kept_row, part_rows}
-use Rattle.store_net.proofs.Kept.{again_kept, again_parts, first_kept, first_parts}
+use Rattle.store_changes.specs.Kept.{AreKept, AreKeptParts, kept_row, part_rows}
+use Rattle.store_changes.proofs.Kept.{again_kept, again_parts, first_kept, first_parts}
 use Rattle.store_rows.specs.Follows.{Follows}
 use Rattle.store_rows.specs.NetIn.{IsNetAt}
 use Rattle.store_rows.specs.Rows.{IsBookIn}

@@ -15,7 +15,7 @@ use Rattle.store_tables.specs.Tables.{no_rows}
 use Rattle.store_rows.proofs.Fresh.{no_net}
 use Rattle.store_rows.proofs.Changes.{same_net}
 use Rattle.store_rows.proofs.Listing.{none_listed}
-use Rattle.store_net.proofs.Kept.{none_kept}
+use Rattle.store_changes.proofs.Kept.{none_kept}
 use Rattle.store.specs.Holds.{Holds}
 use Rattle.store.specs.Holding.{Holding, Keeps}
 use Rattle.store.specs.Opening.{IsNew, MayOpen, new_tables}

@@ -8,7 +8,7 @@ use Rattle.office_types.specs.declared.state.Net.{Net}
 use Rattle.office_rules.specs.Change.{IsDecision, is_release}
 use Rattle.office_rules.specs.Kept.{IsNet}
 use Rattle.store_tables.specs.Tables.{Tables}
-use Rattle.store_net.specs.Writing.{IsNext}
+use Rattle.store_changes.specs.Writing.{IsNext}
 use Rattle.store_rows.specs.NetIn.{IsNetAt}
 use Rattle.store_rows.specs.Rows.{IsBookIn}
 

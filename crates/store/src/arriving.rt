@@ -20,7 +20,7 @@ use office_history::{Answer, Key, Request, histories_leave_offices};
 use office_types::{Decision, Team, command_is_in_range};
 use sqlite::{Alter, Connection, Error, Transaction};
 use std::alloc::Global;
-use store_net::{answer_at, keep_reply, write_changes};
+use store_changes::{answer_at, keep_reply, write_changes};
 use store_tables::knows_schema;
 
 /// Carries out an arrival whose pair of team and key is new: a step of the office.

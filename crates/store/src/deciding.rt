@@ -18,7 +18,8 @@ use office_law::{bodies_dont_count, releases_dont_count};
 use office_types::{Command, Decision, SpnBook, Task, Team, UsedSpns};
 use sqlite::{Alter, Error, Transaction};
 use std::alloc::Global;
-use store_net::{book_of, counted_net_at, excerpt_at, net_at, next_release, unreleased_net_at};
+use store_changes::next_release;
+use store_net::{book_of, counted_net_at, excerpt_at, net_at, unreleased_net_at};
 
 /// A book without blocks and numbers. Takes no memory.
 fn empty_book(alloc: Global) -> SpnBook {

@@ -20,8 +20,8 @@ use Rattle.office_history.specs.History.{Answered, first_arrivals, first_of, sam
 use Rattle.office_looks.specs.Requests.{IsReplied, IsRequestsText, answer_lines, answered_lines, by_key, is_of_team}
 use Rattle.office_looks.specs.Requests.{is_refusal, is_refused, last_line, request_lines, requests_text, was_refused}
 use Rattle.store_rows.specs.Listed.{AreShown}
-use Rattle.store_net.specs.Kept.{AreKept, AreKeysOf, IsKept, content_and_answer, kept_answer}
-use Rattle.store_net.specs.declared.requests.KeptRequest.{KeptRequest}
+use Rattle.store_changes.specs.Kept.{AreKept, AreKeysOf, IsKept, content_and_answer, kept_answer}
+use Rattle.store_changes.specs.declared.requests.KeptRequest.{KeptRequest}
 use Rattle.store_looks.specs.Asked.{IsFirstOf}
 
 abbrev key_of : Answered → List ℕ

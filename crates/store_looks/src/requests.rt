@@ -4,7 +4,7 @@ ghost use Rattle.std.specs.List.{AllByRecursion};
 ghost use Rattle.office_history.specs.History.{Answered};
 ghost use Rattle.office_looks.specs.Requests.{IsRequestsText, requests_text};
 ghost use Rattle.store_looks.specs.Asked.{IsFirstOf};
-ghost use Rattle.store_net.specs.Kept.{AreKept, AreKeptParts, content_and_answer, kept_answer};
+ghost use Rattle.store_changes.specs.Kept.{AreKept, AreKeptParts, content_and_answer, kept_answer};
 ghost use Rattle.store_tables.specs.Frames.{Asks, ReadsOnly, ReadsWhileOpen};
 
 use office_history::Key;
@@ -12,7 +12,7 @@ use office_looks::{add_request, add_total, is_refused};
 use office_types::Team;
 use sqlite::{Alter, Error, Transaction};
 use std::alloc::Global;
-use store_net::{KeptRequest, kept_at, keys_of};
+use store_changes::{KeptRequest, kept_at, keys_of};
 
 /// The team's request under the key. An error is out of memory, what `sqlite` answers, or `InvalidQuery` where it isn't
 /// there or the rows are those of no reply.

@@ -21,7 +21,7 @@ use Rattle.store_rows.specs.Rows.{IsRowOf, IsSpnBlockRow, IsSpnRow}
 use Rattle.store_rows.proofs.Keys.{number_below}
 use Rattle.store_rows.proofs.Listing.{none_listed}
 use Rattle.store_rows.proofs.NetIn.{carried}
-use Rattle.store_net.specs.Kept.{AreKept, AreKeptParts}
+use Rattle.store_changes.specs.Kept.{AreKept, AreKeptParts}
 use Rattle.store_net.specs.Nets.{AreKnownNets}
 use Rattle.store_migrate.specs.Carried.{CarriesNets, but_live}
 use Rattle.store_migrate.specs.Forms.{HasBodiesAlone, HoldsAsBodies, HoldsAsRows, row_marks}

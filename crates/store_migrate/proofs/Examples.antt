@@ -10,7 +10,7 @@ use Rattle.office_history.specs.History.{Answered}
 use Rattle.office_history.specs.Laws.{IsInRange}
 use Rattle.office_history.proofs.Histories.{histories_grow}
 use Rattle.store_rows.proofs.Listing.{none_listed}
-use Rattle.store_net.proofs.Kept.{none_kept}
+use Rattle.store_changes.proofs.Kept.{none_kept}
 use Rattle.store_migrate.specs.Carried.{but_live}
 use Rattle.store_migrate.specs.Forms.{HoldsAsBodies, HoldsAsRows, body_marks, row_marks}
 use Rattle.store_migrate.proofs.AllCarried.{no_rows_listed}

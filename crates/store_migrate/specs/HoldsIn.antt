@@ -8,7 +8,7 @@ use Rattle.office_history.specs.History.{Answered, IsLegal}
 use Rattle.office_history.specs.Laws.{IsInRange}
 use Rattle.store_rows.specs.NetIn.{IsNetIn, LiveForm}
 use Rattle.store_rows.specs.Rows.{IsBookIn}
-use Rattle.store_net.specs.Kept.{AreKept, AreKeptParts}
+use Rattle.store_changes.specs.Kept.{AreKept, AreKeptParts}
 
 -- The history is legal, and leaves an office. The rows stand for that office: for the network of each name, if it is
 -- there, and for the book. There is one kept reply for each first arrival, in whatever order, with a row for each part

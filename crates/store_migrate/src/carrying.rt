@@ -14,7 +14,8 @@ use office_history::histories_leave_offices;
 use office_types::{LiveMessage, NetName};
 use sqlite::{Alter, Error, Transaction};
 use std::alloc::Global;
-use store_net::{live_of, names_of, write_message};
+use store_changes::write_message;
+use store_net::{live_of, names_of};
 use store_statements::clear_messages;
 
 /// Writes the live messages of a network as rows.

@@ -24,8 +24,10 @@ use Rattle.store_rows.specs.Live.{AreSignalsOf, IsReceiverRow, live_rows, parts_
 use Rattle.store_rows.specs.NetIn.{HasRows, IsNetAt}
 use Rattle.store_rows.specs.SignalShowing.{PlacesAscend, ShowsLive, ShowsPart, ShowsPlaced, ShowsReceiver}
 use Rattle.store_rows.proofs.LiveRows.{of_number, receivers_total}
+use Rattle.store_rows.proofs.PartShown.{IsPart, Part, one_shown, placed_part}
 use Rattle.store_rows.proofs.Reading.{selected_shown}
-use Rattle.store_net.specs.SignalParts.{bare_signal, live_in}
+use Rattle.store_net.specs.SignalParts.{live_in}
+use Rattle.store_rows.specs.Live.{bare_signal}
 use Rattle.store_net.specs.Texts.{live_table}
 use Rattle.store_net.specs.declared.signal_parts.SignalParts.{SignalParts}
 use Rattle.store_net.specs.declared.signal_parts.SignalParts.TheVariants.{RowOnly, All}
@@ -33,43 +35,6 @@ use Rattle.store_net.proofs.LiveSheet.{live_ascends}
 use Rattle.store_net.proofs.Whole.{head_in}
 
 -- ---- signals at their places, with these receivers and value texts
-
-abbrev Part : Type 0
-Part = Signal → Signal
-
--- a part of a signal has all of it but its receivers and value texts
-abbrev IsPart : Part → Type 0
-IsPart part = (s : Signal) → part s ≡ record s { receivers = (part s).receivers; values = (part s).values }
-
-abbrev pub placed_part : Part → ℕ × Signal → ℕ × Signal
-placed_part part p = (p.0, part p.1)
-
-pub one_shown : (part : Part) → IsPart part → (p : ℕ × Signal) (row : Row) → ShowsPlaced p row
-    → ShowsPlaced (placed_part part p) row
-one_shown part is p row shown =
-    let s = shown.signal in subst (λ (t : Signal). ShowsPlaced (p.0, t) row) (sym (is p.1)) (record {
-      place = shown.place;
-      signal = record {
-        named = s.named;
-        layout = record { start = s.layout.start; size = s.layout.size; motorola = s.layout.motorola };
-        signed = s.signed;
-        mux = s.mux;
-        factor = s.factor;
-        shift = s.shift;
-        least = s.least;
-        most = s.most;
-        unit = s.unit;
-        comment = s.comment;
-        spn = s.spn;
-        label = s.label;
-        decimals = record {
-          factor = s.decimals.factor;
-          offset = s.decimals.offset;
-          minimum = s.decimals.minimum;
-          maximum = s.decimals.maximum;
-        };
-      };
-    })
 
 pub parts_shown : (part : Part) → IsPart part → (placed : List (ℕ × Signal)) (rows : List Row)
     → AreShown ShowsPlaced placed rows → AreShown ShowsPlaced (map (placed_part part) placed) rows

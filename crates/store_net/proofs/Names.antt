@@ -39,7 +39,8 @@ use Rattle.store_rows.proofs.Listing.{found_listed, none_listed}
 use Rattle.store_rows.proofs.Reading.{both_tests, selected_shown}
 use Rattle.store_rows.proofs.Setting.{left_none, left_others}
 use Rattle.store_rows.proofs.Values.{one_text}
-use Rattle.store_net.specs.Nets.{AreKnownNets, AreNets, IsNamed}
+use Rattle.store_net.specs.Nets.{AreKnownNets, AreNets}
+use Rattle.store_rows.specs.Rows.{IsNamed}
 
 abbrev name_of : Net → List ℕ
 name_of net = net.name

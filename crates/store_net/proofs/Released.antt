@@ -23,7 +23,7 @@ use Rattle.store_rows.proofs.Reading.{both_tests, selected_shown}
 use Rattle.store_rows.proofs.Values.{one_blob}
 use Rattle.store_net.specs.Parts.{HasReleases, releases_in}
 use Rattle.store_net.specs.Texts.{release_at}
-use Rattle.store_net.proofs.First.{none_first, some_first}
+use Rattle.store_rows.proofs.First.{none_first, some_first}
 
 -- what the row of a release shows
 abbrev ShowsBody : ℕ × Sheet → Row → Type 0

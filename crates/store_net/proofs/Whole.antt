@@ -22,11 +22,6 @@ use Rattle.store_net.specs.Counted.{HasAsMany}
 use Rattle.store_net.specs.NetParts.{outline}
 use Rattle.store_net.specs.Parts.{HasApprovals, HasBlocks, HasHead, HasHeld, HasReleases}
 
--- of two calls that leave nothing for a crash to find
-pub nothing_left : (a b c : State) → Survives a b (λ _. ⊥) → Survives b c (λ _. ⊥) → Survives a c (λ _. ⊥)
-nothing_left a b c first second = survives_then a b c (λ _. ⊥) (λ _. ⊥) (λ _. ⊥) (λ _ db made. made) (λ _ db made. made)
-    first second
-
 -- what was read of a database was read of one that is the same
 pub read_before : {A : Type 0} (Has : Tables → A → Type 0) (it : A) (after before : Database) → after ≡ before
     → ((other : A) → Has (tables_of after.trees) other → it ≡ other) → (other : A) → Has (tables_of before.trees) other

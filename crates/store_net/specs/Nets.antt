@@ -18,7 +18,3 @@ pub record AreNets (t : Tables) (nets : List Net) : Type 0 where
 pub record AreKnownNets (t : Tables) (nets : List Net) : Type 0 where
   pub ascending : IsStrictlySortedBy by_name nets
   pub each : (name : List ℕ) → IsRestAt name (rest_of name t) (find (λ net. bytes_eq net.name name) nets)
-
--- the row of a network's name, and any row that begins with it
-abbrev pub IsNamed : List ℕ → Row → Type 0
-IsNamed name row = column row 0 ≡ Text name

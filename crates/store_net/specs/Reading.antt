@@ -24,10 +24,6 @@ OnNetThere name Holds found t = (net : Net) → IsNetAt name t (Some net) → Ho
 abbrev pub OnParts : {X : Type 0} → List ℕ → (Option Net → X → Type 0) → X → Tables → Type 0
 OnParts name Holds found t = (net : Option Net) → IsReadIn name t net → Holds net found
 
--- the live messages of the network
-abbrev pub OnLive : {X : Type 0} → List ℕ → (List LiveMessage → X → Type 0) → X → Tables → Type 0
-OnLive name Holds found t = (live : List LiveMessage) → AreLiveRows name (live_rows name t) live → Holds live found
-
 -- the signals of the network's message of the number
 abbrev pub OnSignals : {X : Type 0} → List ℕ → ℕ → (List Signal → X → Type 0) → X → Tables → Type 0
 OnSignals name number Holds found t = (signals : List Signal) → AreSignalsOf name number (live_rows name t) signals

@@ -2,11 +2,9 @@
 use Rattle.std.specs.Prelude.{List, [], map}
 use Rattle.dbc_sheet.specs.declared.signal.Signal.{Signal}
 use Rattle.office_types.specs.declared.state.LiveMessage.{LiveMessage}
+use Rattle.store_rows.specs.Live.{bare_signal}
 use Rattle.store_net.specs.declared.signal_parts.SignalParts.{SignalParts}
 use Rattle.store_net.specs.declared.signal_parts.SignalParts.TheVariants.{All, Received, RowOnly}
-
-abbrev pub bare_signal : Signal → Signal
-bare_signal s = record s { receivers = []; values = [] }
 
 abbrev pub received_signal : Signal → Signal
 received_signal s = record s { values = [] }

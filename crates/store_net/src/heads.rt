@@ -5,7 +5,7 @@ ghost use Rattle.dbc_words.specs.Named.{has_name};
 ghost use Rattle.office_rules.specs.Facts.{live_name};
 ghost use Rattle.sqlite_sql.specs.Aggregate.{count};
 ghost use Rattle.store_tables.specs.Frames.{Asks, ReadsOnly};
-ghost use Rattle.store_net.specs.Reading.{OnLive};
+ghost use Rattle.store_rows.specs.Live.{OnLive};
 
 use dbc_words::{MESSAGE_LIMIT, Name};
 use office_types::NetName;

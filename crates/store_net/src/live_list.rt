@@ -11,7 +11,7 @@ ghost use Rattle.store_rows.specs.Live.{AreSignalsOf, live_rows};
 ghost use Rattle.store_rows.specs.SignalShowing.{ShowsLive};
 ghost use Rattle.store_net.specs.SignalParts.{live_in};
 ghost use Rattle.store_tables.specs.Frames.{Asks, ReadsOnly, ReadsWhileOpen};
-ghost use Rattle.store_net.specs.Reading.{OnLive};
+ghost use Rattle.store_rows.specs.Live.{OnLive};
 
 use crate::message::signals_for;
 use crate::orphans::refuse_orphans;

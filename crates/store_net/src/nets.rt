@@ -5,7 +5,8 @@ ghost use Rattle.office_types.specs.declared.state.Net.{Net as Network};
 ghost use Rattle.office_views.specs.NetList.{net_line, nets_text};
 ghost use Rattle.store_rows.specs.Listed.{AreShown};
 ghost use Rattle.store_rows.specs.NetIn.{IsNetAt};
-ghost use Rattle.store_net.specs.Nets.{AreKnownNets, AreNets, IsNamed};
+ghost use Rattle.store_net.specs.Nets.{AreKnownNets, AreNets};
+ghost use Rattle.store_rows.specs.Rows.{IsNamed};
 ghost use Rattle.store_tables.specs.Frames.{Asks, ReadsOnly, ReadsWhileOpen};
 ghost use Rattle.store_net.specs.Reading.{OnNetThere};
 

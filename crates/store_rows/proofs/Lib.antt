@@ -22,3 +22,8 @@ pub mod LiveOut
 pub mod LiveFollows
 pub mod LiveNamed
 pub mod NamedFollows
+pub mod Frames
+pub mod Made
+pub mod First
+pub mod OneMessage
+pub mod PartShown

@@ -159,3 +159,13 @@ pub record AreLiveRows (name : List ℕ) (rows : LiveRows) (live : List LiveMess
   pub messages : AreListed msgs_order (IsMsgRow name) rows.msg live
   pub numbered : HaveNumbers rows
   pub signals : (number : ℕ) → AreSignalsOf name number rows (signals_numbered live number)
+
+-- ---- what is read of them
+
+-- a signal without its receivers and value texts, which have rows of their own
+abbrev pub bare_signal : Signal → Signal
+bare_signal s = record s { receivers = []; values = [] }
+
+-- whatever live messages the network's rows stand for, this holds of them and of what is read
+abbrev pub OnLive : {X : Type 0} → List ℕ → (List LiveMessage → X → Type 0) → X → Tables → Type 0
+OnLive name Holds found t = (live : List LiveMessage) → AreLiveRows name (live_rows name t) live → Holds live found

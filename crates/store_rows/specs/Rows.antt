@@ -1,6 +1,7 @@
 -- What the rows of the tables stand for.
 use Rattle.std.specs.Prelude.{◌≡◌, ℕ, ◌+◌, List, [], ◌∷◌, Bool, ◌&&◌, not, filter, length, unwrap_or}
-use Rattle.sqlite.specs.Order.{Row}
+use Rattle.sqlite.specs.Order.{Row, column}
+use Rattle.sqlite.specs.declared.types.Value.TheVariants.{Text}
 use Rattle.can_id.specs.Ident.{IsIdentifier, dbc_number}
 use Rattle.can_id.specs.declared.ident.Ident.{Ident}
 use Rattle.dbc_grammar.specs.Reads.{Reads}
@@ -104,3 +105,7 @@ pub record IsBookIn (t : Tables) (book : SpnBook) : Type 0 where
   pub blocks : AreListed blocks_of_form_order (IsRowOf block_row IsSpnBlockRow)
       (filter (is_of_form (form_number Spn)) t.block) book.blocks
   pub used : AreListed spns_order IsSpnRow t.spn book.used
+
+-- the row of a network's name, and any row that begins with it
+abbrev pub IsNamed : List ℕ → Row → Type 0
+IsNamed name row = column row 0 ≡ Text name

@@ -15,7 +15,7 @@
 //! network and book to another), `Showing.antt` and `SignalShowing.antt` (what a row of a query shows). The lemmas on
 //! them, for the crates above, are in `proofs/`: `Listing.antt` (any rows and items), `Changes.antt` (one for each
 //! change, and for changes one after the other), `Reading.antt` (what the rows of each query show), `Fresh.antt`
-//! (tables with no row).
+//! (tables with no row), `Frames.antt` and `Made.antt` (what statements one after the other keep and make).
 #![tactic(auto)]
 
 mod columns;

@@ -13,11 +13,11 @@ use Rattle.office_rules.specs.Step.{net_named}
 use Rattle.store_tables.specs.Statements.{statistics_of}
 use Rattle.store_tables.specs.Tables.{IsOffice, Tables, tables_of}
 use Rattle.office_history.specs.declared.arrival.Answer.TheVariants as answer
-use Rattle.store_net.specs.Kept.{kept_row, part_rows}
+use Rattle.store_changes.specs.Kept.{kept_row, part_rows}
 use Rattle.store_rows.specs.Follows.{Follows}
 use Rattle.store_rows.specs.NetIn.{IsNetAt}
-use Rattle.store_net.specs.Writing.{IsNext}
-use Rattle.store_net.proofs.Whole.{nothing_left}
+use Rattle.store_changes.specs.Writing.{IsNext}
+use Rattle.store_rows.proofs.Frames.{nothing_left}
 use Rattle.office_history.specs.Answering.{answered}
 use Rattle.store.proofs.OneArrival.{AreFollowed, before_of, first_holds, net_of_office}
 use Rattle.store.proofs.arriving.first_arrival.Goals as goal

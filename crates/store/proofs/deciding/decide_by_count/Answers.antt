@@ -6,7 +6,7 @@ use Rattle.office_rules.specs.Change.{IsDecision}
 use Rattle.store_tables.specs.Tables.{IsOffice, tables_of}
 use Rattle.office_types.specs.declared.book.SpnBook.{SpnBook as Book}
 use Rattle.office_types.specs.declared.state.Net.{Net as Network}
-use Rattle.store_net.specs.Writing.{next_number}
+use Rattle.store_changes.specs.Writing.{next_number}
 use Rattle.store_rows.specs.Rows.{IsBookIn}
 use Rattle.store.proofs.CountedReleases.{net_counted}
 use Rattle.store.proofs.deciding.decide_by_count.Goals as goal

@@ -5,7 +5,7 @@ use Rattle.sqlite.specs.Effect.{Database}
 use Rattle.sqlite.specs.Held.{Held, state}
 use Rattle.sqlite.specs.State.{HasCleanDisk}
 use Rattle.sqlite.proofs.Callers.{survives_begin}
-use Rattle.store_net.proofs.Whole.{nothing_left}
+use Rattle.store_rows.proofs.Frames.{nothing_left}
 use Rattle.store_tables.specs.Tables.{IsOffice}
 use Rattle.store.specs.Calls.{OnlyLooks}
 use Rattle.store.proofs.looking.look_once.Goals as goal

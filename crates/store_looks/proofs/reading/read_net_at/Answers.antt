@@ -4,7 +4,7 @@ use Rattle.sqlite.specs.Held.{state}
 use Rattle.sqlite.specs.State.{HasCleanDisk}
 use Rattle.store_tables.specs.Tables.{IsOffice, tables_of}
 use Rattle.store_rows.specs.Rows.{IsBookIn}
-use Rattle.store_net.proofs.Made.{reads_any, reads_then, while_open}
+use Rattle.store_rows.proofs.Made.{reads_any, reads_then, while_open}
 use Rattle.store_looks.proofs.reading.read_net_at.Goals as goal
 
 pub returns-then-is_some-clause-found : goal.returns-then-is_some-clause-found

@@ -4,7 +4,7 @@ use Rattle.sqlite.specs.Effect.{Database}
 use Rattle.sqlite.specs.Held.{state}
 use Rattle.sqlite.specs.State.{HasCleanDisk}
 use Rattle.sqlite.proofs.Callers.{unchanged_then}
-use Rattle.store_net.specs.Kept.{AreKept, AreKeptParts}
+use Rattle.store_changes.specs.Kept.{AreKept, AreKeptParts}
 use Rattle.store_tables.specs.Tables.{IsOffice, tables_of}
 use Rattle.store_looks.proofs.Asked.{is_requests_text}
 use Rattle.store_looks.proofs.requests.requests_at.Goals as goal

@@ -6,8 +6,8 @@ use Rattle.sqlite.proofs.Callers.{unchanged_then}
 use Rattle.sqlite.proofs.InsideLemmas.{keeps_then}
 use Rattle.office_looks.specs.Requests.{is_refused, request_lines}
 use Rattle.store_tables.specs.Tables.{IsOffice, tables_of}
-use Rattle.store_net.specs.Kept.{AreKept, AreKeptParts}
-use Rattle.store_net.proofs.Whole.{nothing_left}
+use Rattle.store_changes.specs.Kept.{AreKept, AreKeptParts}
+use Rattle.store_rows.proofs.Frames.{nothing_left}
 use Rattle.store_looks.proofs.Asked.{all_told, one_told}
 use Rattle.store_looks.proofs.requests.requests_under.Goals.{then-is_refused, else-is_refused}
 use Rattle.store_looks.proofs.requests.requests_under.Goals as goal

@@ -5,7 +5,7 @@ use Rattle.sqlite.specs.Held.{state}
 use Rattle.sqlite.specs.State.{HasCleanDisk, IsUnchanged, KeepsCommit, Survives}
 use Rattle.office_history.specs.History.{Answered}
 use Rattle.store_tables.specs.Tables.{IsOffice, tables_of}
-use Rattle.store_net.specs.Kept.{AreKept, AreKeptParts}
+use Rattle.store_changes.specs.Kept.{AreKept, AreKeptParts}
 use Rattle.store_looks.specs.Asked.{IsFirstOf}
 use Rattle.store_looks.proofs.Asked.{AreTold}
 use Rattle.store_looks.proofs.requests.requests_under.Given as goal

@@ -5,7 +5,7 @@ use Rattle.sqlite.specs.State.{HasCleanDisk}
 use Rattle.store_tables.specs.Tables.{IsOffice, tables_of}
 use Rattle.store_rows.specs.NetIn.{IsNetAt}
 use Rattle.store_rows.specs.Rows.{IsBookIn}
-use Rattle.store_net.proofs.Made.{reads_any, reads_then, while_open}
+use Rattle.store_rows.proofs.Made.{reads_any, reads_then, while_open}
 use Rattle.store_looks.proofs.Seeing.{nothing_seen, seen_with}
 use Rattle.store_looks.proofs.view.view_at.Goals as goal
 

@@ -5,7 +5,7 @@ use Rattle.sqlite.specs.State.{HasCleanDisk}
 use Rattle.store_tables.specs.Tables.{tables_of}
 use Rattle.store_migrate.specs.Carried.{CarriesNets}
 use Rattle.store_migrate.proofs.NetsCarried.{next_carried}
-use Rattle.store_net.proofs.Frames.{stays_then}
+use Rattle.store_rows.proofs.Frames.{stays_then}
 use Rattle.store_migrate.proofs.carrying.carry_networks.Goals as goal
 
 pub loop-name-preserved : goal.loop-name-preserved

@@ -5,7 +5,7 @@ use Rattle.sqlite.specs.State.{HasCleanDisk}
 use Rattle.store_tables.specs.Tables.{tables_of}
 use Rattle.store_migrate.specs.Carried.{AddsLive}
 use Rattle.store_migrate.proofs.LiveAdded.{next_added}
-use Rattle.store_net.proofs.Frames.{ends_and_stays, writes_then}
+use Rattle.store_rows.proofs.Frames.{ends_and_stays, writes_then}
 use Rattle.store_migrate.proofs.carrying.write_messages.Goals as goal
 
 pub loop-message-preserved : goal.loop-message-preserved

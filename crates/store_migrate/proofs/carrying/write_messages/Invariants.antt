@@ -4,7 +4,7 @@ use Rattle.sqlite.specs.State.{HasCleanDisk}
 use Rattle.store_tables.specs.Frames.{WritesAndStaysIn}
 use Rattle.store_tables.specs.Tables.{IsOffice, tables_of}
 use Rattle.store_migrate.specs.Carried.{AddsLive}
-use Rattle.store_net.proofs.Frames.{going}
+use Rattle.store_rows.proofs.Frames.{going}
 use Rattle.store_migrate.proofs.carrying.write_messages.Given as goal
 
 abbrev pub invariant-loop-message : goal.invariant-loop-message

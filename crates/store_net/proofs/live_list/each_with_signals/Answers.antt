@@ -13,8 +13,8 @@ use Rattle.store_rows.specs.Live.{AreSignalsOf, live_rows}
 use Rattle.store_rows.specs.SignalShowing.{ShowsLive}
 use Rattle.store_net.specs.SignalParts.{live_in}
 use Rattle.store_net.proofs.EachMessage.{count_shown, shown_next}
-use Rattle.store_net.proofs.Whole.{nothing_left}
-use Rattle.store_net.proofs.Made.{on_any}
+use Rattle.store_rows.proofs.Frames.{nothing_left}
+use Rattle.store_rows.proofs.Made.{on_any}
 use Rattle.store_net.proofs.live_list.each_with_signals.Goals as goal
 
 pub loop-row-preserved : goal.loop-row-preserved

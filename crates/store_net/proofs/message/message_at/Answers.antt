@@ -5,7 +5,7 @@ use Rattle.sqlite.specs.State.{HasCleanDisk}
 use Rattle.dbc_sheet.specs.declared.signal.Signal.{Signal}
 use Rattle.store_tables.specs.Tables.{IsOffice, tables_of}
 use Rattle.store_rows.specs.Live.{AreSignalsOf, live_rows}
-use Rattle.store_net.proofs.OneMessage.{none_named, one_message}
+use Rattle.store_rows.proofs.OneMessage.{none_named, one_message}
 use Rattle.store_net.proofs.message.message_at.Goals as goal
 
 pub returns-in-None-clause-found : goal.returns-in-None-clause-found

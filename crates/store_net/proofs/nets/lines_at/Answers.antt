@@ -8,7 +8,7 @@ use Rattle.office_types.specs.declared.state.Net.{Net}
 use Rattle.store_tables.specs.Tables.{IsOffice, tables_of}
 use Rattle.store_rows.specs.NetIn.{IsNetAt}
 use Rattle.store_net.proofs.Names.{lines_more, lines_whole}
-use Rattle.store_net.proofs.Whole.{nothing_left}
+use Rattle.store_rows.proofs.Frames.{nothing_left}
 use Rattle.store_net.proofs.nets.lines_at.Goals as goal
 
 pub loop-name-preserved : goal.loop-name-preserved

@@ -2,7 +2,7 @@ use Rattle.std.proofs.Common.{◌≡◌, ◌∷◌, ◌++◌, ◌+◌, ◌<◌, 
 use Rattle.std.proofs.lemmas.List.{take_more}
 use Rattle.store_rows.specs.Listed.{AreShown}
 use Rattle.store_rows.proofs.Listing.{last_shown}
-use Rattle.store_net.specs.Nets.{IsNamed}
+use Rattle.store_rows.specs.Rows.{IsNamed}
 use Rattle.store_net.proofs.nets.names_in.Goals as goal
 
 pub loop-row-preserved : goal.loop-row-preserved

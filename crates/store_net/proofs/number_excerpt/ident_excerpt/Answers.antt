@@ -20,8 +20,8 @@ use Rattle.store_net.proofs.Between.{taken_are_identifiers}
 use Rattle.store_net.proofs.Excerpts.{none_more, one_more}
 use Rattle.store_net.proofs.NumberExcerpts.{of_ident, read_inside}
 use Rattle.store_net.proofs.Inside.{wanted_live}
-use Rattle.store_net.proofs.Whole.{nothing_left}
-use Rattle.store_net.proofs.Made.{reads_any, reads_then}
+use Rattle.store_rows.proofs.Frames.{nothing_left}
+use Rattle.store_rows.proofs.Made.{reads_any, reads_then}
 use Rattle.store_net.proofs.number_excerpt.ident_excerpt.Goals as goal
 
 pub returns-in_default-clause-found : goal.returns-in_default-clause-found

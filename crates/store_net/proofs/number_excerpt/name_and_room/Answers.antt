@@ -12,7 +12,8 @@ use Rattle.store_rows.specs.Live.{AreLiveRows, live_rows}
 use Rattle.store_net.specs.Excerpts.{HasNameAndRoom}
 use Rattle.store_net.specs.Parts.{HasBlocks}
 use Rattle.store_net.proofs.Excerpts.{none_there, one_there}
-use Rattle.store_net.proofs.Whole.{nothing_left, read_before}
+use Rattle.store_net.proofs.Whole.{read_before}
+use Rattle.store_rows.proofs.Frames.{nothing_left}
 use Rattle.store_net.proofs.number_excerpt.name_and_room.Goals as goal
 
 pub returns-in_default-clause-found : goal.returns-in_default-clause-found

@@ -11,8 +11,8 @@ use Rattle.office_types.specs.declared.block.Block.{Block}
 use Rattle.store_tables.specs.Tables.{IsOffice, tables_of}
 use Rattle.store_net.specs.Numbers.{HasTaken, dbc_of, idents_between, idents_inside}
 use Rattle.store_net.proofs.Inside.{inside_more}
-use Rattle.store_net.proofs.Whole.{nothing_left}
-use Rattle.store_net.proofs.Made.{on_any}
+use Rattle.store_rows.proofs.Frames.{nothing_left}
+use Rattle.store_rows.proofs.Made.{on_any}
 use Rattle.store_net.proofs.ranges.idents_inside_at.Goals as goal
 
 pub loop-block-preserved : goal.loop-block-preserved

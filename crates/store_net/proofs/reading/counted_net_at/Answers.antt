@@ -6,7 +6,7 @@ use Rattle.store_tables.specs.Tables.{IsOffice, tables_of}
 use Rattle.office_types.specs.declared.state.Net.{Net}
 use Rattle.store_rows.specs.NetIn.{IsNetAt}
 use Rattle.store_net.proofs.Whole.{none_counted, with_as_many}
-use Rattle.store_net.proofs.Made.{reads_any, reads_then, while_open}
+use Rattle.store_rows.proofs.Made.{reads_any, reads_then, while_open}
 use Rattle.store_net.proofs.reading.counted_net_at.Goals as goal
 
 pub returns-in_default-clause-found : goal.returns-in_default-clause-found

@@ -8,7 +8,7 @@ use Rattle.store_rows.specs.NetIn.{IsNetAt}
 use Rattle.store_net.specs.NetParts.{HasLast}
 use Rattle.store_net.specs.Texts.{release_at}
 use Rattle.store_net.proofs.LastRelease.{last_found, none_last}
-use Rattle.store_net.proofs.Made.{reads_any, reads_then, while_open}
+use Rattle.store_rows.proofs.Made.{reads_any, reads_then, while_open}
 use Rattle.store_net.proofs.releases.last_sheets_at.Goals as goal
 
 pub returns-then-count-eq0-clause-found : goal.returns-then-count-eq0-clause-found

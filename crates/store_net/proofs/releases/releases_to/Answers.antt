@@ -9,8 +9,8 @@ use Rattle.store_bodies.specs.ReadText.{TextsRead}
 use Rattle.store_rows.specs.NetIn.{IsNetAt}
 use Rattle.store_net.specs.Parts.{releases_in}
 use Rattle.store_net.proofs.LastRelease.{one_more}
-use Rattle.store_net.proofs.Whole.{nothing_left}
-use Rattle.store_net.proofs.Made.{on_any}
+use Rattle.store_rows.proofs.Frames.{nothing_left}
+use Rattle.store_rows.proofs.Made.{on_any}
 use Rattle.store_net.proofs.releases.releases_to.Goals as goal
 
 pub loop-index-preserved : goal.loop-index-preserved

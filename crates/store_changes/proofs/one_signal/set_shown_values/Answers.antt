@@ -1,0 +1,63 @@
+use Rattle.std.proofs.Common.{◌≡◌, ◌∙◌, ℕ, List, ◌∷◌, ◌++◌, [], ◌<◌, ◌+◌, take, length, sym, ap, subst, arith}
+use Rattle.std.proofs.lemmas.List.{take_more}
+use Rattle.std.specs.List.{AllByRecursion}
+use Rattle.dbc_sheet.specs.declared.signal.Signal.{Signal}
+use Rattle.dbc_sheet.specs.declared.value_texts.ValueText.{ValueText}
+use Rattle.decimal.specs.Number.{IsDecimal}
+use Rattle.sqlite.specs.Held.{state}
+use Rattle.sqlite.specs.Order.{Row}
+use Rattle.sqlite.specs.State.{HasCleanDisk}
+use Rattle.store_tables.specs.Tables.{tables_of}
+use Rattle.store_rows.specs.Listed.{AreShown}
+use Rattle.store_rows.specs.LiveWritten.{with_texts}
+use Rattle.store_rows.specs.SignalShowing.{PlacesAscend, ShowsPlaced}
+use Rattle.store_rows.proofs.Reading.{shown_none, shown_push}
+use Rattle.store_rows.proofs.SeatRows.{all_append}
+use Rattle.store_changes.proofs.SetSignals.{ascend_parts, described_after, none_described}
+use Rattle.store_rows.proofs.Frames.{none_written, writes_then}
+use Rattle.store_changes.proofs.one_signal.set_shown_values.Goals as goal
+
+pub loop-row-init : goal.loop-row-init
+loop-row-init g c =
+    let t = tables_of (state g.S.Store c.args.tx.now.conn.now).now.trees in
+    record {
+      decimals = tt;
+      frame = none_written g.S.Store c.args.tx.now;
+      written = λ clean was placed ascend shown.
+          sym (ap (λ (l : List (ℕ × Signal)). with_texts c.args.net.now c.args.number c.args.values.now l t)
+          (shown_none ShowsPlaced placed shown) ∙ none_described c.args.net.now c.args.number c.args.values.now t);
+    }
+
+pub loop-row-preserved : goal.loop-row-preserved
+loop-row-preserved g c =
+    let old = state g.S.Store c.args.tx.now.conn.now in
+    let mid = state g.S.Store c.loop-row.tx.conn.now in
+    let now = state g.S.Store c.set_row_values.new.tx.conn.now in
+    let net = c.args.net.now in
+    let number = c.args.number in
+    let values = c.args.values.now in
+    let rows = c.args.rows.now in
+    let at = c.loop-row.row-index in
+    let row = c.row-item.result in
+    let i = c.loop-row.invariant in
+    let w = c.in_ok-set_row_values.ensures in
+    let within : at < length rows = c.loop-row-test.true in
+    let done : take (at + 1) rows ≡ take at rows ++ row ∷ [] = rw (take_more rows at row within, ← c.row-item.is) in
+    let early : HasCleanDisk now → HasCleanDisk mid = λ clean. omega (arith, w.frame.survives.clean, clean) in
+    let t = tables_of old.now.trees in
+    record {
+      decimals = subst (AllByRecursion (λ (x : Row). AllByRecursion (λ (v : ValueText). IsDecimal v.value) values))
+          (sym done)
+          (all_append (λ (x : Row). AllByRecursion (λ (v : ValueText). IsDecimal v.value) values) (take at rows)
+          (row ∷ []) i.decimals (w.decimals, tt));
+      frame = writes_then g.S.Store c.args.tx.now c.loop-row.tx c.set_row_values.new.tx _ i.frame w.frame;
+      written = λ clean was placed ascend shown.
+          let parts = shown_push ShowsPlaced (take at rows) row placed
+          (subst (AreShown ShowsPlaced placed) done shown) in
+          let whole : PlacesAscend (parts.0 ++ parts.1 ∷ []) = subst PlacesAscend parts.2 ascend in
+          w.written clean (i.frame.office (early clean) was) parts.1 parts.4
+          ∙ ap (with_texts net number values (parts.1 ∷ []))
+          (i.written (early clean) was parts.0 (ascend_parts parts.0 parts.1 whole).0 parts.3)
+          ∙ described_after net number values parts.0 parts.1 t whole
+          ∙ ap (λ (l : List (ℕ × Signal)). with_texts net number values l t) (sym parts.2);
+    }

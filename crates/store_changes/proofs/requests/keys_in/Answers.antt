@@ -1,0 +1,18 @@
+use Rattle.std.proofs.Common.{◌≡◌, ◌∷◌, ◌++◌, ◌+◌, ◌<◌, [], length, take, sym, subst}
+use Rattle.std.proofs.lemmas.List.{take_more}
+use Rattle.store_rows.specs.Listed.{AreShown}
+use Rattle.store_rows.proofs.Listing.{last_shown}
+use Rattle.store_rows.specs.Rows.{IsNamed}
+use Rattle.store_changes.proofs.requests.keys_in.Goals as goal
+
+pub loop-row-preserved : goal.loop-row-preserved
+loop-row-preserved c =
+    let rows = c.args.rows.now in
+    let at = c.loop-row.row-index in
+    let item = c.row-item.result in
+    let within : at < length rows = c.loop-row-test.true in
+    let next : take (at + 1) rows ≡ take at rows ++ item ∷ [] = rw (take_more rows at item within, ← c.row-item.is) in
+    let all = last_shown IsNamed c.in_ok-key.key item c.loop-row.keys.items (take at rows) c.in_ok-key.ensures
+    c.loop-row.invariant in
+    subst (AreShown IsNamed c.push.new.self.items) (sym next)
+    (subst (λ l. AreShown IsNamed l (take at rows ++ item ∷ [])) (sym c.in_ok-push.ensures.items) all)

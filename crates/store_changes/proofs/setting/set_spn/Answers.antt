@@ -1,0 +1,12 @@
+use Rattle.std.proofs.Common.{arith}
+use Rattle.sqlite.specs.Held.{state}
+use Rattle.sqlite.specs.State.{HasCleanDisk}
+use Rattle.store_rows.proofs.Made.{makes_then}
+use Rattle.store_changes.proofs.setting.set_spn.Goals as goal
+
+pub returns-clause-set : goal.returns-clause-set
+returns-clause-set g c clean was =
+    let mid = state g.S.Store c.delete_spn.new.tx.conn.now in
+    let early : HasCleanDisk mid = omega (arith, c.insert_spn.ensures.frame.survives.clean, clean) in
+    let m1 = c.in_ok-delete_spn.ensures.removed early was in
+    makes_then _ _ _ _ _ m1 (c.in_ok-insert_spn.ensures.added clean m1.office)

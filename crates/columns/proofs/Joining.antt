@@ -1,6 +1,6 @@
 -- The last of a list, which is the first of it reversed.
 use Rattle.std.proofs.Common.{◌≡◌, ◌+◌, ◌<◌, ◌++◌, ℕ, List, [], ◌∷◌, length, take, set, get_or, reverse, sym, ap, ◌∙◌}
-use Rattle.std.proofs.Common.{arith, get_or-set_same, length-set, rules}
+use Rattle.std.proofs.Common.{arith, get_or-set_same, length-set}
 use Rattle.std.proofs.Math.Seq.{take-length}
 use Rattle.std.proofs.lemmas.List.{reverse-append, take_more, take-set}
 use Rattle.columns.specs.Run.{joined}

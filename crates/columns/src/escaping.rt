@@ -4,6 +4,7 @@ ghost use Rattle.columns.specs.Word.{escape, escaped, is_plain, later_words, res
 ghost use Rattle.columns.specs.Word.{word, words};
 
 use crate::padding::filled;
+use crate::texts::concat;
 use base::{Checked, Rule};
 use std::alloc::{AllocError, Global};
 
@@ -32,9 +33,7 @@ fn escape(alloc: Global, byte: u8) -> Result<Vec<u8>, AllocError>
 {
     let digits = format!(in alloc; "{byte:x}")?;
     let padded = filled(alloc, b'0', 2, digits.as_bytes())?;
-    let mut text = Vec::from_slice(alloc, b"%")?;
-    text.extend_from_slice(&padded)?;
-    Ok(text)
+    concat(alloc, &[b"%", &padded])
 }
 
 /// Appends the byte, escaped where it isn't shown as it is.
@@ -108,10 +107,9 @@ pub fn words<R: Rule>(alloc: Global, texts: &[Checked<R>]) -> Result<Vec<u8>, Al
     match texts {
         [] => Vec::from_slice(alloc, b"-"),
         [first, others @ ..] => {
+            let first = word(alloc, first.as_bytes())?;
             let later = later_words(alloc, others)?;
-            let mut text = word(alloc, first.as_bytes())?;
-            text.extend_from_slice(&later)?;
-            Ok(text)
+            concat(alloc, &[&first, &later])
         }
     }
 }

@@ -4,6 +4,7 @@ ghost use Rattle.columns.specs.IdentColumns.{form_word, group_text, hexadecimal,
 ghost use Rattle.columns.specs.Padding.{set_right};
 
 use crate::padding::{filled, number_right};
+use crate::texts::concat;
 use can_id::{Ident, J1939};
 use std::alloc::{AllocError, Global};
 
@@ -42,16 +43,13 @@ fn group(alloc: Global, ident: &Ident) -> Result<Vec<u8>, AllocError>
 pub fn ident_columns(alloc: Global, ident: &Ident) -> Result<Vec<u8>, AllocError>
     ensures { IfOk result (λ text. text.items ≡ ident_columns ident.now) }
 {
+    let number = number_right(alloc, 10, ident.to_dbc() as usize)?;
     let digits = hexadecimal(alloc, ident)?;
     let group = group(alloc, ident)?;
-    let mut line = number_right(alloc, 10, ident.to_dbc() as usize)?;
-    line.push(b' ')?;
-    line.extend_from_slice(form_word(ident))?;
-    line.push(b' ')?;
-    line.extend_from_slice(&digits)?;
-    line.push(b' ')?;
-    line.extend_from_slice(&group)?;
-    Ok(line)
+    concat(
+        alloc,
+        &[&number, b" ", form_word(ident), b" ", &digits, b" ", &group],
+    )
 }
 
 /// The columns of no identifier, as wide as those of one: `-` in each.

@@ -2,6 +2,7 @@
 ghost use Rattle.std.specs.Prelude.{◌≡◌, IfOk, OnOk, reverse, string_bytes};
 ghost use Rattle.columns.specs.Run.{joined, later_runs, run_text, runs_of, runs_text};
 
+use crate::texts::concat;
 use std::alloc::{AllocError, Global};
 
 /// Numbers from `first` to `last`, inclusive, with neighbours one step apart.
@@ -75,9 +76,7 @@ pub fn runs_text(alloc: Global, runs: &[Run]) -> Result<Vec<u8>, AllocError>
         [first, others @ ..] => {
             let first = run_text(alloc, *first)?;
             let later = later_runs(alloc, others)?;
-            let mut text = Vec::from_slice(alloc, first.as_bytes())?;
-            text.extend_from_slice(&later)?;
-            Ok(text)
+            concat(alloc, &[first.as_bytes(), &later])
         }
     }
 }

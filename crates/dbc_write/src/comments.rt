@@ -6,10 +6,10 @@ ghost use Rattle.dbc_grammar.specs.Canon.{signal_pieces, space, word};
 ghost use Rattle.dbc_sheet.specs.Messages.{number_of};
 ghost use Rattle.dbc_write.specs.Adding.{Adds};
 
-use crate::citations;
-use crate::tokens::{quoted, spaced_number, spaced_word, tight_mark, tight_word};
+use crate::tokens::push_all;
 use dbc_sheet::{Message, Node, Signal};
 use dbc_words::Text;
+use itoa::Buffer;
 use std::alloc::AllocError;
 
 /// The comment of the whole file.
@@ -20,11 +20,7 @@ pub(crate) fn file_comment(text: &mut Vec<u8>, comment: &Text) -> Result<(), All
     if comment.is_empty() {
         return Ok(());
     }
-    tight_word(text, b"CM_")?;
-    quoted(text, comment.as_bytes())?;
-    tight_mark(text, b';')?;
-    text.push(b'\n')?;
-    Ok(())
+    push_all(text, &[b"CM_ \"", comment.as_bytes(), b"\";\n"])
 }
 
 fn node_comment(text: &mut Vec<u8>, node: &Node) -> Result<(), AllocError>
@@ -33,13 +29,16 @@ fn node_comment(text: &mut Vec<u8>, node: &Node) -> Result<(), AllocError>
     if node.comment.is_empty() {
         return Ok(());
     }
-    tight_word(text, b"CM_")?;
-    spaced_word(text, b"BU_")?;
-    spaced_word(text, node.name.as_bytes())?;
-    quoted(text, node.comment.as_bytes())?;
-    tight_mark(text, b';')?;
-    text.push(b'\n')?;
-    Ok(())
+    push_all(
+        text,
+        &[
+            b"CM_ BU_ ",
+            node.name.as_bytes(),
+            b" \"",
+            node.comment.as_bytes(),
+            b"\";\n",
+        ],
+    )
 }
 
 /// The comments of the nodes.
@@ -61,13 +60,17 @@ fn message_comment(text: &mut Vec<u8>, message: &Message) -> Result<(), AllocErr
     if message.comment.is_empty() {
         return Ok(());
     }
-    tight_word(text, b"CM_")?;
-    spaced_word(text, b"BO_")?;
-    spaced_number(text, message.number())?;
-    quoted(text, message.comment.as_bytes())?;
-    tight_mark(text, b';')?;
-    text.push(b'\n')?;
-    Ok(())
+    let mut number = Buffer::new();
+    push_all(
+        text,
+        &[
+            b"CM_ BO_ ",
+            number.format(message.number()).as_bytes(),
+            b" \"",
+            message.comment.as_bytes(),
+            b"\";\n",
+        ],
+    )
 }
 
 fn signal_comment(text: &mut Vec<u8>, message: &Message, signal: &Signal) -> Result<(), AllocError>
@@ -77,12 +80,19 @@ fn signal_comment(text: &mut Vec<u8>, message: &Message, signal: &Signal) -> Res
     if signal.comment.is_empty() {
         return Ok(());
     }
-    tight_word(text, b"CM_")?;
-    citations::signal_citation(text, message, signal)?;
-    quoted(text, signal.comment.as_bytes())?;
-    tight_mark(text, b';')?;
-    text.push(b'\n')?;
-    Ok(())
+    let mut number = Buffer::new();
+    push_all(
+        text,
+        &[
+            b"CM_ SG_ ",
+            number.format(message.number()).as_bytes(),
+            b" ",
+            signal.name.as_bytes(),
+            b" \"",
+            signal.comment.as_bytes(),
+            b"\";\n",
+        ],
+    )
 }
 
 fn with_signals(text: &mut Vec<u8>, message: &Message) -> Result<(), AllocError>

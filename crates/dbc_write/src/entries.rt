@@ -3,7 +3,7 @@ ghost use Rattle.std.specs.Prelude.{◌∷◌, [], OnOk, map};
 ghost use Rattle.dbc_grammar.specs.Canon.{entries, entry, line_text, table_line};
 ghost use Rattle.dbc_write.specs.Adding.{Adds, piece_text};
 
-use crate::tokens::{quoted, spaced_mark, spaced_value, spaced_word, tight_word};
+use crate::tokens::{push_all, quoted, spaced_mark, spaced_value};
 use dbc_sheet::{ValueTable, ValueText, ValueTexts};
 use std::alloc::AllocError;
 
@@ -30,8 +30,7 @@ fn table_line(text: &mut Vec<u8>, table: &ValueTable) -> Result<(), AllocError>
     ensures { OnOk result (Adds line_text text.old.items text.new.items
         (table_line table.now ∷ [])) }
 {
-    tight_word(text, b"VAL_TABLE_")?;
-    spaced_word(text, table.name.as_bytes())?;
+    push_all(text, &[b"VAL_TABLE_ ", table.name.as_bytes()])?;
     entries(text, &table.entries)?;
     text.push(b'\n')?;
     Ok(())

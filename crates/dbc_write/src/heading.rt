@@ -3,7 +3,7 @@ ghost use Rattle.std.specs.Prelude.{◌∷◌, [], OnOk};
 ghost use Rattle.dbc_grammar.specs.Canon.{line_text, nodes_line, symbols_line, timing_line, version_line};
 ghost use Rattle.dbc_write.specs.Adding.{Adds};
 
-use crate::tokens::{quoted, spaced_mark, spaced_word, tight_mark, tight_word};
+use crate::tokens::push_all;
 use dbc_sheet::Sheet;
 use std::alloc::AllocError;
 
@@ -11,38 +11,16 @@ fn version_line(text: &mut Vec<u8>, sheet: &Sheet) -> Result<(), AllocError>
     ensures { OnOk result (Adds line_text text.old.items text.new.items
         (version_line sheet.now ∷ [])) }
 {
-    tight_word(text, b"VERSION")?;
-    quoted(text, sheet.version().as_bytes())?;
-    text.push(b'\n')?;
-    Ok(())
-}
-
-fn symbols_line(text: &mut Vec<u8>) -> Result<(), AllocError>
-    ensures { OnOk result (Adds line_text text.old.items text.new.items (symbols_line ∷ [])) }
-{
-    tight_word(text, b"NS_")?;
-    spaced_mark(text, b':')?;
-    text.push(b'\n')?;
-    Ok(())
-}
-
-fn timing_line(text: &mut Vec<u8>) -> Result<(), AllocError>
-    ensures { OnOk result (Adds line_text text.old.items text.new.items (timing_line ∷ [])) }
-{
-    tight_word(text, b"BS_")?;
-    tight_mark(text, b':')?;
-    text.push(b'\n')?;
-    Ok(())
+    push_all(text, &[b"VERSION \"", sheet.version().as_bytes(), b"\"\n"])
 }
 
 fn nodes_line(text: &mut Vec<u8>, sheet: &Sheet) -> Result<(), AllocError>
     ensures { OnOk result (Adds line_text text.old.items text.new.items
         (nodes_line sheet.now ∷ [])) }
 {
-    tight_word(text, b"BU_")?;
-    tight_mark(text, b':')?;
+    text.extend_from_slice(b"BU_:")?;
     for node in sheet.nodes() {
-        spaced_word(text, node.name.as_bytes())?;
+        push_all(text, &[b" ", node.name.as_bytes()])?;
     }
     text.push(b'\n')?;
     Ok(())
@@ -54,8 +32,7 @@ pub(crate) fn heading(text: &mut Vec<u8>, sheet: &Sheet) -> Result<(), AllocErro
         (version_line sheet.now ∷ symbols_line ∷ timing_line ∷ nodes_line sheet.now ∷ [])) }
 {
     version_line(text, sheet)?;
-    symbols_line(text)?;
-    timing_line(text)?;
+    text.extend_from_slice(b"NS_ :\nBS_:\n")?;
     nodes_line(text, sheet)?;
     Ok(())
 }

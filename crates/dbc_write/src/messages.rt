@@ -6,9 +6,10 @@ ghost use Rattle.dbc_grammar.specs.Canon.{line_text, message_line, message_lines
 ghost use Rattle.dbc_write.specs.Adding.{Adds};
 
 use crate::signals::signal_line;
-use crate::tokens::{spaced_number, spaced_word, tight_mark, tight_word};
+use crate::tokens::push_all;
 use dbc_sheet::Message;
 use dbc_words::NO_NODE;
+use itoa::Buffer;
 use std::alloc::AllocError;
 
 fn transmitter(message: &Message) -> &[u8]
@@ -24,14 +25,21 @@ fn message_line(text: &mut Vec<u8>, message: &Message) -> Result<(), AllocError>
     ensures { OnOk result (Adds line_text text.old.items text.new.items
         (message_line message.now ∷ [])) }
 {
-    tight_word(text, b"BO_")?;
-    spaced_number(text, message.number())?;
-    spaced_word(text, message.name.as_bytes())?;
-    tight_mark(text, b':')?;
-    spaced_number(text, u32::from(message.length.bytes()))?;
-    spaced_word(text, transmitter(message))?;
-    text.push(b'\n')?;
-    Ok(())
+    let (mut number, mut length) = (Buffer::new(), Buffer::new());
+    push_all(
+        text,
+        &[
+            b"BO_ ",
+            number.format(message.number()).as_bytes(),
+            b" ",
+            message.name.as_bytes(),
+            b": ",
+            length.format(message.length.bytes()).as_bytes(),
+            b" ",
+            transmitter(message),
+            b"\n",
+        ],
+    )
 }
 
 fn with_signals(text: &mut Vec<u8>, message: &Message) -> Result<(), AllocError>

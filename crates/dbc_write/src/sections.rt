@@ -7,11 +7,13 @@ ghost use Rattle.dbc_grammar.specs.Canon.{value_lines, with_spn_definitions};
 ghost use Rattle.dbc_write.specs.Adding.{Adds};
 ghost use Rattle.dbc_write.specs.Sections.{has_spn, message_has_spn, section_lines};
 
-use crate::citations;
 use crate::entries::entries;
-use crate::tokens::{quoted, spaced_mark, spaced_number, spaced_word, tight_mark, tight_word};
+use crate::tokens::{
+    push_all, quoted, spaced_mark, spaced_number, spaced_word, tight_mark, tight_word,
+};
 use dbc_sheet::{Message, Sheet, Signal};
 use dbc_words::SPN_LIMIT;
+use itoa::Buffer;
 use std::alloc::AllocError;
 
 /// What the lines of a section give for a signal.
@@ -33,12 +35,19 @@ fn spn_line(text: &mut Vec<u8>, message: &Message, signal: &Signal) -> Result<()
     if spn == 0 {
         return Ok(());
     }
-    tight_word(text, b"BA_")?;
-    quoted(text, b"SPN")?;
-    citations::signal_citation(text, message, signal)?;
-    spaced_number(text, spn)?;
-    tight_mark(text, b';')?;
-    text.push(b'\n')?;
+    let (mut message_number, mut number) = (Buffer::new(), Buffer::new());
+    push_all(
+        text,
+        &[
+            b"BA_ \"SPN\" SG_ ",
+            message_number.format(message.number()).as_bytes(),
+            b" ",
+            signal.name.as_bytes(),
+            b" ",
+            number.format(spn).as_bytes(),
+            b";\n",
+        ],
+    )?;
     Ok(())
 }
 
@@ -49,8 +58,16 @@ fn value_line(text: &mut Vec<u8>, message: &Message, signal: &Signal) -> Result<
     if signal.values.as_slice().is_empty() {
         return Ok(());
     }
-    tight_word(text, b"VAL_")?;
-    citations::cited_signal(text, message, signal)?;
+    let mut number = Buffer::new();
+    push_all(
+        text,
+        &[
+            b"VAL_ ",
+            number.format(message.number()).as_bytes(),
+            b" ",
+            signal.name.as_bytes(),
+        ],
+    )?;
     entries(text, &signal.values)?;
     text.push(b'\n')?;
     Ok(())
@@ -65,7 +82,8 @@ fn type_line(text: &mut Vec<u8>, message: &Message, signal: &Signal) -> Result<(
         return Ok(());
     }
     tight_word(text, b"SIG_VALTYPE_")?;
-    citations::cited_signal(text, message, signal)?;
+    spaced_number(text, message.number())?;
+    spaced_word(text, signal.name.as_bytes())?;
     spaced_mark(text, b':')?;
     spaced_number(text, number)?;
     tight_mark(text, b';')?;

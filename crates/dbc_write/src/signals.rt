@@ -3,14 +3,12 @@ ghost use Rattle.std.specs.Prelude.{◌≡◌, ◌∷◌, [], OnOk};
 ghost use Rattle.dbc_grammar.specs.Canon.{layout_pieces, line_text, mux_pieces, pair, receiver_pieces, signal_line};
 ghost use Rattle.dbc_write.specs.Adding.{Adds, piece_text};
 
-use crate::tokens::{
-    quoted, spaced_mark, spaced_number, spaced_word, tight_mark, tight_number, tight_value,
-    tight_word,
-};
+use crate::tokens::{push_all, quoted, spaced_mark, spaced_word, tight_mark, tight_value};
 use bitlayout::Mux;
 use dbc_sheet::Signal;
 use dbc_words::{NO_NODE, Name};
 use decimal::Decimal;
+use itoa::Buffer;
 use std::alloc::AllocError;
 
 fn mux_mark(text: &mut Vec<u8>, mux: Mux) -> Result<(), AllocError>
@@ -26,13 +24,20 @@ fn layout(text: &mut Vec<u8>, signal: &Signal) -> Result<(), AllocError>
     ensures { OnOk result (Adds piece_text text.old.items text.new.items
         (layout_pieces signal.now)) }
 {
-    spaced_number(text, u32::from(signal.layout.start))?;
-    tight_mark(text, b'|')?;
-    tight_number(text, u32::from(signal.layout.size.bits()))?;
-    tight_mark(text, b'@')?;
-    tight_number(text, u32::from(signal.layout.order.number()))?;
-    tight_mark(text, if signal.signed { b'-' } else { b'+' })?;
-    Ok(())
+    let layout = &signal.layout;
+    let (mut start, mut size, mut order) = (Buffer::new(), Buffer::new(), Buffer::new());
+    push_all(
+        text,
+        &[
+            b" ",
+            start.format(layout.start).as_bytes(),
+            b"|",
+            size.format(layout.size.bits()).as_bytes(),
+            b"@",
+            order.format(layout.order.number()).as_bytes(),
+            if signal.signed { b"-" } else { b"+" },
+        ],
+    )
 }
 
 /// Two decimals between brackets.
@@ -64,8 +69,7 @@ fn receivers(text: &mut Vec<u8>, names: &[Name]) -> Result<(), AllocError>
     };
     spaced_word(text, first.as_bytes())?;
     for other in others {
-        tight_mark(text, b',')?;
-        tight_word(text, other.as_bytes())?;
+        push_all(text, &[b",", other.as_bytes()])?;
     }
     Ok(())
 }
@@ -75,8 +79,7 @@ pub(crate) fn signal_line(text: &mut Vec<u8>, signal: &Signal) -> Result<(), All
     ensures { OnOk result (Adds line_text text.old.items text.new.items
         (signal_line signal.now ∷ [])) }
 {
-    spaced_word(text, b"SG_")?;
-    spaced_word(text, signal.name.as_bytes())?;
+    push_all(text, &[b" SG_ ", signal.name.as_bytes()])?;
     mux_mark(text, signal.mux)?;
     spaced_mark(text, b':')?;
     layout(text, signal)?;

@@ -1,11 +1,22 @@
 //! Tokens, each after its gap.
 ghost use Rattle.std.specs.Prelude.{◌≡◌, ◌∷◌, [], ◌++◌, OnOk};
+ghost use Rattle.std.specs.List.{flat_map};
 ghost use Rattle.dbc_grammar.specs.Canon.{mark, number, quoted, space, tight, value, word};
 ghost use Rattle.dbc_write.specs.Adding.{Adds, piece_text};
 
 use decimal::Decimal;
 use itoa::Buffer;
 use std::alloc::AllocError;
+
+/// Appends the texts, one after the other.
+pub(crate) fn push_all(text: &mut Vec<u8>, parts: &[&[u8]]) -> Result<(), AllocError>
+    ensures { OnOk result (text.new.items ≡ text.old.items ++ flat_map (λ part. part.now) parts.now) }
+{
+    for part in parts {
+        text.extend_from_slice(part)?;
+    }
+    Ok(())
+}
 
 /// A word at the beginning of a line, or directly after a mark.
 pub(crate) fn tight_word(text: &mut Vec<u8>, bytes: &[u8]) -> Result<(), AllocError>
@@ -23,15 +34,6 @@ pub(crate) fn spaced_word(text: &mut Vec<u8>, bytes: &[u8]) -> Result<(), AllocE
 {
     text.push(b' ')?;
     text.extend_from_slice(bytes)?;
-    Ok(())
-}
-
-/// A whole number directly after a mark.
-pub(crate) fn tight_number(text: &mut Vec<u8>, value: u32) -> Result<(), AllocError>
-    ensures { OnOk result (Adds piece_text text.old.items text.new.items
-        (number tight value ∷ [])) }
-{
-    text.extend_from_slice(Buffer::new().format(value).as_bytes())?;
     Ok(())
 }
 

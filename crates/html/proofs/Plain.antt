@@ -1,5 +1,5 @@
 -- A plain text is escaped to itself.
-use Rattle.std.proofs.Common.{◌≡◌, ◌+◌, ◌%◌, ◌≤◌, ◌==◌, ◌++◌, ◌&&◌, ◌||◌, not, ℕ, true, false, cond, List, [], ◌∷◌}
+use Rattle.std.proofs.Common.{◌≡◌, ◌+◌, ◌%◌, ◌≤◌, ◌==◌, ◌++◌, ◌||◌, not, ℕ, true, false, cond, List, [], ◌∷◌}
 use Rattle.std.proofs.Common.{Some}
 use Rattle.std.proofs.Common.{None, refl, sym, ap, ◌∙◌, arith, inl, inr, ◌⊎◌}
 use Rattle.std.specs.Prelude.{nat_le, nat_lt, slice_index}

@@ -3,6 +3,7 @@ ghost use Rattle.std.specs.Prelude.{◌≡◌, ◌++◌, OnOk, decimal};
 ghost use Rattle.html.specs.Elements.{attribute, classed_tag, end_tag, joined, later_texts, link, start_tag};
 ghost use Rattle.html.specs.Elements.{table_start};
 
+use crate::appending::push_all;
 use crate::escaping::push_text;
 use base::{Checked, Items, Rule};
 use itoa::Buffer;
@@ -26,68 +27,53 @@ pub fn push_wide_number(text: &mut Vec<u8>, number: u128) -> Result<(), AllocErr
 pub fn push_tag(text: &mut Vec<u8>, name: &[u8]) -> Result<(), AllocError>
     ensures { OnOk result (text.new.items ≡ text.old.items ++ start_tag name.now) }
 {
-    text.push(b'<')?;
-    text.extend_from_slice(name)?;
-    text.push(b'>')?;
-    Ok(())
+    push_all(text, &[b"<", name, b">"])
 }
 
 /// Appends the tag that begins an element of a class. The error is out of memory.
 pub fn push_classed_tag(text: &mut Vec<u8>, name: &[u8], class: &[u8]) -> Result<(), AllocError>
     ensures { OnOk result (text.new.items ≡ text.old.items ++ classed_tag name.now class.now) }
 {
-    text.push(b'<')?;
-    text.extend_from_slice(name)?;
-    text.extend_from_slice(b" class=")?;
-    text.extend_from_slice(class)?;
-    text.push(b'>')?;
-    Ok(())
+    push_all(text, &[b"<", name, b" class=", class, b">"])
 }
 
 /// Appends the tag that ends an element. The error is out of memory.
 pub fn push_end_tag(text: &mut Vec<u8>, name: &[u8]) -> Result<(), AllocError>
     ensures { OnOk result (text.new.items ≡ text.old.items ++ end_tag name.now) }
 {
-    text.extend_from_slice(b"</")?;
-    text.extend_from_slice(name)?;
-    text.push(b'>')?;
-    Ok(())
+    push_all(text, &[b"</", name, b">"])
 }
 
 /// Appends an attribute with these bytes as its value. The error is out of memory.
 pub fn push_attribute(text: &mut Vec<u8>, name: &[u8], value: &[u8]) -> Result<(), AllocError>
     ensures { OnOk result (text.new.items ≡ text.old.items ++ attribute name.now value.now) }
 {
-    text.push(b' ')?;
-    text.extend_from_slice(name)?;
-    text.extend_from_slice(b"=\"")?;
+    push_all(text, &[b" ", name, b"=\""])?;
     push_text(text, value)?;
-    text.push(b'"')?;
-    Ok(())
+    text.extend_from_slice(b"\"")
 }
 
 /// Appends a link to the element of the page that has this name. The error is out of memory.
 pub fn push_link(text: &mut Vec<u8>, target: &[u8], content: &[u8]) -> Result<(), AllocError>
     ensures { OnOk result (text.new.items ≡ text.old.items ++ link target.now content.now) }
 {
-    text.extend_from_slice(b"<a href=#")?;
-    text.extend_from_slice(target)?;
-    text.push(b'>')?;
-    text.extend_from_slice(content)?;
-    text.extend_from_slice(b"</a>")?;
-    Ok(())
+    push_all(text, &[b"<a href=#", target, b">", content, b"</a>"])
 }
 
 /// Appends a table of a class up to its rows, with these heads. The error is out of memory.
 pub fn push_table_start(text: &mut Vec<u8>, class: &[u8], heads: &[u8]) -> Result<(), AllocError>
     ensures { OnOk result (text.new.items ≡ text.old.items ++ table_start class.now heads.now) }
 {
-    text.extend_from_slice(b"<table class=")?;
-    text.extend_from_slice(class)?;
-    text.extend_from_slice(b"><thead><tr>")?;
-    text.extend_from_slice(heads)?;
-    text.extend_from_slice(b"<tbody>\n")?;
-    Ok(())
+    push_all(
+        text,
+        &[
+            b"<table class=",
+            class,
+            b"><thead><tr>",
+            heads,
+            b"<tbody>\n",
+        ],
+    )
 }
 
 /// Appends the texts, each after the separator.
@@ -96,8 +82,7 @@ fn push_later(text: &mut Vec<u8>, separator: &[u8], texts: &[Items<u8>]) -> Resu
         ≡ text.old.items ++ later_texts separator.now texts.now) }
 {
     for one in texts {
-        text.extend_from_slice(separator)?;
-        text.extend_from_slice(one.as_slice())?;
+        push_all(text, &[separator, one.as_slice()])?;
     }
     Ok(())
 }
@@ -129,8 +114,7 @@ fn push_later_names<R: Rule>(
         ≡ text.old.items ++ later_texts separator.now names.now) }
 {
     for name in names {
-        text.extend_from_slice(separator)?;
-        text.extend_from_slice(name.as_bytes())?;
+        push_all(text, &[separator, name.as_bytes()])?;
     }
     Ok(())
 }

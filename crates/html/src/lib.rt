@@ -7,17 +7,21 @@
 //! - [`push_number`] and [`push_wide_number`], [`push_attribute`], [`push_link`]: decimals, attributes, links within a
 //!   page. [`push_joined`] and [`push_names`]: texts, or names, with a separator between them.
 //! - [`push_tag`], [`push_classed_tag`], [`push_end_tag`], [`push_table_start`]: tags, and the start of a table.
+//! - [`push_all`]: texts that are HTML already, as they are, one after the other. One call for the parts of a text
+//!   costs much less to prove than a chain of calls that may each fail.
 //!
 //! Each appends to a buffer, and fails only if memory runs out. The definitions are in `specs/`: `Characters.antt` has
 //! the characters of bytes, `Text.antt` how they are shown and written, `Reading.antt` how a browser reads them, and
 //! `Elements.antt` elements and tables.
 #![tactic(auto)]
 
+mod appending;
 mod characters;
 mod elements;
 mod escaping;
 mod laws;
 
+pub use appending::push_all;
 pub use elements::{
     push_attribute, push_classed_tag, push_end_tag, push_joined, push_link, push_names,
     push_number, push_table_start, push_tag, push_wide_number,

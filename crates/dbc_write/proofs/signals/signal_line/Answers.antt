@@ -1,10 +1,14 @@
+use Rattle.std.proofs.Common.{◌∷◌, []}
+use Rattle.std.specs.Prelude.{codes}
+use Rattle.dbc_grammar.specs.Canon.{space, word}
 use Rattle.dbc_write.proofs.Adds.{also, line}
 use Rattle.dbc_write.proofs.signals.signal_line.Goals as goal
 
 pub returns : goal.returns
 returns c =
-    let name = also c.in_ok-spaced_word.ensures (rw c.as_bytes.ensures.bytes at c.in_ok-spaced_word-2.ensures) in
-    let layout = also (also name c.in_ok-mux_mark.ensures) (also c.in_ok-spaced_mark.ensures c.in_ok-layout.ensures) in
+    let start = rw c.as_bytes.ensures.bytes at c.in_ok-push_all.ensures in
+    let layout = also (also {xs = word space (codes "SG_") ∷ word space c.args.signal.now.name ∷ []}
+    (record { text = start }) c.in_ok-mux_mark.ensures) (also c.in_ok-spaced_mark.ensures c.in_ok-layout.ensures) in
     let pairs = also (also layout c.in_ok-pair.ensures) c.in_ok-pair-2.ensures in
     let unit = rw c.as_bytes-2.ensures.bytes at c.in_ok-quoted.ensures in
     let ends = rw c.as_slice.ensures at c.in_ok-receivers.ensures in

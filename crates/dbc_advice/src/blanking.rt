@@ -3,6 +3,7 @@ ghost use Rattle.std.specs.Prelude.{◌≡◌, ◌≤◌, IfOk, length, map};
 ghost use Rattle.dbc_advice.specs.Blanked.{blank, blanked, blanked_between};
 
 use crate::lines::{line_end, line_start};
+use columns::concat;
 use std::alloc::{AllocError, Global};
 
 /// A space, or the byte itself where it is CR or LF.
@@ -38,10 +39,7 @@ fn blanked_between(
     let (front, after) = text.split_at(end);
     let (_, lines) = front.split_at(start);
     let spaces = blanks(alloc, lines)?;
-    let mut rest = Vec::from_slice(alloc, before)?;
-    rest.extend_from_slice(&spaces)?;
-    rest.extend_from_slice(after)?;
-    Ok(rest)
+    concat(alloc, &[before, &spaces, after])
 }
 
 /// The text, where each byte of the lines from that of the offset `first` to that of the offset `last`, other than CR

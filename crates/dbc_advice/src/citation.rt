@@ -8,9 +8,9 @@ ghost use Rattle.dbc_advice.specs.Citation.{cited_text, has_signal, is_missing};
 ghost use Rattle.dbc_advice.specs.Names.{AreNamesOf};
 ghost use Rattle.dbc_advice.specs.Tokens.{GivesToken};
 
-use crate::joined::{three, two};
 use crate::names::Names;
 use base::whole_number;
+use columns::concat;
 use dbc_grammar::TokenKind;
 use dbc_lex::{Lexer, Token};
 use dbc_sheet::{Message, Sheet};
@@ -142,12 +142,12 @@ fn cited_text(alloc: Global, citation: Citation) -> Result<Vec<u8>, AllocError>
     ensures { IfOk result (λ text. text.items ≡ cited_text (cited_of citation.entry)) }
 {
     match citation {
-        Citation::Node(name) => two(alloc, b"it is about node ", name),
-        Citation::Message(number) => two(alloc, b"it is about message ", number),
-        Citation::Signal(number, name) => {
-            let message = two(alloc, b" of message ", number)?;
-            three(alloc, b"it is about signal ", name, &message)
-        }
+        Citation::Node(name) => concat(alloc, &[b"it is about node ", name]),
+        Citation::Message(number) => concat(alloc, &[b"it is about message ", number]),
+        Citation::Signal(number, name) => concat(
+            alloc,
+            &[b"it is about signal ", name, b" of message ", number],
+        ),
     }
 }
 
@@ -155,7 +155,6 @@ fn cited_text(alloc: Global, citation: Citation) -> Result<Vec<u8>, AllocError>
 pub(crate) fn citation_text(alloc: Global, citation: Citation) -> Result<Vec<u8>, AllocError>
     ensures { IfOk result (λ text. text.items ≡ citation_text (cited_of citation.entry)) }
 {
-    let mut text = cited_text(alloc, citation)?;
-    text.extend_from_slice(b", which isn't in the file")?;
-    Ok(text)
+    let text = cited_text(alloc, citation)?;
+    concat(alloc, &[&text, b", which isn't in the file"])
 }

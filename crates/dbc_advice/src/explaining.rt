@@ -11,6 +11,7 @@ use crate::leaving::left_out;
 use crate::notes::Source;
 use crate::position::position_of;
 use crate::sentences::{code_label, reported_line, sentence};
+use columns::concat;
 use dbc_read::Reading;
 use std::alloc::{AllocError, Global};
 
@@ -87,9 +88,7 @@ fn count_line(
     let rest = ending_text(ending);
     let faults = fault_word(count);
     let words = format!(in alloc; ": {count} {faults} shown; {rest}\n")?;
-    let mut line = Vec::from_slice(alloc, file)?;
-    line.extend_from_slice(words.as_bytes())?;
-    Ok(line)
+    concat(alloc, &[file, words.as_bytes()])
 }
 
 /// What is stated of a file that reads: each reason why a message isn't clear, and what the sheet leaves out.

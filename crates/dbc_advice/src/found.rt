@@ -4,6 +4,7 @@ ghost use Rattle.dbc_grammar.specs.Lexing.{lexed};
 ghost use Rattle.dbc_advice.specs.Sentence.{found_text, quoted, shown, visible};
 ghost use Rattle.dbc_advice.specs.Tokens.{IsFound};
 
+use columns::concat;
 use dbc_lex::{Lexer, ReadCode};
 use std::alloc::{AllocError, Global};
 
@@ -47,9 +48,8 @@ fn shown(alloc: Global, bytes: &[u8]) -> Result<Vec<u8>, AllocError>
 {
     if bytes.len() > SHOWN {
         let (first, _) = bytes.split_at(SHOWN);
-        let mut text = all_shown(alloc, first)?;
-        text.extend_from_slice(b"..")?;
-        Ok(text)
+        let text = all_shown(alloc, first)?;
+        concat(alloc, &[&text, b".."])
     } else {
         all_shown(alloc, bytes)
     }
@@ -60,10 +60,8 @@ fn shown(alloc: Global, bytes: &[u8]) -> Result<Vec<u8>, AllocError>
 pub fn quoted(alloc: Global, bytes: &[u8]) -> Result<Vec<u8>, AllocError>
     ensures { IfOk result (λ text. text.items ≡ quoted bytes.now) }
 {
-    let mut text = Vec::from_slice(alloc, b"'")?;
-    text.extend_from_slice(&shown(alloc, bytes)?)?;
-    text.extend_from_slice(b"'")?;
-    Ok(text)
+    let text = shown(alloc, bytes)?;
+    concat(alloc, &[b"'", &text, b"'"])
 }
 
 /// How a sentence says it.

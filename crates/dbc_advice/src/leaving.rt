@@ -13,6 +13,7 @@ use crate::names::{Names, names_of};
 use crate::notes::Source;
 use crate::position::position_of;
 use crate::sentences::{more_line, reported_line};
+use columns::concat;
 use dbc_read::{Passed, Reading};
 use dbc_sheet::Sheet;
 use dbc_words::Keyword;
@@ -218,10 +219,7 @@ pub fn left_out(alloc: Global, source: Source, reading: &Reading) -> Result<Vec<
     let parted = parted(alloc, source, reading)?;
     let more = more_missing(alloc, source.name, parted.missing)?;
     let kinds = kind_lines(alloc, source, &parted.others)?;
-    let mut lines = Vec::from_slice(alloc, &parted.lines)?;
-    lines.extend_from_slice(&more)?;
-    lines.extend_from_slice(&kinds)?;
-    Ok(lines)
+    concat(alloc, &[&parted.lines, &more, &kinds])
 }
 
 impl Drop for Parts {

@@ -12,7 +12,6 @@ mod findings;
 mod first;
 mod found;
 mod hint;
-mod joined;
 mod key_set;
 mod leaving;
 mod lines;

@@ -9,6 +9,7 @@ ghost use Rattle.dbc_advice.specs.Pieces.{alone, heading};
 ghost use Rattle.dbc_advice.specs.Tokens.{line_keyword};
 ghost use Rattle.dbc_lex.specs.Token.{token_of};
 
+use columns::concat;
 use dbc_grammar::TokenKind;
 use dbc_lex::{Lexer, ReadCode, Token};
 use dbc_read::read;
@@ -65,12 +66,11 @@ fn begins_signal(text: &[u8]) -> bool
 pub(crate) fn alone(alloc: Global, piece: &[u8]) -> Result<Vec<u8>, AllocError>
     ensures { IfOk result (λ text. text.items ≡ alone piece.now) }
 {
-    let mut text = Vec::new(alloc);
     if begins_signal(piece) {
-        text.extend_from_slice(HEADING)?;
+        concat(alloc, &[HEADING, piece])
+    } else {
+        Vec::from_slice(alloc, piece)
     }
-    text.extend_from_slice(piece)?;
-    Ok(text)
 }
 
 /// The keyword that the token is.

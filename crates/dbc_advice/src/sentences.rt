@@ -8,6 +8,7 @@ use crate::candidate::Candidate;
 use crate::found::{Found, found_text};
 use crate::hint::{Hint, hint_text};
 use crate::position::Position;
+use columns::concat;
 use dbc_lex::ReadCode;
 use dbc_words::Keyword;
 use std::alloc::{AllocError, Global};
@@ -19,17 +20,13 @@ fn listed(alloc: Global, wanted: &[Candidate]) -> Result<Vec<u8>, AllocError>
     match wanted {
         [] => Ok(Vec::new(alloc)),
         [a] => Vec::from_slice(alloc, a.phrase().as_bytes()),
-        [a, b] => {
-            let mut text = Vec::from_slice(alloc, a.phrase().as_bytes())?;
-            text.extend_from_slice(b" or ")?;
-            text.extend_from_slice(b.phrase().as_bytes())?;
-            Ok(text)
-        }
+        [a, b] => concat(
+            alloc,
+            &[a.phrase().as_bytes(), b" or ", b.phrase().as_bytes()],
+        ),
         [a, rest @ ..] => {
-            let mut text = Vec::from_slice(alloc, a.phrase().as_bytes())?;
-            text.extend_from_slice(b", ")?;
-            text.extend_from_slice(&listed(alloc, rest)?)?;
-            Ok(text)
+            let others = listed(alloc, rest)?;
+            concat(alloc, &[a.phrase().as_bytes(), b", ", &others])
         }
     }
 }
@@ -129,12 +126,11 @@ pub(crate) fn sentence(
     ensures { IfOk result (λ text. text.items ≡ sentence_of code found.entry wanted.now statement
         hint) }
 {
-    let mut text = Vec::from_slice(alloc, b"found ")?;
-    text.extend_from_slice(&found_text(alloc, found)?)?;
-    text.extend_from_slice(&meaning_of(alloc, wanted, code)?)?;
-    text.extend_from_slice(&statement_text(alloc, statement)?)?;
-    text.extend_from_slice(&hinted(alloc, hint)?)?;
-    Ok(text)
+    let found = found_text(alloc, found)?;
+    let meaning = meaning_of(alloc, wanted, code)?;
+    let place = statement_text(alloc, statement)?;
+    let advice = hinted(alloc, hint)?;
+    concat(alloc, &[b"found ", &found, &meaning, &place, &advice])
 }
 
 /// The label of a code: its number and its name.
@@ -157,14 +153,12 @@ pub fn reported_line(
         sentence.now) }
 {
     let Position { line, column } = position;
-    let position_text = format!(in alloc; ":{line}:{column}: ")?;
-    let mut text = Vec::from_slice(alloc, file)?;
-    text.extend_from_slice(position_text.as_bytes())?;
-    text.extend_from_slice(label)?;
-    text.extend_from_slice(b": ")?;
-    text.extend_from_slice(sentence)?;
-    text.extend_from_slice(b"\n")?;
-    Ok(text)
+    let file = Vec::from_slice(alloc, file)?;
+    let place = format!(in alloc; ":{line}:{column}: ")?;
+    concat(
+        alloc,
+        &[&file, place.as_bytes(), label, b": ", sentence, b"\n"],
+    )
 }
 
 /// The line `FILE: LIMIT WHAT shown; there are more`, with its LF.
@@ -177,7 +171,5 @@ pub(crate) fn more_line(
     ensures { IfOk result (λ line. line.items ≡ more_line file.now limit what.now) }
 {
     let words = format!(in alloc; ": {limit} {what} shown; there are more\n")?;
-    let mut line = Vec::from_slice(alloc, file)?;
-    line.extend_from_slice(words.as_bytes())?;
-    Ok(line)
+    concat(alloc, &[file, words.as_bytes()])
 }

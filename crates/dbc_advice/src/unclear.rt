@@ -1,11 +1,10 @@
 //! What is stated of messages that aren't clear.
 ghost use Rattle.std.specs.Prelude.{◌≡◌, ◌++◌, IfOk, codes, string_bytes};
-ghost use Rattle.dbc_advice.specs.Unclear.{bit_text, clash_text, message_text, name_at, outside_text, pair_text};
-ghost use Rattle.dbc_advice.specs.Unclear.{reason_text, share_text};
+ghost use Rattle.dbc_advice.specs.Unclear.{bit_text, clash_text, message_text, name_at, outside_text, reason_text};
 
-use crate::joined::{three, two};
 use crate::reasons::Reason;
 use bitlayout::Clash;
+use columns::concat;
 use dbc_sheet::{Message, Signal};
 use std::alloc::{AllocError, Global};
 
@@ -25,10 +24,8 @@ fn message_text(alloc: Global, message: &Message) -> Result<Vec<u8>, AllocError>
 {
     let number = message.ident.number();
     let identifier = format!(in alloc; " (0x{number:X})")?;
-    let mut text = Vec::from_slice(alloc, b"message ")?;
-    text.extend_from_slice(message.name.as_bytes())?;
-    text.extend_from_slice(identifier.as_bytes())?;
-    Ok(text)
+    let name = message.name.as_bytes();
+    concat(alloc, &[b"message ", name, identifier.as_bytes()])
 }
 
 /// `bit N`, or bits past the payload.
@@ -47,9 +44,8 @@ fn outside_text(alloc: Global, message: &Message) -> Result<Vec<u8>, AllocError>
 {
     let bytes = message.length.bytes();
     let words = format!(in alloc; " is outside the {bytes} bytes of ")?;
-    let mut text = Vec::from_slice(alloc, words.as_bytes())?;
-    text.extend_from_slice(&message_text(alloc, message)?)?;
-    Ok(text)
+    let whole = message_text(alloc, message)?;
+    concat(alloc, &[words.as_bytes(), &whole])
 }
 
 /// What is stated of a signal that leaves the payload.
@@ -64,8 +60,7 @@ fn leaving_text(
     let bit = bit_text(alloc, bit)?;
     let outside = outside_text(alloc, message)?;
     let name = name_at(message.signals.as_slice(), index);
-    let rest = three(alloc, b" of signal ", name, &outside)?;
-    two(alloc, bit.as_bytes(), &rest)
+    concat(alloc, &[bit.as_bytes(), b" of signal ", name, &outside])
 }
 
 /// `signal`, the name of the signal at the index, these words, and the message.
@@ -80,36 +75,9 @@ fn signal_text(
         ≡ codes "signal " ++ (name_at message.now.signals index
         ++ (words.now ++ message_text message.now))) }
 {
-    let mut text = Vec::from_slice(alloc, b"signal ")?;
-    text.extend_from_slice(name_at(message.signals.as_slice(), index))?;
-    text.extend_from_slice(words)?;
-    text.extend_from_slice(&message_text(alloc, message)?)?;
-    Ok(text)
-}
-
-/// The names of two signals.
-fn pair_text(
-    alloc: Global,
-    signals: &[Signal],
-    earlier: usize,
-    later: usize,
-) -> Result<Vec<u8>, AllocError>
-    ensures { IfOk result (λ text. text.items ≡ pair_text signals.now earlier later) }
-{
-    let mut text = Vec::from_slice(alloc, name_at(signals, earlier))?;
-    text.extend_from_slice(b" and ")?;
-    text.extend_from_slice(name_at(signals, later))?;
-    Ok(text)
-}
-
-/// That a bit is shared in a message.
-fn share_text(alloc: Global, bit: Option<u32>) -> Result<Vec<u8>, AllocError>
-    ensures { IfOk result (λ text. text.items ≡ share_text bit) }
-{
-    let mut text = Vec::from_slice(alloc, b" share ")?;
-    text.extend_from_slice(bit_text(alloc, bit)?.as_bytes())?;
-    text.extend_from_slice(b" in ")?;
-    Ok(text)
+    let whole = message_text(alloc, message)?;
+    let name = name_at(message.signals.as_slice(), index);
+    concat(alloc, &[b"signal ", name, words, &whole])
 }
 
 /// What is stated of two signals that share a bit.
@@ -123,12 +91,24 @@ fn overlap_text(
     ensures { IfOk result (λ text. text.items ≡ clash_text message.now bit
         (Clash.Overlap earlier later)) }
 {
-    let pair = pair_text(alloc, message.signals.as_slice(), earlier, later)?;
-    let mut text = Vec::from_slice(alloc, b"signals ")?;
-    text.extend_from_slice(&pair)?;
-    text.extend_from_slice(&share_text(alloc, bit)?)?;
-    text.extend_from_slice(&message_text(alloc, message)?)?;
-    Ok(text)
+    let bit = bit_text(alloc, bit)?;
+    let whole = message_text(alloc, message)?;
+    let signals = message.signals.as_slice();
+    let one = name_at(signals, earlier);
+    let other = name_at(signals, later);
+    concat(
+        alloc,
+        &[
+            b"signals ",
+            one,
+            b" and ",
+            other,
+            b" share ",
+            bit.as_bytes(),
+            b" in ",
+            &whole,
+        ],
+    )
 }
 
 /// What is stated of a reason why the message isn't clear: both signals' names and the first shared bit, or the first

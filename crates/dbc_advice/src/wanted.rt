@@ -6,16 +6,15 @@ ghost use Rattle.dbc_advice.specs.MayBeThere.{MayBeThere, continued};
 
 use crate::candidate::{CANDIDATES, Candidate};
 use crate::pieces::goes_on;
+use columns::concat;
 use std::alloc::{AllocError, Global};
 
 /// The text with a space and a token of the kind after it.
 fn continued(alloc: Global, before: &[u8], candidate: Candidate) -> Result<Vec<u8>, AllocError>
     ensures { IfOk result (λ text. text.items ≡ continued before.now candidate) }
 {
-    let mut text = Vec::from_slice(alloc, before)?;
-    text.extend_from_slice(b" ")?;
-    text.extend_from_slice(candidate.sample().as_bytes())?;
-    Ok(text)
+    let sample = format!(in alloc; " {}", candidate.sample())?;
+    concat(alloc, &[before, sample.as_bytes()])
 }
 
 /// Whether a token of the kind may come after the text.

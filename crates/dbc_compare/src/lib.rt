@@ -2,7 +2,7 @@
 //!
 //! [`differences`] lists the differences of two sheets: a [`Change`] in a [`Place`], and there of a node, a value table
 //! or a signal by its name. [`compare`] gives their text, a line for each ([`line_of`]) and a last line that counts
-//! them, and says whether the sheets are equal. A message is compared with its partner (`dbc_pairs`).
+//! them, and says whether the sheets are equal. A message is compared with its partner (`dbc_sheet`).
 //!
 //! There is no difference if and only if the sheets are equal ([`differences_tell_apart`]), and each difference has its
 //! opposite the other way round ([`differences_are_swapped`]).

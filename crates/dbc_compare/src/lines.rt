@@ -1,7 +1,7 @@
 //! The text of differences.
 ghost use Rattle.std.specs.Prelude.{◌≡◌, ◌↔◌, IfOk, IsTrue, count_by};
 ghost use Rattle.std.specs.List.{flat_map};
-ghost use Rattle.dbc_compare.specs.Lines.{breaks, change_text, compare_text, counts_text, ident_text, is_breaking};
+ghost use Rattle.dbc_compare.specs.Lines.{breaks, change_text, compare_text, ident_text, is_breaking};
 ghost use Rattle.dbc_compare.specs.Lines.{kind_word, last_line, line_of, mark, message_name, name_text};
 ghost use Rattle.dbc_compare.specs.Lines.{text_of_differences};
 
@@ -9,8 +9,7 @@ use crate::difference::{Change, Difference};
 use crate::laws::differences_tell_apart;
 use crate::place::Place;
 use crate::sheets::differences;
-use crate::values::digits;
-use columns::{ident_columns, no_ident_columns, set_left};
+use columns::{concat, ident_columns, no_ident_columns, set_left};
 use dbc_sheet::{Counts, Sheet, counts_of};
 use dbc_words::Name;
 use std::alloc::{AllocError, Global};
@@ -44,14 +43,9 @@ fn ident_text(alloc: Global, place: &Place) -> Result<Vec<u8>, AllocError>
 fn message_name(alloc: Global, message: &Name, name: &Option<Name>) -> Result<Vec<u8>, AllocError>
     ensures { IfOk result (λ text. text.items ≡ message_name message.now name.now) }
 {
-    let mut text = Vec::from_slice(alloc, message.as_bytes())?;
     match name {
-        None => Ok(text),
-        Some(name) => {
-            text.push(b'.')?;
-            text.extend_from_slice(name.as_bytes())?;
-            Ok(text)
-        }
+        None => Vec::from_slice(alloc, message.as_bytes()),
+        Some(name) => concat(alloc, &[message.as_bytes(), b".", name.as_bytes()]),
     }
 }
 
@@ -77,12 +71,11 @@ fn change_text(alloc: Global, change: &Change) -> Result<Vec<u8>, AllocError>
         Change::Removed => Vec::from_slice(alloc, b"removed"),
         Change::Reordered => Vec::from_slice(alloc, b"reordered"),
         Change::Changed { field, old, new } => {
-            let mut text = Vec::from_slice(alloc, field.word())?;
-            text.push(b' ')?;
-            text.extend_from_slice(old.as_slice())?;
-            text.extend_from_slice(b" -> ")?;
-            text.extend_from_slice(new.as_slice())?;
-            Ok(text)
+            let word = Vec::from_slice(alloc, field.word())?;
+            concat(
+                alloc,
+                &[&word, b" ", old.as_slice(), b" -> ", new.as_slice()],
+            )
         }
     }
 }
@@ -121,16 +114,20 @@ pub fn line_of(alloc: Global, difference: &Difference) -> Result<Vec<u8>, AllocE
     let ident = ident_text(alloc, &difference.place)?;
     let name = name_text(alloc, &difference.place, &difference.name)?;
     let change = change_text(alloc, &difference.change)?;
-    let mut line = Vec::from_slice(alloc, mark(difference))?;
-    line.extend_from_slice(&kind)?;
-    line.push(b' ')?;
-    line.extend_from_slice(&ident)?;
-    line.push(b' ')?;
-    line.extend_from_slice(&name)?;
-    line.push(b' ')?;
-    line.extend_from_slice(&change)?;
-    line.push(b'\n')?;
-    Ok(line)
+    concat(
+        alloc,
+        &[
+            mark(difference),
+            &kind,
+            b" ",
+            &ident,
+            b" ",
+            &name,
+            b" ",
+            &change,
+            b"\n",
+        ],
+    )
 }
 
 /// The lines of the differences. The error is out of memory.
@@ -158,29 +155,20 @@ pub fn breaking_count(found: &[Difference]) -> usize
     count
 }
 
-/// How many messages differ, up to the end of the last line. The error is out of memory.
-fn counts_text(alloc: Global, counts: Counts) -> Result<Vec<u8>, AllocError>
-    ensures { IfOk result (λ text. text.items ≡ counts_text counts) }
+/// The last line. The error is out of memory.
+fn last_line(alloc: Global, found: &[Difference], counts: Counts) -> Result<Vec<u8>, AllocError>
+    ensures { IfOk result (λ line. line.items ≡ last_line found.now counts) }
 {
+    let (length, breaking) = (found.len(), breaking_count(found));
     let Counts {
         added,
         removed,
         changed,
     } = counts;
-    let text = format!(in alloc; " added {added} removed {removed} changed {changed}\n")?;
-    Ok(text.into_bytes())
-}
-
-/// The last line. The error is out of memory.
-fn last_line(alloc: Global, found: &[Difference], counts: Counts) -> Result<Vec<u8>, AllocError>
-    ensures { IfOk result (λ line. line.items ≡ last_line found.now counts) }
-{
-    let length = found.len();
-    let breaking = breaking_count(found);
-    let counts = counts_text(alloc, counts)?;
-    let mut line = format!(in alloc; "differences {length} breaking {breaking}")?.into_bytes();
-    line.extend_from_slice(&counts)?;
-    Ok(line)
+    let line = format!(in alloc;
+        "differences {length} breaking {breaking} added {added} removed {removed} changed {changed}\n"
+    )?;
+    Ok(line.into_bytes())
 }
 
 /// The text of the differences: a line for each, and a last one that counts them and the messages that differ. The

@@ -5,7 +5,7 @@ ghost use Rattle.dbc_compare.specs.Fields.{order_word, truth_word, type_word};
 ghost use Rattle.dbc_compare.specs.Value.{entries_text, entry_text, later_entries, spn_text};
 
 use bitlayout::Order;
-use columns::word;
+use columns::{concat, word};
 use dbc_sheet::ValueText;
 use dbc_words::{Spn, ValueType};
 use decimal::Decimal;
@@ -71,11 +71,9 @@ pub(crate) fn type_word(value_type: ValueType) -> &'static [u8]
 fn entry_text(alloc: Global, entry: &ValueText) -> Result<Vec<u8>, AllocError>
     ensures { IfOk result (λ text. text.items ≡ entry_text entry.now) }
 {
+    let value = decimal_text(alloc, &entry.value)?;
     let shown = word(alloc, entry.text.as_bytes())?;
-    let mut text = decimal_text(alloc, &entry.value)?;
-    text.push(b':')?;
-    text.extend_from_slice(&shown)?;
-    Ok(text)
+    concat(alloc, &[&value, b":", &shown])
 }
 
 /// The values and their texts, each after a comma.

@@ -4,6 +4,7 @@ ghost use Rattle.dbc_lint.specs.Remark.{remark, when, with_word};
 
 use crate::kind::Kind;
 use base::Items;
+use columns::concat;
 use std::alloc::{AllocError, Global};
 
 /// A remark.
@@ -20,10 +21,8 @@ pub(crate) struct Remark {
 pub(crate) fn with_word(alloc: Global, words: &[u8], word: &[u8]) -> Result<Vec<u8>, AllocError>
     ensures { IfOk result (λ text. text.items ≡ with_word words.now word.now) }
 {
-    let mut text = Vec::from_slice(alloc, words)?;
-    text.extend_from_slice(b" ")?;
-    text.extend_from_slice(word)?;
-    Ok(text)
+    let last = concat(alloc, &[b" ", word])?;
+    concat(alloc, &[words, &last])
 }
 
 /// Adds a remark of these words if the test holds.

@@ -3,6 +3,7 @@ ghost use Rattle.std.specs.Prelude.{◌≡◌, IfOk, map};
 ghost use Rattle.office_fields.specs.Kind.{word_of};
 ghost use Rattle.office_advice.specs.Sentence.{field_names, listed};
 
+use columns::concat;
 use office_fields::{CommandKind, Field};
 use std::alloc::{AllocError, Global};
 
@@ -14,10 +15,8 @@ pub(crate) fn field_names(alloc: Global, fields: &[Field]) -> Result<Vec<u8>, Al
         [] => Ok(Vec::new(alloc)),
         [only] => Vec::from_slice(alloc, only.name().as_bytes()),
         [first, rest @ ..] => {
-            let mut text = Vec::from_slice(alloc, first.name().as_bytes())?;
-            text.extend_from_slice(b", ")?;
-            text.extend_from_slice(&field_names(alloc, rest)?)?;
-            Ok(text)
+            let rest = field_names(alloc, rest)?;
+            concat(alloc, &[first.name().as_bytes(), b", ", &rest])
         }
     }
 }
@@ -37,10 +36,8 @@ pub(crate) fn command_words(alloc: Global, kinds: &[CommandKind]) -> Result<Vec<
         [] => Ok(Vec::new(alloc)),
         [only] => Vec::from_slice(alloc, command_word(*only).as_bytes()),
         [first, rest @ ..] => {
-            let mut text = Vec::from_slice(alloc, command_word(*first).as_bytes())?;
-            text.extend_from_slice(b", ")?;
-            text.extend_from_slice(&command_words(alloc, rest)?)?;
-            Ok(text)
+            let rest = command_words(alloc, rest)?;
+            concat(alloc, &[command_word(*first).as_bytes(), b", ", &rest])
         }
     }
 }

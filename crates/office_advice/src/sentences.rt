@@ -1,5 +1,5 @@
 //! What is stated of a wrong line: one sentence.
-ghost use Rattle.std.specs.Prelude.{◌≡◌, ◌++◌, IfOk, OnOk};
+ghost use Rattle.std.specs.Prelude.{◌≡◌, IfOk, string_bytes};
 ghost use Rattle.office_advice.specs.declared.cause.Cause.TheVariants as why;
 ghost use Rattle.office_advice.specs.Sentence.{apart_text, block_range, block_text, field_name, has_carriage_return};
 ghost use Rattle.office_advice.specs.Sentence.{hint_of, is_text, key_meaning, meaning_of, sentence_of};
@@ -7,6 +7,7 @@ ghost use Rattle.office_advice.specs.Sentence.{hint_of, is_text, key_meaning, me
 use crate::cause::{Cause, LineCommand};
 use crate::lists::{command_words, field_names};
 use crate::phrases::phrase_of;
+use columns::concat;
 use dbc_advice::quoted;
 use office_fields::{CommandKind, Field};
 use office_script::Dash;
@@ -29,40 +30,37 @@ fn key_meaning(dash: Dash) -> &'static str
 fn is_text(alloc: Global, field: Field) -> Result<Vec<u8>, AllocError>
     ensures { IfOk result (λ text. text.items ≡ is_text field) }
 {
-    let mut text = Vec::from_slice(alloc, field.name().as_bytes())?;
-    text.extend_from_slice(b" is ")?;
-    text.extend_from_slice(&phrase_of(alloc, field.kind())?)?;
-    Ok(text)
+    let phrase = phrase_of(alloc, field.kind())?;
+    concat(alloc, &[field.name().as_bytes(), b" is ", &phrase])
 }
 
-/// Adds the range of the numbers of a block.
-fn add_block_range(
-    text: &mut Vec<u8>,
-    alloc: Global,
-    name: &str,
-    form: BlockForm,
-) -> Result<(), AllocError>
-    ensures { OnOk result (text.new.items ≡ text.old.items ++ block_range name.now form) }
+/// The range of the numbers of a block.
+fn block_range(alloc: Global, name: &str, form: BlockForm) -> Result<String, AllocError>
+    ensures { IfOk result (λ text. string_bytes text ≡ block_range name.now form) }
 {
     let least = form.least();
     let greatest = form.greatest();
-    let range = format!(in alloc; "{name} {least} to {greatest}")?;
-    text.extend_from_slice(range.as_bytes())
+    format!(in alloc; "{name} {least} to {greatest}")
 }
 
 /// That the numbers of a block do not go together, after what was found.
 fn block_text(alloc: Global) -> Result<Vec<u8>, AllocError>
     ensures { IfOk result (λ text. text.items ≡ block_text) }
 {
-    let mut text = Vec::from_slice(
+    let std = block_range(alloc, "std", BlockForm::Std)?;
+    let ext = block_range(alloc, ", ext", BlockForm::Ext)?;
+    let pgn = block_range(alloc, ", pgn", BlockForm::Pgn)?;
+    let spn = block_range(alloc, ", spn", BlockForm::Spn)?;
+    concat(
         alloc,
-        b", but a block's last number is not below its first, and both are in the range of its form: ",
-    )?;
-    add_block_range(&mut text, alloc, "std", BlockForm::Std)?;
-    add_block_range(&mut text, alloc, ", ext", BlockForm::Ext)?;
-    add_block_range(&mut text, alloc, ", pgn", BlockForm::Pgn)?;
-    add_block_range(&mut text, alloc, ", spn", BlockForm::Spn)?;
-    Ok(text)
+        &[
+            b", but a block's last number is not below its first, and both are in the range of its form: ",
+            std.as_bytes(),
+            ext.as_bytes(),
+            pgn.as_bytes(),
+            spn.as_bytes(),
+        ],
+    )
 }
 
 /// That a value does not go with others, after what was found.
@@ -82,50 +80,48 @@ fn apart_text(alloc: Global, field: Field) -> Result<Vec<u8>, AllocError>
 fn commands_text(alloc: Global) -> Result<Vec<u8>, AllocError>
     ensures { IfOk result (λ text. text.items ≡ meaning_of why.Command) }
 {
-    let mut text = Vec::from_slice(alloc, b", but the commands are ")?;
-    text.extend_from_slice(&command_words(alloc, CommandKind::all())?)?;
-    Ok(text)
+    let words = command_words(alloc, CommandKind::all())?;
+    concat(alloc, &[b", but the commands are ", &words])
 }
 
 /// The fields of the command, after what was found.
 fn fields_text(alloc: Global, command: LineCommand) -> Result<Vec<u8>, AllocError>
     ensures { IfOk result (λ text. text.items ≡ meaning_of (why.Unknown command)) }
 {
-    let mut text = Vec::from_slice(alloc, b", but the fields of ")?;
-    text.extend_from_slice(command.word().as_bytes())?;
-    text.extend_from_slice(b" are ")?;
-    text.extend_from_slice(&field_names(alloc, command.fields())?)?;
-    Ok(text)
+    let names = field_names(alloc, command.fields())?;
+    let word = command.word().as_bytes();
+    concat(alloc, &[b", but the fields of ", word, b" are ", &names])
 }
 
 /// That the field is given before, after what was found.
 fn doubled_text(alloc: Global, field: Field) -> Result<Vec<u8>, AllocError>
     ensures { IfOk result (λ text. text.items ≡ meaning_of (why.Doubled field)) }
 {
-    let mut text = Vec::from_slice(alloc, b", but ")?;
-    text.extend_from_slice(field.name().as_bytes())?;
-    text.extend_from_slice(b" is given before, and may be given once only")?;
-    Ok(text)
+    concat(
+        alloc,
+        &[
+            b", but ",
+            field.name().as_bytes(),
+            b" is given before, and may be given once only",
+        ],
+    )
 }
 
 /// What the field's values are, after what was found.
 fn value_text(alloc: Global, field: Field) -> Result<Vec<u8>, AllocError>
     ensures { IfOk result (λ text. text.items ≡ meaning_of (why.WrongValue field)) }
 {
-    let mut text = Vec::from_slice(alloc, b", but ")?;
-    text.extend_from_slice(&is_text(alloc, field)?)?;
-    Ok(text)
+    let text = is_text(alloc, field)?;
+    concat(alloc, &[b", but ", &text])
 }
 
 /// That the field is missing, after what was found.
 fn missing_text(alloc: Global, field: Field) -> Result<Vec<u8>, AllocError>
     ensures { IfOk result (λ text. text.items ≡ meaning_of (why.Missing field)) }
 {
-    let mut text = Vec::from_slice(alloc, b", but ")?;
-    text.extend_from_slice(field.name().as_bytes())?;
-    text.extend_from_slice(b" is missing: ")?;
-    text.extend_from_slice(&is_text(alloc, field)?)?;
-    Ok(text)
+    let text = is_text(alloc, field)?;
+    let name = field.name().as_bytes();
+    concat(alloc, &[b", but ", name, b" is missing: ", &text])
 }
 
 /// What the cause means, after what was found: it begins with `, but `.
@@ -187,9 +183,8 @@ fn hint_of(word: &[u8]) -> &'static str
 pub(crate) fn sentence_of(alloc: Global, cause: Cause, word: &[u8]) -> Result<Vec<u8>, AllocError>
     ensures { IfOk result (λ text. text.items ≡ sentence_of cause word.now) }
 {
-    let mut text = Vec::from_slice(alloc, b"found ")?;
-    text.extend_from_slice(&quoted(alloc, word)?)?;
-    text.extend_from_slice(&meaning_of(alloc, cause)?)?;
-    text.extend_from_slice(hint_of(word).as_bytes())?;
-    Ok(text)
+    let quoted = quoted(alloc, word)?;
+    let meaning = meaning_of(alloc, cause)?;
+    let hint = hint_of(word).as_bytes();
+    concat(alloc, &[b"found ", &quoted, &meaning, hint])
 }

@@ -12,8 +12,8 @@ ghost use Rattle.office_blocks.specs.Numbers.{AreNumbersOf};
 
 use crate::free::{held_count, left_of, live_count};
 use crate::numbers::{Ascending, FormNumbers, Numbers};
-use columns::{Run, number_right, runs_text, set_left, word};
-use office_seen::{View, counted, total};
+use columns::{Run, concat, number_right, runs_text};
+use office_seen::{View, counted, team_column, total};
 use office_types::{BlockForm, FormBlock, GrantedBlock, Team};
 use std::alloc::{AllocError, Global};
 
@@ -51,12 +51,7 @@ fn range_columns(alloc: Global, block: FormBlock) -> Result<Vec<u8>, AllocError>
     let range = block.numbers();
     let first = number_right(alloc, 9, range.first as usize)?;
     let last = number_right(alloc, 9, range.last as usize)?;
-    let mut text = Vec::from_slice(alloc, form_word(block.form()))?;
-    text.push(b' ')?;
-    text.extend_from_slice(&first)?;
-    text.push(b' ')?;
-    text.extend_from_slice(&last)?;
-    Ok(text)
+    concat(alloc, &[form_word(block.form()), b" ", &first, b" ", &last])
 }
 
 /// How many numbers of the block are free, and which.
@@ -65,10 +60,8 @@ fn free_columns(alloc: Global, taken: &Ascending, block: FormBlock) -> Result<Ve
 {
     let left = left_of(alloc, taken, block)?;
     let runs = free_text(alloc, &left.runs)?;
-    let mut text = counted(alloc, b"free", 5, left.count)?;
-    text.push(b' ')?;
-    text.extend_from_slice(&runs)?;
-    Ok(text)
+    let count = counted(alloc, b"free", 5, left.count)?;
+    concat(alloc, &[&count, b" ", &runs])
 }
 
 /// How many numbers of the block are live, held and free.
@@ -80,14 +73,10 @@ fn left_columns(
     ensures { IfOk result (λ text. text.items
         ≡ left_columns numbers.now.live numbers.now.taken block) }
 {
+    let live = counted(alloc, b"live", 4, live_count(numbers, block))?;
     let held = counted(alloc, b"held", 3, held_count(numbers, block))?;
     let free = free_columns(alloc, &numbers.taken, block)?;
-    let mut text = counted(alloc, b"live", 4, live_count(numbers, block))?;
-    text.push(b' ')?;
-    text.extend_from_slice(&held)?;
-    text.push(b' ')?;
-    text.extend_from_slice(&free)?;
-    Ok(text)
+    concat(alloc, &[&live, b" ", &held, b" ", &free])
 }
 
 /// The line of the block, where these are the numbers of its form.
@@ -99,16 +88,10 @@ fn line_with(
     ensures { IfOk result (λ text. text.items
         ≡ line_with numbers.now.live numbers.now.taken granted.now) }
 {
-    let name = word(alloc, granted.team.as_bytes())?;
-    let team = set_left(alloc, 12, &name)?;
+    let range = range_columns(alloc, granted.block)?;
+    let team = team_column(alloc, granted.team.as_bytes())?;
     let left = left_columns(alloc, numbers, granted.block)?;
-    let mut line = range_columns(alloc, granted.block)?;
-    line.push(b' ')?;
-    line.extend_from_slice(&team)?;
-    line.push(b' ')?;
-    line.extend_from_slice(&left)?;
-    line.push(b'\n')?;
-    Ok(line)
+    concat(alloc, &[&range, b" ", &team, b" ", &left, b"\n"])
 }
 
 /// The line of a granted block of the view that has these numbers. The error is out of memory.
@@ -212,11 +195,7 @@ fn form_total(
 {
     let count = free_of_form(alloc, view, numbers, team, form)?;
     let digits = format!(in alloc; "{count}")?;
-    let mut text = Vec::from_slice(alloc, b" ")?;
-    text.extend_from_slice(form_word(form))?;
-    text.push(b' ')?;
-    text.extend_from_slice(digits.as_bytes())?;
-    Ok(text)
+    concat(alloc, &[b" ", form_word(form), b" ", digits.as_bytes()])
 }
 
 /// The forms, in the order of the last line.

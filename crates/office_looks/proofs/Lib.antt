@@ -1,5 +1,4 @@
 pub mod Unread
-pub mod Adding
 pub mod Owning
 pub mod LastNames
 pub mod LastOf

@@ -7,9 +7,9 @@ ghost use Rattle.columns.specs.Word.{word};
 ghost use Rattle.office_looks.specs.Held.{held_line, held_text, last_name, team_at, team_of};
 
 use can_id::{Ident, J1939};
-use columns::{ident_columns, word};
+use columns::{concat, ident_columns, word};
 use dbc_words::Name;
-use office_seen::{FrozenSheets, View, has_number_in, releases_column, team_column, total};
+use office_seen::{FrozenSheets, View, has_number_in, releases_column, team_column};
 use office_types::{BlockForm, GrantedBlock, Team};
 use std::alloc::{AllocError, Global};
 
@@ -77,18 +77,14 @@ fn name_word(alloc: Global, view: &View, ident: &Ident) -> Result<Vec<u8>, Alloc
 pub(crate) fn held_line(alloc: Global, view: &View, ident: &Ident) -> Result<Vec<u8>, AllocError>
     ensures { IfOk result (λ text. text.items ≡ held_line view.now ident.now) }
 {
+    let columns = ident_columns(alloc, ident)?;
     let team = team_of_column(alloc, view, ident)?;
     let releases = releases_column(alloc, &view.releases, ident.to_dbc())?;
     let name = name_word(alloc, view, ident)?;
-    let mut line = ident_columns(alloc, ident)?;
-    line.push(b' ')?;
-    line.extend_from_slice(&team)?;
-    line.push(b' ')?;
-    line.extend_from_slice(&releases)?;
-    line.push(b' ')?;
-    line.extend_from_slice(&name)?;
-    line.push(b'\n')?;
-    Ok(line)
+    concat(
+        alloc,
+        &[&columns, b" ", &team, b" ", &releases, b" ", &name, b"\n"],
+    )
 }
 
 /// The lines of the held identifiers.
@@ -108,9 +104,7 @@ fn held_lines(alloc: Global, view: &View) -> Result<Vec<u8>, AllocError>
 pub(crate) fn held_text(alloc: Global, view: &View) -> Result<Vec<u8>, AllocError>
     ensures { IfOk result (λ text. text.items ≡ held_text view.now) }
 {
-    let last = total(alloc, b"held", view.held.as_slice().len())?;
-    let mut text = held_lines(alloc, view)?;
-    text.extend_from_slice(&last)?;
-    text.push(b'\n')?;
-    Ok(text)
+    let lines = held_lines(alloc, view)?;
+    let last = format!(in alloc; "held {}\n", view.held.as_slice().len())?;
+    concat(alloc, &[&lines, last.as_bytes()])
 }

@@ -1,5 +1,6 @@
 //! What people look up of a network, as lines: its state, blocks, messages, held identifiers, releases, nodes, suspect
-//! parameter numbers, who has a name or a number, and what changed from one release to another.
+//! parameter numbers, who has a name or a number, and what changed from one release to another; and what a team's
+//! requests were answered.
 //!
 //! [`text_of`] gives the text of a [`NetLook`](office_types::NetLook) of a [`View`](office_seen::View), `None` where
 //! the network has no such message, node or release, or nobody has the name or number; [`reads_of`] says how much of
@@ -12,6 +13,11 @@
 //! Of what these texts are made of, a page of a network has use for what nodes send and receive ([`sends`],
 //! [`receives`], [`sent_tally`], [`received_tally`]), whose block a number is in ([`team_of`], [`team_at`],
 //! [`is_number_of`]), and what a held identifier was called ([`last_name`]).
+//!
+//! [`add_request`] appends the lines of a team's request: its key, the reply and the first line of its content, and
+//! where the reply is that of a bundle, a line for each part. [`add_total`] appends the last line, with how many
+//! requests there are and how many of them were refused ([`is_refused`]). `Requests.antt` defines these lines, and the
+//! text of all requests of a team in a history (`IsRequestsText`).
 //!
 //! Nothing here decides anything: no crate that does uses it.
 #![tactic(auto)]

@@ -1,13 +1,14 @@
 //! All of a live message.
-ghost use Rattle.std.specs.Prelude.{◌≡◌, IfOk, codes, decimal, option_map, unwrap_or};
+ghost use Rattle.std.specs.Prelude.{◌≡◌, IfOk, decimal, option_map};
 ghost use Rattle.can_id.specs.J1939.{pgn_of};
 ghost use Rattle.office_looks.specs.Message.{destination_text, field_facts, field_text, ident_facts, ident_text};
 ghost use Rattle.office_looks.specs.Message.{message_facts, message_text, owned_named, release_facts, sender_facts};
 ghost use Rattle.office_looks.specs.Message.{whole_text};
 
+use crate::messages::transmitter;
 use crate::signal_lines::signal_lines;
 use can_id::{J1939, has_destination};
-use columns::{form_word, hexadecimal, rest, word};
+use columns::{concat, form_word, hexadecimal, rest, word};
 use dbc_sheet::{Message, Sheet};
 use dbc_words::Name;
 use office_seen::{View, fact, last_release, number_fact, releases_text, since};
@@ -70,58 +71,44 @@ fn ident_text(alloc: Global, message: &Message) -> Result<Vec<u8>, AllocError>
     ensures { IfOk result (λ text. text.items ≡ ident_text message.now) }
 {
     let digits = hexadecimal(alloc, &message.ident)?;
-    let mut text = Vec::from_slice(alloc, form_word(&message.ident))?;
-    text.push(b' ')?;
-    text.extend_from_slice(&digits)?;
-    Ok(text)
+    concat(alloc, &[form_word(&message.ident), b" ", &digits])
 }
 
 /// The facts of the fields of the message's identifier.
 fn field_facts(alloc: Global, message: &Message) -> Result<Vec<u8>, AllocError>
     ensures { IfOk result (λ text. text.items ≡ field_facts message.now) }
 {
-    let source = fact(alloc, b"source", &source_text(alloc, message)?)?;
-    let destination = fact(alloc, b"destination", &destination_text(alloc, message)?)?;
-    let mut text = fact(alloc, b"priority", &priority_text(alloc, message)?)?;
-    text.extend_from_slice(&source)?;
-    text.extend_from_slice(&destination)?;
-    Ok(text)
+    let priority = priority_text(alloc, message)?;
+    let source = source_text(alloc, message)?;
+    let destination = destination_text(alloc, message)?;
+    let priority = fact(alloc, b"priority", &priority)?;
+    let source = fact(alloc, b"source", &source)?;
+    let destination = fact(alloc, b"destination", &destination)?;
+    concat(alloc, &[&priority, &source, &destination])
 }
 
 /// The facts of the message's identifier.
 fn ident_facts(alloc: Global, message: &Message) -> Result<Vec<u8>, AllocError>
     ensures { IfOk result (λ text. text.items ≡ ident_facts message.now) }
 {
-    let ident = fact(alloc, b"identifier", &ident_text(alloc, message)?)?;
-    let group = fact(alloc, b"pgn", &group_text(alloc, message)?)?;
+    let ident = ident_text(alloc, message)?;
+    let group = group_text(alloc, message)?;
+    let number = number_fact(alloc, b"number", message.number() as usize)?;
+    let ident = fact(alloc, b"identifier", &ident)?;
+    let group = fact(alloc, b"pgn", &group)?;
     let fields = field_facts(alloc, message)?;
-    let mut text = number_fact(alloc, b"number", message.number() as usize)?;
-    text.extend_from_slice(&ident)?;
-    text.extend_from_slice(&group)?;
-    text.extend_from_slice(&fields)?;
-    Ok(text)
-}
-
-/// The message's transmitter; `-` where it has none.
-fn transmitter(message: &Message) -> &[u8]
-    ensures { result.now ≡ unwrap_or message.now.transmitter (codes "-") }
-{
-    match &message.transmitter {
-        Some(name) => name.as_bytes(),
-        None => b"-",
-    }
+    concat(alloc, &[&number, &ident, &group, &fields])
 }
 
 /// The facts of the message's length, transmitter and owner.
 fn sender_facts(alloc: Global, message: &Message, owner: &Team) -> Result<Vec<u8>, AllocError>
     ensures { IfOk result (λ text. text.items ≡ sender_facts (message.now, owner.now)) }
 {
+    let owner = word(alloc, owner.as_bytes())?;
+    let length = number_fact(alloc, b"length", usize::from(message.length.bytes()))?;
     let transmitter = fact(alloc, b"transmitter", transmitter(message))?;
-    let owner = fact(alloc, b"owner", &word(alloc, owner.as_bytes())?)?;
-    let mut text = number_fact(alloc, b"length", usize::from(message.length.bytes()))?;
-    text.extend_from_slice(&transmitter)?;
-    text.extend_from_slice(&owner)?;
-    Ok(text)
+    let owner = fact(alloc, b"owner", &owner)?;
+    concat(alloc, &[&length, &transmitter, &owner])
 }
 
 /// The facts of what releases say of the message.
@@ -130,11 +117,10 @@ fn release_facts(alloc: Global, view: &View, message: &Message) -> Result<Vec<u8
 {
     let empty = Sheet::new(alloc);
     let last = last_release(&view.releases, &empty);
-    let since = fact(alloc, b"since", since(last, &view.sheet, message))?;
     let releases = releases_text(alloc, &view.releases, message.number())?;
-    let mut text = fact(alloc, b"releases", &releases)?;
-    text.extend_from_slice(&since)?;
-    Ok(text)
+    let releases = fact(alloc, b"releases", &releases)?;
+    let since = fact(alloc, b"since", since(last, &view.sheet, message))?;
+    concat(alloc, &[&releases, &since])
 }
 
 /// What the message has once, as facts.
@@ -146,16 +132,13 @@ fn message_facts(
 ) -> Result<Vec<u8>, AllocError>
     ensures { IfOk result (λ text. text.items ≡ message_facts view.now (message.now, owner.now)) }
 {
+    let comment = rest(alloc, message.comment.as_bytes())?;
+    let name = fact(alloc, b"message", message.name.as_bytes())?;
     let ident = ident_facts(alloc, message)?;
     let sender = sender_facts(alloc, message, owner)?;
     let releases = release_facts(alloc, view, message)?;
-    let comment = fact(alloc, b"comment", &rest(alloc, message.comment.as_bytes())?)?;
-    let mut text = fact(alloc, b"message", message.name.as_bytes())?;
-    text.extend_from_slice(&ident)?;
-    text.extend_from_slice(&sender)?;
-    text.extend_from_slice(&releases)?;
-    text.extend_from_slice(&comment)?;
-    Ok(text)
+    let comment = fact(alloc, b"comment", &comment)?;
+    concat(alloc, &[&name, &ident, &sender, &releases, &comment])
 }
 
 /// All of the message: its facts, its signals and its chart.
@@ -167,12 +150,10 @@ fn whole_text(
 ) -> Result<Vec<u8>, AllocError>
     ensures { IfOk result (λ text. text.items ≡ whole_text view.now (message.now, owner.now)) }
 {
+    let facts = message_facts(alloc, view, message, owner)?;
     let signals = signal_lines(alloc, message.signals.as_slice())?;
     let chart = message_chart(alloc, message)?;
-    let mut text = message_facts(alloc, view, message, owner)?;
-    text.extend_from_slice(&signals)?;
-    text.extend_from_slice(&chart)?;
-    Ok(text)
+    concat(alloc, &[&facts, &signals, &chart])
 }
 
 /// The live message of the name, with the team that owns it.

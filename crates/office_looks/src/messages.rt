@@ -2,17 +2,16 @@
 ghost use Rattle.std.specs.Prelude.{◌≡◌, ◌≤◌, codes, filter, length, map, unwrap_or, IfOk};
 ghost use Rattle.std.specs.List.{flat_map};
 ghost use Rattle.std.specs.Option.{option_copied};
-ghost use Rattle.columns.specs.Padding.{set_left};
 ghost use Rattle.dbc_sheet.specs.declared.message.Message.{Message};
 ghost use Rattle.office_views.specs.Table.{signal_count};
-ghost use Rattle.office_seen.specs.Since.{last_release, since};
+ghost use Rattle.office_seen.specs.Since.{last_release};
 ghost use Rattle.office_seen.specs.View.{owned};
-ghost use Rattle.office_looks.specs.Messages.{columns_after, columns_before, columns_put_in, is_wanted};
+ghost use Rattle.office_looks.specs.Messages.{columns_before, columns_put_in, is_wanted};
 ghost use Rattle.office_looks.specs.Messages.{message_line, messages_text, messages_total};
 
-use columns::{ident_columns, set_left};
+use columns::{concat, ident_columns, set_left};
 use dbc_sheet::{Message, Sheet};
-use office_seen::{View, last_release, releases_column, since, team_column, total};
+use office_seen::{View, last_release, releases_column, since, team_column};
 use office_types::Team;
 use office_views::size_columns;
 use std::alloc::{AllocError, Global};
@@ -21,47 +20,19 @@ use std::alloc::{AllocError, Global};
 fn columns_before(alloc: Global, message: &Message) -> Result<Vec<u8>, AllocError>
     ensures { IfOk result (λ text. text.items ≡ columns_before message.now) }
 {
+    let ident = ident_columns(alloc, &message.ident)?;
     let sizes = size_columns(alloc, message)?;
-    let mut text = ident_columns(alloc, &message.ident)?;
-    text.push(b' ')?;
-    text.extend_from_slice(&sizes)?;
-    text.push(b' ')?;
-    Ok(text)
+    concat(alloc, &[&ident, b" ", &sizes, b" "])
 }
 
 /// The message's transmitter, `-` where it has none.
-fn transmitter(message: &Message) -> &[u8]
+pub(crate) fn transmitter(message: &Message) -> &[u8]
     ensures { result.now ≡ unwrap_or message.now.transmitter (codes "-") }
 {
     match &message.transmitter {
         Some(name) => name.as_bytes(),
         None => b"-",
     }
-}
-
-/// The columns after those that are put in.
-fn columns_after(alloc: Global, message: &Message) -> Result<Vec<u8>, AllocError>
-    ensures { IfOk result (λ text. text.items ≡ columns_after message.now) }
-{
-    let mut text = Vec::from_slice(alloc, transmitter(message))?;
-    text.push(b' ')?;
-    text.extend_from_slice(message.name.as_bytes())?;
-    text.push(b'\n')?;
-    Ok(text)
-}
-
-/// What has become of the message since the last release, left-aligned in its columns.
-fn since_column(
-    alloc: Global,
-    view: &View,
-    before: &Sheet,
-    message: &Message,
-) -> Result<Vec<u8>, AllocError>
-    requires { before.now ≡ last_release view.now.releases }
-    ensures { IfOk result (λ text. text.items ≡ set_left 7
-        (since (last_release view.now.releases) view.now.sheet message.now)) }
-{
-    set_left(alloc, 7, since(before, &view.sheet, message))
 }
 
 /// The columns that are put in.
@@ -75,15 +46,10 @@ fn columns_put_in(
     requires { before.now ≡ last_release view.now.releases }
     ensures { IfOk result (λ text. text.items ≡ columns_put_in view.now (message.now, owner.now)) }
 {
+    let team = team_column(alloc, owner.as_bytes())?;
     let releases = releases_column(alloc, &view.releases, message.number())?;
-    let since = since_column(alloc, view, before, message)?;
-    let mut text = team_column(alloc, owner.as_bytes())?;
-    text.push(b' ')?;
-    text.extend_from_slice(&releases)?;
-    text.push(b' ')?;
-    text.extend_from_slice(&since)?;
-    text.push(b' ')?;
-    Ok(text)
+    let since = set_left(alloc, 7, since(before, &view.sheet, message))?;
+    concat(alloc, &[&team, b" ", &releases, b" ", &since, b" "])
 }
 
 /// The line of a live message of this owner, where the sheet before is that of the last release. The error is out of
@@ -99,11 +65,12 @@ pub(crate) fn message_line(
     ensures { IfOk result (λ text. text.items ≡ message_line view.now (message.now, owner.now)) }
 {
     let put_in = columns_put_in(alloc, view, before, message, owner)?;
-    let after = columns_after(alloc, message)?;
-    let mut line = columns_before(alloc, message)?;
-    line.extend_from_slice(&put_in)?;
-    line.extend_from_slice(&after)?;
-    Ok(line)
+    let before = columns_before(alloc, message)?;
+    let name = message.name.as_bytes();
+    concat(
+        alloc,
+        &[&before, &put_in, transmitter(message), b" ", name, b"\n"],
+    )
 }
 
 /// Whether a message of this owner is the team's; without a team any is wanted.
@@ -186,12 +153,9 @@ fn messages_total(alloc: Global, view: &View, team: Option<&Team>) -> Result<Vec
     ensures { IfOk result (λ text. text.items ≡ messages_total
         (filter (is_wanted (option_copied team.entry)) (owned view.now))) }
 {
-    let signals = total(alloc, b"signals", wanted_signals(view, team))?;
-    let mut line = total(alloc, b"messages", wanted_count(view, team))?;
-    line.push(b' ')?;
-    line.extend_from_slice(&signals)?;
-    line.push(b'\n')?;
-    Ok(line)
+    let messages = wanted_count(view, team);
+    let signals = wanted_signals(view, team);
+    Ok(format!(in alloc; "messages {messages} signals {signals}\n")?.into_bytes())
 }
 
 /// The live messages with their owners and releases: all, or those of one team. The error is out of memory.
@@ -206,7 +170,6 @@ pub(crate) fn messages_text(
     let empty = Sheet::new(alloc);
     let before = last_release(&view.releases, &empty);
     let last = messages_total(alloc, view, team)?;
-    let mut text = message_lines(alloc, view, before, team)?;
-    text.extend_from_slice(&last)?;
-    Ok(text)
+    let lines = message_lines(alloc, view, before, team)?;
+    concat(alloc, &[&lines, &last])
 }

@@ -7,7 +7,7 @@ ghost use Rattle.office_looks.specs.Nodes.{uses_total};
 ghost use Rattle.office_looks.specs.Tally.{times};
 
 use crate::tally::{Tally, received_tally, sent_tally};
-use columns::{ident_columns, number_right, rest, set_left};
+use columns::{concat, ident_columns, number_right, rest, set_left};
 use dbc_sheet::{Message, Node, Signal};
 use dbc_words::Name;
 use office_facts::has_node;
@@ -77,18 +77,14 @@ fn node_line(
     ensures { IfOk result (λ line. line.items ≡ counts_line (times sent.now node.now.name)
         (times received.now node.now.name) node.now) }
 {
+    let sends = counted(alloc, b"sends", 4, sent.times(&node.name))?;
     let receives = counted(alloc, b"receives", 4, received.times(&node.name))?;
     let name = set_left(alloc, 12, node.name.as_bytes())?;
     let comment = rest(alloc, node.comment.as_bytes())?;
-    let mut line = counted(alloc, b"sends", 4, sent.times(&node.name))?;
-    line.push(b' ')?;
-    line.extend_from_slice(&receives)?;
-    line.push(b' ')?;
-    line.extend_from_slice(&name)?;
-    line.push(b' ')?;
-    line.extend_from_slice(&comment)?;
-    line.push(b'\n')?;
-    Ok(line)
+    concat(
+        alloc,
+        &[&sends, b" ", &receives, b" ", &name, b" ", &comment, b"\n"],
+    )
 }
 
 /// The lines of the nodes.
@@ -112,10 +108,8 @@ pub(crate) fn nodes_text(alloc: Global, view: &View) -> Result<Vec<u8>, AllocErr
 {
     let nodes = view.sheet.nodes();
     let total = total(alloc, b"nodes", nodes.len())?;
-    let mut text = node_lines(alloc, view.sheet.messages(), nodes)?;
-    text.extend_from_slice(&total)?;
-    text.push(b'\n')?;
-    Ok(text)
+    let lines = node_lines(alloc, view.sheet.messages(), nodes)?;
+    concat(alloc, &[&lines, &total, b"\n"])
 }
 
 /// The line of a message that a node sends or receives.
@@ -127,17 +121,14 @@ fn use_line(
 ) -> Result<Vec<u8>, AllocError>
     ensures { IfOk result (λ line. line.items ≡ use_line verb.now message.now signals) }
 {
+    let verb = set_left(alloc, 8, verb)?;
     let ident = ident_columns(alloc, &message.ident)?;
     let count = number_right(alloc, 4, signals)?;
-    let mut line = set_left(alloc, 8, verb)?;
-    line.push(b' ')?;
-    line.extend_from_slice(&ident)?;
-    line.push(b' ')?;
-    line.extend_from_slice(&count)?;
-    line.push(b' ')?;
-    line.extend_from_slice(message.name.as_bytes())?;
-    line.push(b'\n')?;
-    Ok(line)
+    let name = message.name.as_bytes();
+    concat(
+        alloc,
+        &[&verb, b" ", &ident, b" ", &count, b" ", name, b"\n"],
+    )
 }
 
 /// The lines of the messages that the node sends.
@@ -172,24 +163,19 @@ fn received_lines(alloc: Global, node: &Name, messages: &[Message]) -> Result<Ve
 fn uses_total(alloc: Global, node: &Name, messages: &[Message]) -> Result<Vec<u8>, AllocError>
     ensures { IfOk result (λ line. line.items ≡ uses_total node.now messages.now) }
 {
-    let receives = total(alloc, b"receives", received_count(node, messages))?;
-    let mut line = total(alloc, b"sends", sent_count(node, messages))?;
-    line.push(b' ')?;
-    line.extend_from_slice(&receives)?;
-    line.push(b'\n')?;
-    Ok(line)
+    let sends = sent_count(node, messages);
+    let receives = received_count(node, messages);
+    Ok(format!(in alloc; "sends {sends} receives {receives}\n")?.into_bytes())
 }
 
 /// What the node sends and receives, as lines.
 fn node_uses(alloc: Global, node: &Name, messages: &[Message]) -> Result<Vec<u8>, AllocError>
     ensures { IfOk result (λ text. text.items ≡ node_uses node.now messages.now) }
 {
+    let sent = sent_lines(alloc, node, messages)?;
     let received = received_lines(alloc, node, messages)?;
     let total = uses_total(alloc, node, messages)?;
-    let mut text = sent_lines(alloc, node, messages)?;
-    text.extend_from_slice(&received)?;
-    text.extend_from_slice(&total)?;
-    Ok(text)
+    concat(alloc, &[&sent, &received, &total])
 }
 
 /// What the node sends and receives, as lines; `None` where the network has no such node.

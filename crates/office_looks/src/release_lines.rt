@@ -3,9 +3,9 @@ ghost use Rattle.std.specs.Prelude.{◌≡◌, IfOk};
 ghost use Rattle.dbc_sheet.specs.Sheet.{empty_sheet};
 ghost use Rattle.office_looks.specs.Releases.{change_columns, lines_after, release_line, releases_text};
 
-use columns::number_right;
+use columns::{concat, number_right};
 use dbc_sheet::{Counts, Sheet, counts_of};
-use office_seen::{FrozenSheets, View, counted, last_of, total};
+use office_seen::{FrozenSheets, View, counted, last_of};
 use office_views::signal_count;
 use std::alloc::{AllocError, Global};
 
@@ -13,14 +13,10 @@ use std::alloc::{AllocError, Global};
 fn change_columns(alloc: Global, counts: Counts) -> Result<Vec<u8>, AllocError>
     ensures { IfOk result (λ text. text.items ≡ change_columns counts) }
 {
+    let added = counted(alloc, b"added", 4, counts.added)?;
     let removed = counted(alloc, b"removed", 4, counts.removed)?;
     let changed = counted(alloc, b"changed", 4, counts.changed)?;
-    let mut text = counted(alloc, b"added", 4, counts.added)?;
-    text.push(b' ')?;
-    text.extend_from_slice(&removed)?;
-    text.push(b' ')?;
-    text.extend_from_slice(&changed)?;
-    Ok(text)
+    concat(alloc, &[&added, b" ", &removed, b" ", &changed])
 }
 
 /// The line of the release of this number, after the sheet before it.
@@ -32,18 +28,16 @@ fn release_line(
 ) -> Result<Vec<u8>, AllocError>
     ensures { IfOk result (λ text. text.items ≡ release_line number before.now sheet.now) }
 {
+    let number = number_right(alloc, 5, number)?;
     let messages = counted(alloc, b"messages", 5, sheet.messages().len())?;
     let signals = counted(alloc, b"signals", 5, signal_count(sheet))?;
     let changes = change_columns(alloc, counts_of(before, sheet))?;
-    let mut line = number_right(alloc, 5, number)?;
-    line.push(b' ')?;
-    line.extend_from_slice(&messages)?;
-    line.push(b' ')?;
-    line.extend_from_slice(&signals)?;
-    line.push(b' ')?;
-    line.extend_from_slice(&changes)?;
-    line.push(b'\n')?;
-    Ok(line)
+    concat(
+        alloc,
+        &[
+            &number, b" ", &messages, b" ", &signals, b" ", &changes, b"\n",
+        ],
+    )
 }
 
 /// The lines of the releases.
@@ -66,9 +60,7 @@ fn release_lines(alloc: Global, releases: &FrozenSheets) -> Result<Vec<u8>, Allo
 pub(crate) fn releases_text(alloc: Global, view: &View) -> Result<Vec<u8>, AllocError>
     ensures { IfOk result (λ text. text.items ≡ releases_text view.now) }
 {
-    let last = total(alloc, b"releases", view.releases.as_slice().len())?;
-    let mut text = release_lines(alloc, &view.releases)?;
-    text.extend_from_slice(&last)?;
-    text.push(b'\n')?;
-    Ok(text)
+    let lines = release_lines(alloc, &view.releases)?;
+    let last = format!(in alloc; "releases {}\n", view.releases.as_slice().len())?;
+    concat(alloc, &[&lines, last.as_bytes()])
 }

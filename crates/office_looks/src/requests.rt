@@ -5,7 +5,7 @@ ghost use Rattle.office_looks.specs.Requests.{answer_line, content_front, conten
 ghost use Rattle.office_looks.specs.Requests.{part_line, part_lines, request_lines, short_reply};
 
 use base::split_once;
-use columns::{rest, set_left, word};
+use columns::{concat, rest, set_left, word};
 use office_history::Key;
 use office_types::{PartReply, Reply};
 use std::alloc::{AllocError, Global};
@@ -66,15 +66,10 @@ fn answer_line(
 ) -> Result<Vec<u8>, AllocError>
     ensures { IfOk result (λ line. line.items ≡ answer_line key.now reply.now request.now) }
 {
+    let key = word(alloc, key.as_bytes())?;
+    let key = set_left(alloc, 24, &key)?;
     let reply = set_left(alloc, 24, reply)?;
-    let word = word(alloc, key.as_bytes())?;
-    let mut line = set_left(alloc, 24, &word)?;
-    line.push(b' ')?;
-    line.extend_from_slice(&reply)?;
-    line.extend_from_slice(b" <- ")?;
-    line.extend_from_slice(request)?;
-    line.push(b'\n')?;
-    Ok(line)
+    concat(alloc, &[&key, b" ", &reply, b" <- ", request, b"\n"])
 }
 
 /// The line of the part at this place of a bundle.
@@ -132,8 +127,7 @@ pub fn add_request(
     let line = answer_line(alloc, key, &short, &content)?;
     let parts = part_lines(alloc, key, reply.parts())?;
     text.extend_from_slice(&line)?;
-    text.extend_from_slice(&parts)?;
-    Ok(())
+    text.extend_from_slice(&parts)
 }
 
 /// Appends the last line: how many requests there are, and how many of them were refused. The error is out of memory.
@@ -145,8 +139,6 @@ pub fn add_total(
 ) -> Result<(), AllocError>
     ensures { OnOk result (text.new.items ≡ text.old.items ++ last_line requests refused) }
 {
-    let line = format!(in alloc; "requests {requests} refused {refused}")?;
-    text.extend_from_slice(line.as_bytes())?;
-    text.push(b'\n')?;
-    Ok(())
+    let line = format!(in alloc; "requests {requests} refused {refused}\n")?;
+    text.extend_from_slice(line.as_bytes())
 }

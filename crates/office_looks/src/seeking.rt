@@ -111,12 +111,12 @@ fn ident_written(number: u32) -> Option<Ident>
 fn each_form(alloc: Global, number: u32) -> Result<Vec<(BlockForm, u32)>, AllocError>
     ensures { IfOk result (λ numbers. numbers.items ≡ each_form number) }
 {
-    let mut numbers = Vec::new(alloc);
-    numbers.push((BlockForm::Std, number))?;
-    numbers.push((BlockForm::Ext, number))?;
-    numbers.push((BlockForm::Pgn, number))?;
-    numbers.push((BlockForm::Spn, number))?;
-    Ok(numbers)
+    Ok(vec![in alloc;
+        (BlockForm::Std, number),
+        (BlockForm::Ext, number),
+        (BlockForm::Pgn, number),
+        (BlockForm::Spn, number),
+    ]?)
 }
 
 /// The numbers that a hexadecimal one is looked for as.
@@ -150,9 +150,7 @@ fn one_number(
 ) -> Result<Vec<(BlockForm, u32)>, AllocError>
     ensures { IfOk result (λ numbers. numbers.items ≡ (form, number) ∷ []) }
 {
-    let mut numbers = Vec::new(alloc);
-    numbers.push((form, number))?;
-    Ok(numbers)
+    Ok(vec![in alloc; (form, number)]?)
 }
 
 /// The numbers that are looked for, each with the form of the blocks that may have it. The error is out of memory.

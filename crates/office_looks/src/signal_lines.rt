@@ -1,15 +1,14 @@
 //! The lines of the signals of a message.
 ghost use Rattle.std.specs.Prelude.{◌≡◌, IfOk, string_bytes};
 ghost use Rattle.std.specs.List.{flat_map};
-ghost use Rattle.office_looks.specs.Message.{comment_line, later_columns, layout_text, mux_text, pair_text};
-ghost use Rattle.office_looks.specs.Message.{place_columns, signal_columns, signal_line, signal_lines, spn_text};
+ghost use Rattle.office_looks.specs.Message.{comment_line, later_columns, layout_text, mux_text};
+ghost use Rattle.office_looks.specs.Message.{place_columns, signal_line, signal_lines, spn_text};
 ghost use Rattle.office_looks.specs.Message.{text_line, text_lines, type_line, typed, value_columns};
 
 use bitlayout::Mux;
-use columns::{filled, rest, set_left, word, words};
+use columns::{concat, filled, rest, set_left, word, words};
 use dbc_sheet::{Signal, ValueText};
 use dbc_words::{Spn, ValueType};
-use decimal::Decimal;
 use office_seen::fact;
 use std::alloc::{AllocError, Global};
 
@@ -49,88 +48,49 @@ fn spn_text(alloc: Global, spn: Spn) -> Result<String, AllocError>
     }
 }
 
-/// Two decimals between brackets.
-fn pair_text(
-    alloc: Global,
-    left: &[u8],
-    first: &Decimal,
-    between: &[u8],
-    second: &Decimal,
-    right: &[u8],
-) -> Result<Vec<u8>, AllocError>
-    ensures { IfOk result (λ text. text.items
-        ≡ pair_text left.now first.now between.now second.now right.now) }
-{
-    let mut text = Vec::from_slice(alloc, left)?;
-    first.print_into(&mut text)?;
-    text.extend_from_slice(between)?;
-    second.print_into(&mut text)?;
-    text.extend_from_slice(right)?;
-    Ok(text)
-}
-
 /// The columns of the signal's place, multiplexer indicator and suspect parameter number.
 fn place_columns(alloc: Global, signal: &Signal) -> Result<Vec<u8>, AllocError>
     ensures { IfOk result (λ text. text.items ≡ place_columns signal.now) }
 {
     let layout = layout_text(alloc, signal)?;
-    let mux = set_left(alloc, 4, &mux_text(alloc, signal.mux)?)?;
+    let mux = mux_text(alloc, signal.mux)?;
     let spn = spn_text(alloc, signal.spn)?;
+    let layout = filled(alloc, b' ', 10, layout.as_bytes())?;
+    let mux = set_left(alloc, 4, &mux)?;
     let spn = filled(alloc, b' ', 6, spn.as_bytes())?;
-    let mut text = filled(alloc, b' ', 10, layout.as_bytes())?;
-    text.push(b' ')?;
-    text.extend_from_slice(&mux)?;
-    text.push(b' ')?;
-    text.extend_from_slice(&spn)?;
-    Ok(text)
+    concat(alloc, &[&layout, b" ", &mux, b" ", &spn])
 }
 
 /// The columns of the signal's factor and offset, minimum and maximum.
 fn value_columns(alloc: Global, signal: &Signal) -> Result<Vec<u8>, AllocError>
     ensures { IfOk result (λ text. text.items ≡ value_columns signal.now) }
 {
-    let scale = pair_text(alloc, b"(", &signal.factor, b",", &signal.offset, b")")?;
-    let range = pair_text(alloc, b"[", &signal.minimum, b"|", &signal.maximum, b"]")?;
-    let range = set_left(alloc, 14, &range)?;
-    let mut text = set_left(alloc, 14, &scale)?;
-    text.push(b' ')?;
-    text.extend_from_slice(&range)?;
-    Ok(text)
+    let scale = format!(in alloc; "({},{})", signal.factor, signal.offset)?;
+    let range = format!(in alloc; "[{}|{}]", signal.minimum, signal.maximum)?;
+    let scale = set_left(alloc, 14, scale.as_bytes())?;
+    let range = set_left(alloc, 14, range.as_bytes())?;
+    concat(alloc, &[&scale, b" ", &range])
 }
 
 /// The columns of the signal's values, unit and receivers.
 fn later_columns(alloc: Global, signal: &Signal) -> Result<Vec<u8>, AllocError>
     ensures { IfOk result (λ text. text.items ≡ later_columns signal.now) }
 {
-    let unit = set_left(alloc, 6, &word(alloc, signal.unit.as_bytes())?)?;
+    let unit = word(alloc, signal.unit.as_bytes())?;
+    let values = value_columns(alloc, signal)?;
+    let unit = set_left(alloc, 6, &unit)?;
     let receivers = words(alloc, signal.receivers.as_slice())?;
-    let mut text = value_columns(alloc, signal)?;
-    text.push(b' ')?;
-    text.extend_from_slice(&unit)?;
-    text.push(b' ')?;
-    text.extend_from_slice(&receivers)?;
-    Ok(text)
-}
-
-/// The columns of a signal.
-fn signal_columns(alloc: Global, signal: &Signal) -> Result<Vec<u8>, AllocError>
-    ensures { IfOk result (λ text. text.items ≡ signal_columns signal.now) }
-{
-    let name = set_left(alloc, 22, signal.name.as_bytes())?;
-    let later = later_columns(alloc, signal)?;
-    let mut text = place_columns(alloc, signal)?;
-    text.push(b' ')?;
-    text.extend_from_slice(&name)?;
-    text.push(b' ')?;
-    text.extend_from_slice(&later)?;
-    Ok(text)
+    concat(alloc, &[&values, b" ", &unit, b" ", &receivers])
 }
 
 /// The line of a signal.
 fn signal_line(alloc: Global, signal: &Signal) -> Result<Vec<u8>, AllocError>
     ensures { IfOk result (λ line. line.items ≡ signal_line signal.now) }
 {
-    let columns = signal_columns(alloc, signal)?;
+    let place = place_columns(alloc, signal)?;
+    let name = set_left(alloc, 22, signal.name.as_bytes())?;
+    let later = later_columns(alloc, signal)?;
+    let columns = concat(alloc, &[&place, b" ", &name, b" ", &later])?;
     fact(alloc, b"signal", &columns)
 }
 
@@ -138,9 +98,7 @@ fn signal_line(alloc: Global, signal: &Signal) -> Result<Vec<u8>, AllocError>
 fn typed(alloc: Global, signal: &Signal, word: &[u8]) -> Result<Vec<u8>, AllocError>
     ensures { IfOk result (λ line. line.items ≡ typed signal.now word.now) }
 {
-    let mut text = Vec::from_slice(alloc, signal.name.as_bytes())?;
-    text.push(b' ')?;
-    text.extend_from_slice(word)?;
+    let text = concat(alloc, &[signal.name.as_bytes(), b" ", word])?;
     fact(alloc, b"type", &text)
 }
 
@@ -159,15 +117,11 @@ fn type_line(alloc: Global, signal: &Signal) -> Result<Vec<u8>, AllocError>
 fn text_line(alloc: Global, signal: &Signal, value: &ValueText) -> Result<Vec<u8>, AllocError>
     ensures { IfOk result (λ line. line.items ≡ text_line signal.now value.now) }
 {
-    let mut number = Vec::new(alloc);
-    value.value.print_into(&mut number)?;
-    let number = filled(alloc, b' ', 6, &number)?;
+    let number = format!(in alloc; "{}", value.value)?;
+    let name = set_left(alloc, 22, signal.name.as_bytes())?;
+    let number = filled(alloc, b' ', 6, number.as_bytes())?;
     let words = rest(alloc, value.text.as_bytes())?;
-    let mut text = set_left(alloc, 22, signal.name.as_bytes())?;
-    text.push(b' ')?;
-    text.extend_from_slice(&number)?;
-    text.push(b' ')?;
-    text.extend_from_slice(&words)?;
+    let text = concat(alloc, &[&name, b" ", &number, b" ", &words])?;
     fact(alloc, b"value", &text)
 }
 
@@ -190,10 +144,9 @@ fn comment_line(alloc: Global, signal: &Signal) -> Result<Vec<u8>, AllocError>
     if signal.comment.as_bytes().is_empty() {
         return Ok(Vec::new(alloc));
     }
+    let name = set_left(alloc, 22, signal.name.as_bytes())?;
     let comment = rest(alloc, signal.comment.as_bytes())?;
-    let mut text = set_left(alloc, 22, signal.name.as_bytes())?;
-    text.push(b' ')?;
-    text.extend_from_slice(&comment)?;
+    let text = concat(alloc, &[&name, b" ", &comment])?;
     fact(alloc, b"note", &text)
 }
 
@@ -250,12 +203,9 @@ fn comment_lines(alloc: Global, signals: &[Signal]) -> Result<Vec<u8>, AllocErro
 pub(crate) fn signal_lines(alloc: Global, signals: &[Signal]) -> Result<Vec<u8>, AllocError>
     ensures { IfOk result (λ lines. lines.items ≡ signal_lines signals.now) }
 {
+    let lines = plain_lines(alloc, signals)?;
     let types = type_lines(alloc, signals)?;
     let texts = all_texts(alloc, signals)?;
     let comments = comment_lines(alloc, signals)?;
-    let mut lines = plain_lines(alloc, signals)?;
-    lines.extend_from_slice(&types)?;
-    lines.extend_from_slice(&texts)?;
-    lines.extend_from_slice(&comments)?;
-    Ok(lines)
+    concat(alloc, &[&lines, &types, &texts, &comments])
 }

@@ -1,5 +1,5 @@
 //! What a network has once, and how many there are of each kind of thing.
-ghost use Rattle.std.specs.Prelude.{◌≡◌, ◌++◌, [], IfOk, OnOk, string_bytes, unwrap_or};
+ghost use Rattle.std.specs.Prelude.{◌≡◌, [], IfOk, string_bytes, unwrap_or};
 ghost use Rattle.dbc_sheet.specs.Pairs.{counts_of};
 ghost use Rattle.office_types.specs.State.{submitter_of};
 ghost use Rattle.office_seen.specs.Lines.{fact, number_fact};
@@ -7,7 +7,7 @@ ghost use Rattle.office_seen.specs.Since.{last_release};
 ghost use Rattle.office_looks.specs.State.{change_facts, head_facts, lacking};
 ghost use Rattle.office_looks.specs.State.{office_facts, review_facts, sheet_facts, state_text};
 
-use columns::{word, words};
+use columns::{concat, word, words};
 use dbc_sheet::{Counts, Sheet, counts_of};
 use office_seen::{View, fact, last_release, number_fact};
 use office_types::Phase;
@@ -33,38 +33,15 @@ fn submitter(phase: &Phase) -> &[u8]
     }
 }
 
-/// Adds the line of a key and its value.
-fn push_fact(alloc: Global, text: &mut Vec<u8>, key: &[u8], value: &[u8]) -> Result<(), AllocError>
-    ensures { OnOk result (text.new.items ≡ text.old.items ++ fact key.now value.now) }
-{
-    let line = fact(alloc, key, value)?;
-    text.extend_from_slice(&line)?;
-    Ok(())
-}
-
-/// Adds the line of a key and a number.
-fn push_number(
-    alloc: Global,
-    text: &mut Vec<u8>,
-    key: &[u8],
-    number: usize,
-) -> Result<(), AllocError>
-    ensures { OnOk result (text.new.items ≡ text.old.items ++ number_fact key.now number) }
-{
-    let line = number_fact(alloc, key, number)?;
-    text.extend_from_slice(&line)?;
-    Ok(())
-}
-
 /// The lines of what the network is, and whether it is being changed.
 fn head_facts(alloc: Global, view: &View) -> Result<Vec<u8>, AllocError>
     ensures { IfOk result (λ text. text.items ≡ head_facts view.now) }
 {
     let name = word(alloc, view.name.as_bytes())?;
-    let mut text = fact(alloc, b"network", &name)?;
-    push_fact(alloc, &mut text, b"kind", kind_word(view.kind))?;
-    push_fact(alloc, &mut text, b"phase", phase_word(&view.phase))?;
-    Ok(text)
+    let network = fact(alloc, b"network", &name)?;
+    let kind = fact(alloc, b"kind", kind_word(view.kind))?;
+    let phase = fact(alloc, b"phase", phase_word(&view.phase))?;
+    concat(alloc, &[&network, &kind, &phase])
 }
 
 /// The lines of the review.
@@ -74,39 +51,39 @@ fn review_facts(alloc: Global, view: &View) -> Result<Vec<u8>, AllocError>
     let submitted = word(alloc, submitter(&view.phase))?;
     let approved = words(alloc, view.approvals.as_slice())?;
     let lacking = lacking(alloc, view)?;
-    let mut text = fact(alloc, b"submitted", &submitted)?;
-    push_fact(alloc, &mut text, b"approved", &approved)?;
-    push_fact(alloc, &mut text, b"lacking", lacking.as_bytes())?;
-    Ok(text)
+    let submitted = fact(alloc, b"submitted", &submitted)?;
+    let approved = fact(alloc, b"approved", &approved)?;
+    let lacking = fact(alloc, b"lacking", lacking.as_bytes())?;
+    concat(alloc, &[&submitted, &approved, &lacking])
 }
 
 /// The lines of the differences.
 fn change_facts(alloc: Global, counts: Counts) -> Result<Vec<u8>, AllocError>
     ensures { IfOk result (λ text. text.items ≡ change_facts counts) }
 {
-    let mut text = number_fact(alloc, b"added", counts.added)?;
-    push_number(alloc, &mut text, b"removed", counts.removed)?;
-    push_number(alloc, &mut text, b"changed", counts.changed)?;
-    Ok(text)
+    let added = number_fact(alloc, b"added", counts.added)?;
+    let removed = number_fact(alloc, b"removed", counts.removed)?;
+    let changed = number_fact(alloc, b"changed", counts.changed)?;
+    concat(alloc, &[&added, &removed, &changed])
 }
 
 /// The lines of how many identifiers are held and how many blocks there are.
 fn office_facts(alloc: Global, view: &View) -> Result<Vec<u8>, AllocError>
     ensures { IfOk result (λ text. text.items ≡ office_facts view.now) }
 {
-    let mut text = number_fact(alloc, b"held", view.held.as_slice().len())?;
-    push_number(alloc, &mut text, b"blocks", view.blocks.as_slice().len())?;
-    Ok(text)
+    let held = number_fact(alloc, b"held", view.held.as_slice().len())?;
+    let blocks = number_fact(alloc, b"blocks", view.blocks.as_slice().len())?;
+    concat(alloc, &[&held, &blocks])
 }
 
 /// The lines of how many things the sheet has.
 fn sheet_facts(alloc: Global, sheet: &Sheet) -> Result<Vec<u8>, AllocError>
     ensures { IfOk result (λ text. text.items ≡ sheet_facts sheet.now) }
 {
-    let mut text = number_fact(alloc, b"nodes", sheet.nodes().len())?;
-    push_number(alloc, &mut text, b"messages", sheet.messages().len())?;
-    push_number(alloc, &mut text, b"signals", signal_count(sheet))?;
-    Ok(text)
+    let nodes = number_fact(alloc, b"nodes", sheet.nodes().len())?;
+    let messages = number_fact(alloc, b"messages", sheet.messages().len())?;
+    let signals = number_fact(alloc, b"signals", signal_count(sheet))?;
+    concat(alloc, &[&nodes, &messages, &signals])
 }
 
 /// How many messages differ from those of the last release.
@@ -122,16 +99,14 @@ fn changes(alloc: Global, view: &View) -> Counts
 pub(crate) fn state_text(alloc: Global, view: &View) -> Result<Vec<u8>, AllocError>
     ensures { IfOk result (λ text. text.items ≡ state_text view.now) }
 {
+    let head = head_facts(alloc, view)?;
     let review = review_facts(alloc, view)?;
     let releases = number_fact(alloc, b"releases", view.releases.as_slice().len())?;
     let changes = change_facts(alloc, changes(alloc, view))?;
     let office = office_facts(alloc, view)?;
     let sheet = sheet_facts(alloc, &view.sheet)?;
-    let mut text = head_facts(alloc, view)?;
-    text.extend_from_slice(&review)?;
-    text.extend_from_slice(&releases)?;
-    text.extend_from_slice(&changes)?;
-    text.extend_from_slice(&office)?;
-    text.extend_from_slice(&sheet)?;
-    Ok(text)
+    concat(
+        alloc,
+        &[&head, &review, &releases, &changes, &office, &sheet],
+    )
 }

@@ -13,10 +13,10 @@ use crate::seeking::{
     add_numbers, has_one, is_held_sought, is_sought, is_spn_sought, numbers_sought,
 };
 use base::Items;
-use columns::set_left;
+use columns::{concat, set_left};
 use dbc_sheet::Sheet;
 use office_blocks::{Numbers, block_line};
-use office_seen::{View, last_release, total};
+use office_seen::{View, last_release};
 use office_spns::{SpnView, shown_spns, spn_lines};
 use office_types::{BlockForm, Sought};
 use std::alloc::{AllocError, Global};
@@ -28,9 +28,8 @@ type Lines = Items<Items<u8>>;
 fn tagged(alloc: Global, tag: &[u8], line: &[u8]) -> Result<Items<u8>, AllocError>
     ensures { IfOk result (λ text. text ≡ tagged tag.now line.now) }
 {
-    let mut text = set_left(alloc, 5, tag)?;
-    text.push(b' ')?;
-    text.extend_from_slice(line)?;
+    let tag = set_left(alloc, 5, tag)?;
+    let text = concat(alloc, &[&tag, b" ", line])?;
     Ok(Items::from_vec(text))
 }
 
@@ -189,18 +188,8 @@ fn who_total(
 ) -> Result<Vec<u8>, AllocError>
     ensures { IfOk result (λ line. line.items ≡ who_total live held spns blocks) }
 {
-    let held = total(alloc, b"held", held)?;
-    let spns = total(alloc, b"spns", spns)?;
-    let blocks = total(alloc, b"blocks", blocks)?;
-    let mut line = total(alloc, b"live", live)?;
-    line.push(b' ')?;
-    line.extend_from_slice(&held)?;
-    line.push(b' ')?;
-    line.extend_from_slice(&spns)?;
-    line.push(b' ')?;
-    line.extend_from_slice(&blocks)?;
-    line.push(b'\n')?;
-    Ok(line)
+    let line = format!(in alloc; "live {live} held {held} spns {spns} blocks {blocks}\n")?;
+    Ok(line.into_bytes())
 }
 
 /// Whether there are no lines of any kind.

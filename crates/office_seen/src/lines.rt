@@ -4,7 +4,7 @@ ghost use Rattle.columns.specs.Padding.{set_left};
 ghost use Rattle.columns.specs.Word.{word};
 ghost use Rattle.office_seen.specs.Lines.{counted, fact, number_fact, total};
 
-use columns::{number_right, set_left, word};
+use columns::{concat, number_right, set_left, word};
 use std::alloc::{AllocError, Global};
 
 /// The name, and the number right-aligned in this many columns.
@@ -17,10 +17,7 @@ pub fn counted(
     ensures { IfOk result (λ text. text.items ≡ counted name.now columns number) }
 {
     let number = number_right(alloc, columns, number)?;
-    let mut text = Vec::from_slice(alloc, name)?;
-    text.push(b' ')?;
-    text.extend_from_slice(&number)?;
-    Ok(text)
+    concat(alloc, &[name, b" ", &number])
 }
 
 /// The name and the number, as in last lines.
@@ -28,21 +25,15 @@ pub fn total(alloc: Global, name: &[u8], number: usize) -> Result<Vec<u8>, Alloc
     ensures { IfOk result (λ text. text.items ≡ total name.now number) }
 {
     let digits = format!(in alloc; "{number}")?;
-    let mut text = Vec::from_slice(alloc, name)?;
-    text.push(b' ')?;
-    text.extend_from_slice(digits.as_bytes())?;
-    Ok(text)
+    concat(alloc, &[name, b" ", digits.as_bytes()])
 }
 
 /// The line of a key and its value.
 pub fn fact(alloc: Global, key: &[u8], value: &[u8]) -> Result<Vec<u8>, AllocError>
     ensures { IfOk result (λ line. line.items ≡ fact key.now value.now) }
 {
-    let mut line = set_left(alloc, 11, key)?;
-    line.push(b' ')?;
-    line.extend_from_slice(value)?;
-    line.push(b'\n')?;
-    Ok(line)
+    let key = set_left(alloc, 11, key)?;
+    concat(alloc, &[&key, b" ", value, b"\n"])
 }
 
 /// The line of a key and a number.

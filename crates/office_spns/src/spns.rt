@@ -11,7 +11,7 @@ use crate::spn_use::SpnUse;
 use crate::spn_view::SpnView;
 use base::Items;
 use columns::{
-    filled, ident_columns, no_ident_columns, number_right, runs_of, runs_text, set_left,
+    concat, filled, ident_columns, no_ident_columns, number_right, runs_of, runs_text, set_left,
 };
 use office_seen::{View, has_number_in, total};
 use office_types::BlockForm;
@@ -116,13 +116,8 @@ fn number_columns(alloc: Global, view: &SpnView, number: u32) -> Result<Vec<u8>,
     let runs = runs_of(alloc, 1, &releases)?;
     let releases = runs_text(alloc, &runs)?;
     let releases = filled(alloc, b' ', 5, &releases)?;
-    let mut columns = number_right(alloc, 6, number as usize)?;
-    columns.push(b' ')?;
-    columns.extend_from_slice(&word)?;
-    columns.push(b' ')?;
-    columns.extend_from_slice(&releases)?;
-    columns.push(b' ')?;
-    Ok(columns)
+    let number = number_right(alloc, 6, number as usize)?;
+    concat(alloc, &[&number, b" ", &word, b" ", &releases, b" "])
 }
 
 /// The columns of the identifier, of the message and of the signal.
@@ -130,30 +125,23 @@ fn place_columns(alloc: Global, place: &SpnPlace) -> Result<Vec<u8>, AllocError>
     ensures { IfOk result (λ text. text.items ≡ place_columns place.now) }
 {
     let message = place.message();
-    let mut columns = ident_columns(alloc, &message.ident)?;
-    columns.push(b' ')?;
-    columns.extend_from_slice(message.name.as_bytes())?;
-    columns.push(b' ')?;
-    columns.extend_from_slice(place.signal().name.as_bytes())?;
-    columns.push(b'\n')?;
-    Ok(columns)
+    let (name, signal) = (message.name.as_bytes(), place.signal().name.as_bytes());
+    let ident = ident_columns(alloc, &message.ident)?;
+    concat(alloc, &[&ident, b" ", name, b" ", signal, b"\n"])
 }
 
 /// The columns of no place.
 fn no_place_columns(alloc: Global) -> Result<Vec<u8>, AllocError>
     ensures { IfOk result (λ text. text.items ≡ no_place_columns) }
 {
-    let mut columns = Vec::from_slice(alloc, no_ident_columns())?;
-    columns.extend_from_slice(b" - -\n")?;
-    Ok(columns)
+    concat(alloc, &[no_ident_columns(), b" - -\n"])
 }
 
 /// A line of two parts.
 fn joined(alloc: Global, first: &[u8], second: &[u8]) -> Result<Items<u8>, AllocError>
     ensures { IfOk result (λ line. line ≡ first.now ++ second.now) }
 {
-    let mut line = Vec::from_slice(alloc, first)?;
-    line.extend_from_slice(second)?;
+    let line = concat(alloc, &[first, second])?;
     Ok(Items::from_vec(line))
 }
 
@@ -265,18 +253,14 @@ fn spns_total(alloc: Global, view: &SpnView, numbers: &[u32]) -> Result<Vec<u8>,
     requires { numbers.now ≡ shown_spns view.now }
     ensures { IfOk result (λ text. text.items ≡ spns_total view.now) }
 {
+    let spns = total(alloc, b"spns", numbers.len())?;
     let live = total(alloc, b"live", used_so(view, numbers, SpnUse::Live))?;
     let gone = total(alloc, b"gone", used_so(view, numbers, SpnUse::Gone))?;
     let used = total(alloc, b"used", used_so(view, numbers, SpnUse::Used))?;
-    let mut text = total(alloc, b"spns", numbers.len())?;
-    text.push(b' ')?;
-    text.extend_from_slice(&live)?;
-    text.push(b' ')?;
-    text.extend_from_slice(&gone)?;
-    text.push(b' ')?;
-    text.extend_from_slice(&used)?;
-    text.push(b'\n')?;
-    Ok(text)
+    concat(
+        alloc,
+        &[&spns, b" ", &live, b" ", &gone, b" ", &used, b"\n"],
+    )
 }
 
 /// The lines of the numbers that are shown, and the last line.

@@ -3,7 +3,6 @@ use Rattle.std.proofs.Common.{◌≡◌, [], ◌∷◌, codes, refl}
 use Rattle.std.specs.Fmt.{digits}
 use Rattle.dbc_sheet.specs.Sheet.{empty_sheet}
 use Rattle.office_types.specs.declared.command.NetKind.TheVariants.{Can, J1939}
-use Rattle.office_types.specs.declared.state.Head.{Head}
 use Rattle.office_types.specs.declared.state.Net.{Net}
 use Rattle.office_types.specs.declared.state.Phase.TheVariants.{Draft, Review}
 use Rattle.office_views.specs.NetList.{nets_text}

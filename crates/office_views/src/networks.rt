@@ -2,6 +2,7 @@
 ghost use Rattle.std.specs.Prelude.{◌≡◌, IfOk};
 ghost use Rattle.office_views.specs.NetList.{kind_word, line_of, phase_word};
 
+use columns::concat;
 use office_types::{Head, NetKind, NetName, Phase};
 use std::alloc::{AllocError, Global};
 
@@ -35,14 +36,19 @@ pub fn net_line(
 ) -> Result<Vec<u8>, AllocError>
     ensures { IfOk result (λ line. line.items ≡ line_of name.now head.now releases) }
 {
+    let name = Vec::from_slice(alloc, name.as_bytes())?;
     let count = format!(in alloc; "{releases}")?;
-    let mut line = Vec::from_slice(alloc, name.as_bytes())?;
-    line.push(b' ')?;
-    line.extend_from_slice(kind_word(head.kind))?;
-    line.push(b' ')?;
-    line.extend_from_slice(phase_word(&head.phase))?;
-    line.push(b' ')?;
-    line.extend_from_slice(count.as_bytes())?;
-    line.push(b'\n')?;
-    Ok(line)
+    concat(
+        alloc,
+        &[
+            &name,
+            b" ",
+            kind_word(head.kind),
+            b" ",
+            phase_word(&head.phase),
+            b" ",
+            count.as_bytes(),
+            b"\n",
+        ],
+    )
 }

@@ -4,7 +4,7 @@ ghost use Rattle.std.specs.List.{flat_map};
 ghost use Rattle.office_views.specs.Table.{counts_line, message_line};
 ghost use Rattle.office_views.specs.Table.{signal_count, size_columns, table_of};
 
-use columns::{ident_columns, number_right};
+use columns::{concat, ident_columns, number_right};
 use dbc_sheet::{Message, Sheet};
 use std::alloc::{AllocError, Global};
 
@@ -13,11 +13,9 @@ use std::alloc::{AllocError, Global};
 pub fn size_columns(alloc: Global, message: &Message) -> Result<Vec<u8>, AllocError>
     ensures { IfOk result (λ text. text.items ≡ size_columns message.now) }
 {
+    let length = number_right(alloc, 4, usize::from(message.length.bytes()))?;
     let count = number_right(alloc, 4, message.signals.as_slice().len())?;
-    let mut line = number_right(alloc, 4, usize::from(message.length.bytes()))?;
-    line.push(b' ')?;
-    line.extend_from_slice(&count)?;
-    Ok(line)
+    concat(alloc, &[&length, b" ", &count])
 }
 
 /// The message's transmitter, `-` where it has none.
@@ -34,16 +32,13 @@ fn transmitter(message: &Message) -> &[u8]
 fn message_line(alloc: Global, message: &Message) -> Result<Vec<u8>, AllocError>
     ensures { IfOk result (λ text. text.items ≡ message_line message.now) }
 {
+    let ident = ident_columns(alloc, &message.ident)?;
     let sizes = size_columns(alloc, message)?;
-    let mut line = ident_columns(alloc, &message.ident)?;
-    line.push(b' ')?;
-    line.extend_from_slice(&sizes)?;
-    line.push(b' ')?;
-    line.extend_from_slice(transmitter(message))?;
-    line.push(b' ')?;
-    line.extend_from_slice(message.name.as_bytes())?;
-    line.push(b'\n')?;
-    Ok(line)
+    let (transmitter, name) = (transmitter(message), message.name.as_bytes());
+    concat(
+        alloc,
+        &[&ident, b" ", &sizes, b" ", transmitter, b" ", name, b"\n"],
+    )
 }
 
 /// The lines of the messages.

@@ -1,5 +1,5 @@
 //! The text of a chart.
-ghost use Rattle.std.specs.Prelude.{◌≡◌, ◌++◌, ℕ, List, ◌<◌, ◌≤◌, length, IfOk, position, string_bytes, decimal, codes};
+ghost use Rattle.std.specs.Prelude.{◌≡◌, ◌<◌, ◌≤◌, length, IfOk, position, string_bytes};
 ghost use Rattle.std.specs.List.{count_by, flat_map, range_with_len, enumerate_from};
 ghost use Rattle.office_views.specs.Held.{IsHeldBy};
 ghost use Rattle.office_views.specs.Text.{letter_of, holds, cell_of, cells_of, byte_line, layout_text, mark_text};
@@ -7,7 +7,7 @@ ghost use Rattle.office_views.specs.Text.{signal_line, name_at, names_of, verdic
 
 use crate::signal::{ChartSignal, first_clash_of};
 use bitlayout::{Clash, Layout, MASK_END, Mask, Mux, has_bit};
-use columns::number_right;
+use columns::{concat, number_right};
 use dbc_words::SheetCode;
 use std::alloc::{AllocError, Global};
 
@@ -138,10 +138,8 @@ fn byte_line(
     ensures { IfOk result (λ text. text.items ≡ byte_line signals.now byte) }
 {
     let cells = cells(alloc, held, signals, byte)?;
-    let mut line = number_right(alloc, 4, usize::from(byte))?;
-    line.extend_from_slice(&cells)?;
-    line.push(b'\n')?;
-    Ok(line)
+    let number = number_right(alloc, 4, usize::from(byte))?;
+    concat(alloc, &[&number, &cells, b"\n"])
 }
 
 fn layout_text(alloc: Global, layout: Layout) -> Result<String, AllocError>
@@ -169,13 +167,17 @@ fn signal_line(alloc: Global, index: usize, signal: &ChartSignal) -> Result<Vec<
 {
     let layout = layout_text(alloc, signal.place.layout)?;
     let mark = mark_text(alloc, signal.place.mux)?;
-    let mut line = Vec::from_slice(alloc, &[letter(index), b' '])?;
-    line.extend_from_slice(signal.name.as_bytes())?;
-    line.push(b' ')?;
-    line.extend_from_slice(layout.as_bytes())?;
-    line.extend_from_slice(mark.as_bytes())?;
-    line.push(b'\n')?;
-    Ok(line)
+    concat(
+        alloc,
+        &[
+            &[letter(index), b' '],
+            signal.name.as_bytes(),
+            b" ",
+            layout.as_bytes(),
+            mark.as_bytes(),
+            b"\n",
+        ],
+    )
 }
 
 /// The name of the signal at an index.
@@ -188,27 +190,17 @@ fn name_at(signals: &[ChartSignal], index: usize) -> &[u8]
     }
 }
 
-/// A name after a space.
-fn spaced(alloc: Global, name: &[u8]) -> Result<Vec<u8>, AllocError>
-    ensures { IfOk result (λ text. text.items ≡ codes " " ++ name.now) }
-{
-    let mut text = Vec::from_slice(alloc, b" ")?;
-    text.extend_from_slice(name)?;
-    Ok(text)
-}
-
 /// The names of the signals of a clash, each after a space.
 fn clash_names(alloc: Global, signals: &[ChartSignal], clash: Clash) -> Result<Vec<u8>, AllocError>
     ensures { IfOk result (λ text. text.items ≡ names_of signals.now clash) }
 {
     match clash {
         Clash::Outside(index) | Clash::TwoMultiplexors(index) | Clash::NoMultiplexor(index) => {
-            spaced(alloc, name_at(signals, index))
+            concat(alloc, &[b" ", name_at(signals, index)])
         }
         Clash::Overlap { earlier, later } => {
-            let mut names = spaced(alloc, name_at(signals, earlier))?;
-            names.extend_from_slice(&spaced(alloc, name_at(signals, later))?)?;
-            Ok(names)
+            let (earlier, later) = (name_at(signals, earlier), name_at(signals, later));
+            concat(alloc, &[b" ", earlier, b" ", later])
         }
     }
 }
@@ -226,11 +218,18 @@ fn verdict(
     };
     let code = SheetCode::from(clash);
     let number = code.number();
-    let name = code.name();
-    let mut line = format!(in alloc; "{number} {name}")?.into_bytes();
-    line.extend_from_slice(&clash_names(alloc, signals, clash)?)?;
-    line.push(b'\n')?;
-    Ok(line)
+    let number = format!(in alloc; "{number}")?;
+    let names = clash_names(alloc, signals, clash)?;
+    concat(
+        alloc,
+        &[
+            number.as_bytes(),
+            b" ",
+            code.name().as_bytes(),
+            &names,
+            b"\n",
+        ],
+    )
 }
 
 /// The lines of the bytes.
@@ -275,8 +274,8 @@ pub fn chart_text(
     ensures { IfOk result (λ text. text.items ≡ chart_of length signals.now) }
 {
     let clash = first_clash_of(alloc, length, signals)?;
-    let mut text = byte_lines(alloc, length, signals)?;
-    text.extend_from_slice(&signal_lines(alloc, signals)?)?;
-    text.extend_from_slice(&verdict(alloc, signals, clash)?)?;
-    Ok(text)
+    let bytes = byte_lines(alloc, length, signals)?;
+    let lines = signal_lines(alloc, signals)?;
+    let verdict = verdict(alloc, signals, clash)?;
+    concat(alloc, &[&bytes, &lines, &verdict])
 }

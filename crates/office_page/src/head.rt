@@ -2,24 +2,24 @@
 ghost use Rattle.std.specs.Prelude.{◌≡◌, ◌++◌, IfOk, OnOk, filter};
 ghost use Rattle.std.specs.List.{list_any};
 ghost use Rattle.std.specs.Str.{bytes_eq};
-ghost use Rattle.office_page.specs.Head.{approvals_text, changes_link, changes_linked, changes_tag, count_item};
+ghost use Rattle.office_page.specs.Head.{changes_link, changes_linked, changes_tag, count_item};
 ghost use Rattle.office_page.specs.Head.{counts_list, draft_text, first_parts, head_of_net, head_of_sheet};
 ghost use Rattle.office_page.specs.Head.{kind_words, later_parts, may_approve, missing_text, net_counts};
 ghost use Rattle.office_page.specs.Head.{no_release, office_counts, part_if, parts_list, phase_line, phase_text};
-ghost use Rattle.office_page.specs.Head.{release_words, rest_of_head, review_text, sheet_counts, since_line};
+ghost use Rattle.office_page.specs.Head.{rest_of_head, review_text, sheet_counts, since_line};
 ghost use Rattle.office_page.specs.Head.{since_or_none, since_paragraph, since_text, subject_words, teams_or};
 ghost use Rattle.office_page.specs.Head.{title_line, wanted_text};
 
 use base::{Checked, Items, Rule};
 use dbc_sheet::{Counts, Sheet, counts_of};
-use html::{push_names, push_number, push_text};
+use html::{push_all, push_names};
 use office_seen::{View, last_of};
 use office_types::{NetKind, Phase, Team};
 use office_views::signal_count;
 use page_changes::{is_nothing, push_summed};
 use page_lists::has_spns;
 use page_messages::push_comment;
-use page_plan::{Label, Plan, Subject, push_counted, word_for};
+use page_plan::{Label, Piece, Plan, Subject, push_counted, push_pieces, word_for};
 use std::alloc::{AllocError, Global};
 
 // ---- what it is of
@@ -33,22 +33,20 @@ fn kind_words(kind: NetKind) -> &'static [u8]
     }
 }
 
-fn push_release_words(text: &mut Vec<u8>, kind: NetKind, number: u32) -> Result<(), AllocError>
-    ensures { OnOk result (text.new.items ≡ text.old.items ++ release_words kind number) }
-{
-    text.extend_from_slice(b"release ")?;
-    push_number(text, number as usize)?;
-    text.extend_from_slice(b" of ")?;
-    text.extend_from_slice(kind_words(kind))?;
-    Ok(())
-}
-
 fn push_subject(text: &mut Vec<u8>, subject: Subject) -> Result<(), AllocError>
     ensures { OnOk result (text.new.items ≡ text.old.items ++ subject_words subject) }
 {
     match subject {
         Subject::Live(kind) => text.extend_from_slice(kind_words(kind)),
-        Subject::Release(kind, number) => push_release_words(text, kind, number),
+        Subject::Release(kind, number) => push_pieces(
+            text,
+            &[
+                Piece::Html(b"release "),
+                Piece::Number(u128::from(number)),
+                Piece::Html(b" of "),
+                Piece::Html(kind_words(kind)),
+            ],
+        ),
         Subject::File => text.extend_from_slice(b"a DBC file"),
     }
 }
@@ -56,21 +54,19 @@ fn push_subject(text: &mut Vec<u8>, subject: Subject) -> Result<(), AllocError>
 fn push_title(text: &mut Vec<u8>, plan: &Plan) -> Result<(), AllocError>
     ensures { OnOk result (text.new.items ≡ text.old.items ++ title_line plan.now) }
 {
-    text.extend_from_slice(b"<h1>")?;
-    push_text(text, plan.name())?;
-    text.extend_from_slice(b" <small>")?;
+    push_pieces(
+        text,
+        &[
+            Piece::Html(b"<h1>"),
+            Piece::Text(plan.name()),
+            Piece::Html(b" <small>"),
+        ],
+    )?;
     push_subject(text, plan.subject())?;
-    text.extend_from_slice(b"</small></h1>\n")?;
-    Ok(())
+    text.extend_from_slice(b"</small></h1>\n")
 }
 
 // ---- the review
-
-fn push_approvals(text: &mut Vec<u8>, number: usize) -> Result<(), AllocError>
-    ensures { OnOk result (text.new.items ≡ text.old.items ++ approvals_text number) }
-{
-    push_counted(text, number, b"approval", b"approvals")
-}
 
 /// Appends the teams with commas between, or the word for no team.
 fn push_teams_or<R: Rule>(
@@ -134,11 +130,10 @@ fn push_wanted(text: &mut Vec<u8>, number: usize, teams: &[Label]) -> Result<(),
     ensures { OnOk result (text.new.items ≡ text.old.items ++ wanted_text number teams.now) }
 {
     text.extend_from_slice(b"<b>")?;
-    push_approvals(text, number)?;
+    push_counted(text, number, b"approval", b"approvals")?;
     text.extend_from_slice(b" to come</b>, of ")?;
     push_teams_or(text, b"any other team", teams)?;
-    text.extend_from_slice(b".")?;
-    Ok(())
+    text.extend_from_slice(b".")
 }
 
 /// Appends the same, if some are missing.
@@ -165,30 +160,38 @@ fn push_review(
     let approvals = view.approvals.as_slice();
     let reviews = usize::from(view.reviews.count());
     let teams = approvers(alloc, view, plan, submitter)?;
-    text.extend_from_slice(b"<b class=i>In review</b> Submitted by ")?;
-    text.extend_from_slice(submitter.as_bytes())?;
-    text.extend_from_slice(b". Approved by ")?;
+    push_all(
+        text,
+        &[
+            b"<b class=i>In review</b> Submitted by ",
+            submitter.as_bytes(),
+            b". Approved by ",
+        ],
+    )?;
     push_teams_or(text, b"nobody yet", approvals)?;
-    text.extend_from_slice(b": ")?;
-    push_number(text, approvals.len())?;
-    text.extend_from_slice(b" of ")?;
-    push_number(text, reviews)?;
-    text.extend_from_slice(b". ")?;
+    push_pieces(
+        text,
+        &[
+            Piece::Html(b": "),
+            Piece::Number(approvals.len() as u128),
+            Piece::Html(b" of "),
+            Piece::Number(reviews as u128),
+            Piece::Html(b". "),
+        ],
+    )?;
     push_missing(
         text,
         reviews.saturating_sub(approvals.len()),
         teams.as_slice(),
-    )?;
-    Ok(())
+    )
 }
 
 fn push_draft(text: &mut Vec<u8>, reviews: usize) -> Result<(), AllocError>
     ensures { OnOk result (text.new.items ≡ text.old.items ++ draft_text reviews) }
 {
     text.extend_from_slice(b"<b class=i>Draft</b> A release needs ")?;
-    push_approvals(text, reviews)?;
-    text.extend_from_slice(b".")?;
-    Ok(())
+    push_counted(text, reviews, b"approval", b"approvals")?;
+    text.extend_from_slice(b".")
 }
 
 fn push_phase(alloc: Global, text: &mut Vec<u8>, view: &View, plan: &Plan) -> Result<(), AllocError>
@@ -238,8 +241,7 @@ fn push_changes_linked(
 {
     text.extend_from_slice(changes_tag(plan))?;
     push_summed(alloc, text, counts)?;
-    text.extend_from_slice(b"</a>.")?;
-    Ok(())
+    text.extend_from_slice(b"</a>.")
 }
 
 fn push_changes_link(
@@ -267,13 +269,17 @@ fn push_since(
 {
     let empty = Sheet::new(alloc);
     let counts = counts_of(last_of(plan.releases(), &empty), plan.sheet());
-    text.extend_from_slice(b"Since <a href=#r")?;
-    push_number(text, number)?;
-    text.extend_from_slice(b">release ")?;
-    push_number(text, number)?;
-    text.extend_from_slice(b"</a>: ")?;
-    push_changes_link(alloc, text, plan, counts)?;
-    Ok(())
+    push_pieces(
+        text,
+        &[
+            Piece::Html(b"Since <a href=#r"),
+            Piece::Number(number as u128),
+            Piece::Html(b">release "),
+            Piece::Number(number as u128),
+            Piece::Html(b"</a>: "),
+        ],
+    )?;
+    push_changes_link(alloc, text, plan, counts)
 }
 
 /// What is said where there is no release before.
@@ -323,15 +329,24 @@ fn push_since_line(alloc: Global, text: &mut Vec<u8>, plan: &Plan) -> Result<(),
 
 // ---- how much there is
 
-fn push_count(text: &mut Vec<u8>, number: usize, one: &[u8], many: &[u8]) -> Result<(), AllocError>
+fn push_count<'w>(
+    text: &mut Vec<u8>,
+    number: usize,
+    one: &'w [u8],
+    many: &'w [u8],
+) -> Result<(), AllocError>
     ensures { OnOk result (text.new.items
         ≡ text.old.items ++ count_item number one.now many.now) }
 {
-    text.extend_from_slice(b"<li><b>")?;
-    push_number(text, number)?;
-    text.extend_from_slice(b"</b> ")?;
-    text.extend_from_slice(word_for(number, one, many))?;
-    Ok(())
+    push_pieces(
+        text,
+        &[
+            Piece::Html(b"<li><b>"),
+            Piece::Number(number as u128),
+            Piece::Html(b"</b> "),
+            Piece::Html(word_for(number, one, many)),
+        ],
+    )
 }
 
 fn push_sheet_counts(text: &mut Vec<u8>, plan: &Plan) -> Result<(), AllocError>
@@ -340,8 +355,7 @@ fn push_sheet_counts(text: &mut Vec<u8>, plan: &Plan) -> Result<(), AllocError>
     let sheet = plan.sheet();
     push_count(text, sheet.messages().len(), b"message", b"messages")?;
     push_count(text, signal_count(sheet), b"signal", b"signals")?;
-    push_count(text, sheet.nodes().len(), b"node", b"nodes")?;
-    Ok(())
+    push_count(text, sheet.nodes().len(), b"node", b"nodes")
 }
 
 fn push_net_counts(text: &mut Vec<u8>, plan: &Plan) -> Result<(), AllocError>
@@ -349,8 +363,7 @@ fn push_net_counts(text: &mut Vec<u8>, plan: &Plan) -> Result<(), AllocError>
 {
     push_count(text, plan.teams().len(), b"team", b"teams")?;
     push_count(text, plan.releases().len(), b"release", b"releases")?;
-    push_count(text, plan.held().len(), b"held number", b"held numbers")?;
-    Ok(())
+    push_count(text, plan.held().len(), b"held number", b"held numbers")
 }
 
 fn push_office_counts(text: &mut Vec<u8>, plan: &Plan) -> Result<(), AllocError>
@@ -375,14 +388,10 @@ fn push_counts(text: &mut Vec<u8>, plan: &Plan) -> Result<(), AllocError>
 
 // ---- the parts that there are
 
-fn push_part_if(text: &mut Vec<u8>, there: bool, link: &[u8]) -> Result<(), AllocError>
-    ensures { OnOk result (text.new.items ≡ text.old.items ++ part_if there link.now) }
+fn part_if<'a>(there: bool, link: &'a [u8]) -> &'a [u8]
+    ensures { result.now ≡ part_if there link.now }
 {
-    if there {
-        text.extend_from_slice(link)
-    } else {
-        Ok(())
-    }
+    if there { link } else { &[] }
 }
 
 fn push_first_parts(text: &mut Vec<u8>, plan: &Plan) -> Result<(), AllocError>
@@ -391,12 +400,16 @@ fn push_first_parts(text: &mut Vec<u8>, plan: &Plan) -> Result<(), AllocError>
     let live = plan.subject().is_live();
     let nodes = plan.sheet().nodes().len() != 0;
     let releases = plan.subject().has_releases();
-    text.extend_from_slice(b"<a href=#map>Map</a> ")?;
-    push_part_if(text, live, b"<a href=#left>Numbers left</a> ")?;
-    text.extend_from_slice(b"<a href=#messages>Messages</a> ")?;
-    push_part_if(text, nodes, b"<a href=#nodes>Nodes</a> ")?;
-    push_part_if(text, releases, b"<a href=#releases>Releases</a> ")?;
-    Ok(())
+    push_all(
+        text,
+        &[
+            b"<a href=#map>Map</a> ",
+            part_if(live, b"<a href=#left>Numbers left</a> "),
+            b"<a href=#messages>Messages</a> ",
+            part_if(nodes, b"<a href=#nodes>Nodes</a> "),
+            part_if(releases, b"<a href=#releases>Releases</a> "),
+        ],
+    )
 }
 
 fn push_later_parts(alloc: Global, text: &mut Vec<u8>, plan: &Plan) -> Result<(), AllocError>
@@ -405,11 +418,15 @@ fn push_later_parts(alloc: Global, text: &mut Vec<u8>, plan: &Plan) -> Result<()
     let spns = has_spns(alloc, plan)?;
     let held = plan.held().len() != 0;
     let tables = plan.sheet().tables().len() != 0;
-    push_part_if(text, spns, b"<a href=#spns>SPNs</a> ")?;
-    push_part_if(text, held, b"<a href=#held>Held</a> ")?;
-    push_part_if(text, tables, b"<a href=#tables>Value tables</a> ")?;
-    text.extend_from_slice(b"<a href=#each>Each message</a>")?;
-    Ok(())
+    push_all(
+        text,
+        &[
+            part_if(spns, b"<a href=#spns>SPNs</a> "),
+            part_if(held, b"<a href=#held>Held</a> "),
+            part_if(tables, b"<a href=#tables>Value tables</a> "),
+            b"<a href=#each>Each message</a>",
+        ],
+    )
 }
 
 fn push_parts(alloc: Global, text: &mut Vec<u8>, plan: &Plan) -> Result<(), AllocError>
@@ -430,8 +447,7 @@ fn push_rest(alloc: Global, text: &mut Vec<u8>, plan: &Plan) -> Result<(), Alloc
     push_since_line(alloc, text, plan)?;
     push_comment(text, plan.sheet().comment().as_bytes())?;
     push_counts(text, plan)?;
-    push_parts(alloc, text, plan)?;
-    Ok(())
+    push_parts(alloc, text, plan)
 }
 
 /// Appends the head of the page of a sheet alone.
@@ -444,8 +460,7 @@ pub(crate) fn push_sheet_head(
 {
     text.extend_from_slice(b"<header>")?;
     push_title(text, plan)?;
-    push_rest(alloc, text, plan)?;
-    Ok(())
+    push_rest(alloc, text, plan)
 }
 
 /// Appends the head of the page of a live network.
@@ -461,6 +476,5 @@ pub(crate) fn push_net_head(
     text.extend_from_slice(b"<header>")?;
     push_title(text, plan)?;
     push_phase_line(alloc, text, view, plan)?;
-    push_rest(alloc, text, plan)?;
-    Ok(())
+    push_rest(alloc, text, plan)
 }

@@ -9,7 +9,7 @@
 //! A page shows a plan (`page_plan`). `specs/Page.antt` joins its parts, which are those of `page_numbers`,
 //! `page_lists` and `page_messages`, below the head and the style of this crate. Each function appends to one buffer
 //! what the definition of its name says. What people wrote is escaped (`html`); names need no escape
-//! (`page_plan::names_are_kept`). What has changed is what `dbc_pairs` gives, and what is left what the looks show
+//! (`page_plan::names_are_kept`). What has changed is what `dbc_sheet` gives, and what is left what the looks show
 //! (`office_looks`).
 //!
 //! Nothing here decides anything: no crate that does uses it.

@@ -9,12 +9,11 @@ ghost use Rattle.page_plan.specs.declared.subject.Subject.TheVariants.{Release};
 use crate::head::{push_net_head, push_sheet_head};
 use crate::style::push_style;
 use dbc_sheet::Sheet;
-use html::push_text;
 use office_seen::View;
 use page_lists::{push_held, push_messages, push_nodes, push_releases, push_spns, push_tables};
 use page_messages::push_each;
 use page_numbers::{push_left, push_map};
-use page_plan::{Plan, Subject};
+use page_plan::{Piece, Plan, Subject, push_pieces};
 use std::alloc::{AllocError, Global};
 
 /// The document up to its title.
@@ -33,12 +32,16 @@ fn document_start() -> &'static [u8]
 fn push_document_head(text: &mut Vec<u8>, name: &[u8]) -> Result<(), AllocError>
     ensures { OnOk result (text.new.items ≡ text.old.items ++ document_head name.now) }
 {
-    text.extend_from_slice(document_start())?;
-    push_text(text, name)?;
-    text.extend_from_slice(b": messages and numbers</title>\n<style>\n")?;
+    push_pieces(
+        text,
+        &[
+            Piece::Html(document_start()),
+            Piece::Text(name),
+            Piece::Html(b": messages and numbers</title>\n<style>\n"),
+        ],
+    )?;
     push_style(text)?;
-    text.extend_from_slice(b"</style></head>\n<body>")?;
-    Ok(())
+    text.extend_from_slice(b"</style></head>\n<body>")
 }
 
 /// Appends the lists: messages, nodes, releases, suspect parameter numbers.
@@ -48,8 +51,7 @@ fn push_lists(alloc: Global, text: &mut Vec<u8>, plan: &Plan) -> Result<(), Allo
     push_messages(alloc, text, plan)?;
     push_nodes(alloc, text, plan)?;
     push_releases(alloc, text, plan)?;
-    push_spns(alloc, text, plan)?;
-    Ok(())
+    push_spns(alloc, text, plan)
 }
 
 /// Appends the last parts, and the end.
@@ -76,8 +78,7 @@ fn push_net_page(
     push_left(alloc, text, view, plan)?;
     push_lists(alloc, text, plan)?;
     push_held(alloc, text, view, plan)?;
-    push_last(alloc, text, plan)?;
-    Ok(())
+    push_last(alloc, text, plan)
 }
 
 /// The page of a live network, with this plan.
@@ -96,8 +97,7 @@ fn push_sheet_page(alloc: Global, text: &mut Vec<u8>, plan: &Plan) -> Result<(),
     push_sheet_head(alloc, text, plan)?;
     push_map(alloc, text, plan)?;
     push_lists(alloc, text, plan)?;
-    push_last(alloc, text, plan)?;
-    Ok(())
+    push_last(alloc, text, plan)
 }
 
 /// The page of a sheet alone.

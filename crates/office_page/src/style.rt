@@ -4,6 +4,7 @@ ghost use Rattle.office_page.specs.Style.{bits_style, first_style, later_style, 
 ghost use Rattle.office_page.specs.Style.{map_style, narrow_style, page_style, print_style, small_style, style};
 ghost use Rattle.office_page.specs.Style.{tables_style};
 
+use html::push_all;
 use std::alloc::AllocError;
 
 /// The page: colours, light and dark, texts, links.
@@ -188,22 +189,25 @@ fn print_style() -> &'static [u8]
 fn push_first_style(text: &mut Vec<u8>) -> Result<(), AllocError>
     ensures { OnOk result (text.new.items ≡ text.old.items ++ first_style) }
 {
-    text.extend_from_slice(page_style())?;
-    text.extend_from_slice(letters_style())?;
-    text.extend_from_slice(tables_style())?;
-    text.extend_from_slice(map_style())?;
-    Ok(())
+    push_all(
+        text,
+        &[page_style(), letters_style(), tables_style(), map_style()],
+    )
 }
 
 fn push_later_style(text: &mut Vec<u8>) -> Result<(), AllocError>
     ensures { OnOk result (text.new.items ≡ text.old.items ++ later_style) }
 {
-    text.extend_from_slice(bits_style())?;
-    text.extend_from_slice(lists_style())?;
-    text.extend_from_slice(narrow_style())?;
-    text.extend_from_slice(small_style())?;
-    text.extend_from_slice(print_style())?;
-    Ok(())
+    push_all(
+        text,
+        &[
+            bits_style(),
+            lists_style(),
+            narrow_style(),
+            small_style(),
+            print_style(),
+        ],
+    )
 }
 
 /// Appends how the page looks.
@@ -211,6 +215,5 @@ pub(crate) fn push_style(text: &mut Vec<u8>) -> Result<(), AllocError>
     ensures { OnOk result (text.new.items ≡ text.old.items ++ style) }
 {
     push_first_style(text)?;
-    push_later_style(text)?;
-    Ok(())
+    push_later_style(text)
 }

@@ -14,8 +14,8 @@ use crate::mark::{Mark, mark_start};
 use base::Items;
 use can_id::{Ident, J1939};
 use dbc_sheet::{Counts, Message, Sheet, Signal, partner};
-use html::{push_joined, push_number};
-use page_plan::{Plan, push_counted, push_ident_code, push_message_link};
+use html::{push_all, push_joined};
+use page_plan::{Piece, Plan, push_counted, push_ident_code, push_message_link, push_pieces};
 use std::alloc::{AllocError, Global};
 
 /// The signal of the name.
@@ -35,25 +35,33 @@ fn is_absent(signals: &[Signal], signal: &Signal) -> bool
 fn push_removed_line(text: &mut Vec<u8>, signal: &Signal) -> Result<(), AllocError>
     ensures { OnOk result (text.new.items ≡ text.old.items ++ removed_line signal.now) }
 {
-    text.extend_from_slice(mark_start(Mark::Removed))?;
-    text.extend_from_slice(b"signal ")?;
-    text.extend_from_slice(signal.name.as_bytes())?;
-    text.extend_from_slice(b"\n")?;
-    Ok(())
+    push_pieces(
+        text,
+        &[
+            Piece::Html(mark_start(Mark::Removed)),
+            Piece::Html(b"signal "),
+            Piece::Html(signal.name.as_bytes()),
+            Piece::Html(b"\n"),
+        ],
+    )
 }
 
 fn push_added_line(text: &mut Vec<u8>, signal: &Signal) -> Result<(), AllocError>
     ensures { OnOk result (text.new.items ≡ text.old.items ++ added_line signal.now) }
 {
-    text.extend_from_slice(mark_start(Mark::Added))?;
-    text.extend_from_slice(b"signal ")?;
-    text.extend_from_slice(signal.name.as_bytes())?;
-    text.extend_from_slice(b", ")?;
-    push_number(text, usize::from(signal.layout.start))?;
-    text.extend_from_slice(b"|")?;
-    push_number(text, usize::from(signal.layout.size.bits()))?;
-    text.extend_from_slice(b"\n")?;
-    Ok(())
+    push_pieces(
+        text,
+        &[
+            Piece::Html(mark_start(Mark::Added)),
+            Piece::Html(b"signal "),
+            Piece::Html(signal.name.as_bytes()),
+            Piece::Html(b", "),
+            Piece::Number(u128::from(signal.layout.start)),
+            Piece::Html(b"|"),
+            Piece::Number(u128::from(signal.layout.size.bits())),
+            Piece::Html(b"\n"),
+        ],
+    )
 }
 
 /// Appends the line of what differs, after what it is about; nothing where nothing does.
@@ -68,11 +76,10 @@ fn push_differing_line(
     if differences.len() == 0 {
         return Ok(());
     }
-    text.extend_from_slice(mark_start(Mark::Changed))?;
-    text.extend_from_slice(about)?;
+    let start = Piece::Html(mark_start(Mark::Changed));
+    push_pieces(text, &[start, Piece::Html(about)])?;
     push_joined(text, b"; ", differences)?;
-    text.extend_from_slice(b"\n")?;
-    Ok(())
+    text.extend_from_slice(b"\n")
 }
 
 /// Appends the line of what differs in two signals of a name.
@@ -89,9 +96,8 @@ fn push_changed(
         return Ok(());
     };
     let differences = signal_differences(alloc, old, signal)?;
-    let mut about = Vec::from_slice(alloc, b"signal ")?;
-    about.extend_from_slice(signal.name.as_bytes())?;
-    about.extend_from_slice(b": ")?;
+    let mut about = Vec::new(alloc);
+    push_all(&mut about, &[b"signal ", signal.name.as_bytes(), b": "])?;
     push_differing_line(text, &about, differences.as_slice())
 }
 
@@ -150,8 +156,7 @@ fn push_signal_lines(
 {
     push_removed_lines(text, old, new)?;
     push_added_lines(text, old, new)?;
-    push_changed_lines(alloc, text, old, new)?;
-    Ok(())
+    push_changed_lines(alloc, text, old, new)
 }
 
 /// What has changed in the message itself and in its signals.
@@ -221,8 +226,8 @@ fn push_group(text: &mut Vec<u8>, ident: &Ident) -> Result<(), AllocError>
 {
     match J1939::of(*ident) {
         Some(fields) => {
-            text.extend_from_slice(b" PGN ")?;
-            push_number(text, fields.pgn() as usize)
+            let group = Piece::Number(u128::from(fields.pgn()));
+            push_pieces(text, &[Piece::Html(b" PGN "), group])
         }
         None => Ok(()),
     }
@@ -240,8 +245,7 @@ fn push_about(alloc: Global, text: &mut Vec<u8>, message: &Message) -> Result<()
         message.signals.as_slice().len(),
         b"signal",
         b"signals",
-    )?;
-    Ok(())
+    )
 }
 
 /// Appends the line of a message that was added or removed.
@@ -255,13 +259,11 @@ fn push_message_line(
     ensures { OnOk result (text.new.items
         ≡ text.old.items ++ message_line mark plan.now message.now) }
 {
-    text.extend_from_slice(mark_start(mark))?;
-    text.extend_from_slice(b"message ")?;
+    push_all(text, &[mark_start(mark), b"message "])?;
     push_name(text, plan, message)?;
     text.extend_from_slice(b" ")?;
     push_about(alloc, text, message)?;
-    text.extend_from_slice(b"\n")?;
-    Ok(())
+    text.extend_from_slice(b"\n")
 }
 
 /// Appends what has changed in a message, with its name.
@@ -382,9 +384,8 @@ fn add_count(
         return Ok(());
     }
     let mut text = Vec::new(alloc);
-    push_number(&mut text, count)?;
-    text.extend_from_slice(b" ")?;
-    text.extend_from_slice(word)?;
+    let number = Piece::Number(count as u128);
+    push_pieces(&mut text, &[number, Piece::Html(b" "), Piece::Html(word)])?;
     words.push(Items::from_vec(text))
 }
 

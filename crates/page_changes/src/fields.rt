@@ -9,7 +9,7 @@ use base::Items;
 use bitlayout::Order;
 use dbc_sheet::{Message, Signal};
 use dbc_words::{Spn, ValueType};
-use html::{push_names, push_number, push_text};
+use html::{push_all, push_names, push_number, push_text};
 use page_plan::sender_of;
 use std::alloc::{AllocError, Global};
 
@@ -103,9 +103,8 @@ fn type_word(signed: bool, value_type: ValueType) -> &'static [u8]
 fn push_coding(text: &mut Vec<u8>, signal: &Signal) -> Result<(), AllocError>
     ensures { OnOk result (text.new.items ≡ text.old.items ++ coding signal.now) }
 {
-    text.extend_from_slice(order_word(signal.layout.order))?;
-    text.extend_from_slice(type_word(signal.signed, signal.value_type))?;
-    Ok(())
+    let order = order_word(signal.layout.order);
+    push_all(text, &[order, type_word(signal.signed, signal.value_type)])
 }
 
 /// Appends the suspect parameter number, if there is one.
@@ -238,11 +237,11 @@ fn difference(
     if old == new {
         return Ok(None);
     }
-    let mut text = Vec::from_slice(alloc, label)?;
-    text.extend_from_slice(b" ")?;
-    text.extend_from_slice(or_none(old))?;
-    text.extend_from_slice(b" &#8594; ")?;
-    text.extend_from_slice(or_none(new))?;
+    let mut text = Vec::new(alloc);
+    push_all(
+        &mut text,
+        &[label, b" ", or_none(old), b" &#8594; ", or_none(new)],
+    )?;
     Ok(Some(Items::from_vec(text)))
 }
 

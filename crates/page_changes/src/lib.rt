@@ -1,6 +1,6 @@
 //! What has changed from one sheet to another, as a list on a page.
 //!
-//! [`push_changes`] appends the messages that were added, removed and changed, which are those of `dbc_pairs`, and
+//! [`push_changes`] appends the messages that were added, removed and changed, which are those of `dbc_sheet`, and
 //! [`push_message_changes`] what has changed in one of them: its fields, the signals that are gone or new, and the
 //! fields of the others ([`signal_text`], [`push_spn`] and [`push_values`] are their texts). [`push_summed`] appends
 //! the numbers of them all. Each fails only if memory runs out. `specs/Changes.antt` and `Fields.antt` have the

@@ -3,17 +3,21 @@ ghost use Rattle.std.specs.Prelude.{◌≡◌, ◌++◌, OnOk};
 ghost use Rattle.page_changes.specs.Values.{later_values, value_text, values_text};
 
 use dbc_sheet::ValueText;
-use html::push_text;
+use page_plan::{Piece, push_pieces};
 use std::alloc::AllocError;
 
 /// Appends a value and its text.
 fn push_value(text: &mut Vec<u8>, value: &ValueText) -> Result<(), AllocError>
     ensures { OnOk result (text.new.items ≡ text.old.items ++ value_text value.now) }
 {
-    value.value.print_into(text)?;
-    text.extend_from_slice(b"&#160;")?;
-    push_text(text, value.text.as_bytes())?;
-    Ok(())
+    push_pieces(
+        text,
+        &[
+            Piece::Decimal(&value.value),
+            Piece::Html(b"&#160;"),
+            Piece::Text(value.text.as_bytes()),
+        ],
+    )
 }
 
 fn push_later_values(text: &mut Vec<u8>, values: &[ValueText]) -> Result<(), AllocError>

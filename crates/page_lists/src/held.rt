@@ -3,21 +3,22 @@ ghost use Rattle.std.specs.Prelude.{◌≡◌, [], ◌++◌, OnOk, unwrap_or};
 ghost use Rattle.std.specs.List.{flat_map};
 ghost use Rattle.office_looks.specs.Held.{last_name, team_of};
 ghost use Rattle.page_lists.specs.Held.{group_or_none, held_numbers, held_part, held_row, held_section};
+ghost use Rattle.page_plan.specs.Pieces.{piece_text};
 
 use can_id::{Ident, J1939};
-use html::{push_number, push_table_start};
+use html::{push_all, push_table_start};
 use office_looks::{last_name, team_of};
 use office_seen::View;
-use page_plan::{Plan, push_badge, push_ident_code, push_releases_with};
+use page_plan::{Piece, Plan, push_badge, push_ident_code, push_pieces, push_releases_with};
 use std::alloc::{AllocError, Global};
 
-/// Appends the identifier's parameter group, if it has one.
-fn push_group(text: &mut Vec<u8>, ident: &Ident) -> Result<(), AllocError>
-    ensures { OnOk result (text.new.items ≡ text.old.items ++ group_or_none ident.now) }
+/// The identifier's parameter group, if it has one.
+fn group_or_none(ident: &Ident) -> Piece<'static>
+    ensures { piece_text result ≡ group_or_none ident.now }
 {
     match J1939::of(*ident) {
-        Some(fields) => push_number(text, fields.pgn() as usize),
-        None => Ok(()),
+        Some(fields) => Piece::Number(u128::from(fields.pgn())),
+        None => Piece::Html(b""),
     }
 }
 
@@ -26,11 +27,15 @@ fn push_held_numbers(alloc: Global, text: &mut Vec<u8>, ident: &Ident) -> Result
 {
     text.extend_from_slice(b"<tr><th>")?;
     push_ident_code(alloc, text, ident)?;
-    text.extend_from_slice(b"<td>")?;
-    push_number(text, ident.to_dbc() as usize)?;
-    text.extend_from_slice(b"<td>")?;
-    push_group(text, ident)?;
-    Ok(())
+    push_pieces(
+        text,
+        &[
+            Piece::Html(b"<td>"),
+            Piece::Number(u128::from(ident.to_dbc())),
+            Piece::Html(b"<td>"),
+            group_or_none(ident),
+        ],
+    )
 }
 
 /// The identifier's last name, no bytes where it has none.
@@ -64,9 +69,7 @@ fn push_held_row(
         ≡ text.old.items ++ held_row view.now plan.now ident.now) }
 {
     push_held_numbers(alloc, text, ident)?;
-    text.extend_from_slice(b"<td>")?;
-    text.extend_from_slice(name_of(view, ident))?;
-    text.extend_from_slice(b"<td>")?;
+    push_all(text, &[b"<td>", name_of(view, ident), b"<td>"])?;
     push_releases_with(alloc, text, view.releases.as_slice(), ident.to_dbc())?;
     text.extend_from_slice(b"<td>")?;
     push_badge(text, plan, block_team(view, ident))?;
@@ -105,8 +108,7 @@ fn push_section(
         b"<th>Number<th>DBC number<th>PGN<th>Last name<th>Releases<th>In the block of",
     )?;
     push_held_rows(alloc, text, view, plan, view.held.as_slice())?;
-    text.extend_from_slice(b"</table>\n")?;
-    text.extend_from_slice(b"</section>\n")?;
+    text.extend_from_slice(b"</table>\n</section>\n")?;
     Ok(())
 }
 

@@ -1,80 +1,47 @@
 //! The table of messages.
 ghost use Rattle.std.specs.Prelude.{◌≡◌, ◌++◌, IfOk, OnOk, length};
 ghost use Rattle.std.specs.List.{flat_map};
-ghost use Rattle.page_lists.specs.Messages.{group_cell, group_cells, group_heads, heads_since, message_heads};
+ghost use Rattle.page_lists.specs.Messages.{group_cell, group_cells, group_heads, message_heads};
 ghost use Rattle.page_lists.specs.Messages.{message_row};
-ghost use Rattle.page_lists.specs.Messages.{messages_part, number_cells, owner_cell, owner_head, people_cells};
-ghost use Rattle.page_lists.specs.Messages.{release_cells, release_heads, sender_cell, size_cells, source_cell};
+ghost use Rattle.page_lists.specs.Messages.{messages_part, number_cells, owner_head, people_cells};
+ghost use Rattle.page_lists.specs.Messages.{release_cells, release_heads, size_cells, source_cell};
+ghost use Rattle.page_plan.specs.Pieces.{piece_text};
 ghost use Rattle.page_plan.specs.Plan.{owned};
 ghost use Rattle.page_messages.specs.Used.{used_bits};
 
 use can_id::{Ident, J1939};
 use dbc_sheet::Message;
-use html::{push_number, push_table_start};
+use html::{push_all, push_table_start};
 use page_messages::used_bits;
 use page_plan::{
-    Label, Plan, owned_count, push_badge, push_ident_code, push_message_link, push_releases_with,
-    push_state, sender_of,
+    Label, Piece, Plan, owned_count, push_badge, push_ident_code, push_message_link, push_pieces,
+    push_releases_with, push_state, sender_of,
 };
 use std::alloc::{AllocError, Global};
 
-/// Appends the identifier's parameter group, where it has one that is shown.
-fn push_group(text: &mut Vec<u8>, plan: &Plan, ident: &Ident) -> Result<(), AllocError>
-    ensures { OnOk result (text.new.items ≡ text.old.items ++ group_cell plan.now ident.now) }
+/// The identifier's parameter group, where it has one that is shown.
+fn group_cell(plan: &Plan, ident: &Ident) -> Piece<'static>
+    ensures { piece_text result ≡ group_cell plan.now ident.now }
 {
     if !plan.subject().shows_groups() {
-        return Ok(());
+        return Piece::Html(b"");
     }
     match J1939::of(*ident) {
-        Some(fields) => push_number(text, fields.pgn() as usize),
-        None => Ok(()),
+        Some(fields) => Piece::Number(u128::from(fields.pgn())),
+        None => Piece::Html(b""),
     }
 }
 
-/// Appends the identifier's source address, where it has one that is shown.
-fn push_source(text: &mut Vec<u8>, plan: &Plan, ident: &Ident) -> Result<(), AllocError>
-    ensures { OnOk result (text.new.items ≡ text.old.items ++ source_cell plan.now ident.now) }
+/// The identifier's source address, where it has one that is shown.
+fn source_cell(plan: &Plan, ident: &Ident) -> Piece<'static>
+    ensures { piece_text result ≡ source_cell plan.now ident.now }
 {
     if !plan.subject().shows_groups() {
-        return Ok(());
+        return Piece::Html(b"");
     }
     match J1939::of(*ident) {
-        Some(fields) => push_number(text, usize::from(fields.source())),
-        None => Ok(()),
-    }
-}
-
-/// Appends the node that sends the message; of a sheet alone its badge.
-fn push_sender(
-    text: &mut Vec<u8>,
-    plan: &Plan,
-    message: &Message,
-    owner: &Label,
-) -> Result<(), AllocError>
-    ensures { OnOk result (text.new.items
-        ≡ text.old.items ++ sender_cell plan.now (message.now, owner.now)) }
-{
-    if plan.subject().is_live() {
-        text.extend_from_slice(sender_of(message))
-    } else {
-        push_badge(text, plan, owner.as_bytes())
-    }
-}
-
-/// Appends the badge of the team that owns the message, if teams do.
-fn push_owner(
-    text: &mut Vec<u8>,
-    plan: &Plan,
-    message: &Message,
-    owner: &Label,
-) -> Result<(), AllocError>
-    ensures { OnOk result (text.new.items
-        ≡ text.old.items ++ owner_cell plan.now (message.now, owner.now)) }
-{
-    if plan.subject().is_live() {
-        push_badge(text, plan, owner.as_bytes())
-    } else {
-        Ok(())
+        Some(fields) => Piece::Number(u128::from(fields.source())),
+        None => Piece::Html(b""),
     }
 }
 
@@ -85,31 +52,36 @@ fn push_number_cells(alloc: Global, text: &mut Vec<u8>, message: &Message) -> Re
     push_message_link(text, message.name.as_bytes())?;
     text.extend_from_slice(b"<td>")?;
     push_ident_code(alloc, text, &message.ident)?;
-    text.extend_from_slice(b"<td>")?;
-    push_number(text, message.number() as usize)?;
-    Ok(())
+    push_pieces(
+        text,
+        &[
+            Piece::Html(b"<td>"),
+            Piece::Number(u128::from(message.number())),
+        ],
+    )
 }
 
-fn push_group_cells(text: &mut Vec<u8>, plan: &Plan, message: &Message) -> Result<(), AllocError>
-    ensures { OnOk result (text.new.items ≡ text.old.items ++ group_cells plan.now message.now) }
+/// Appends parameter group, source address, bytes and bits that are used.
+fn push_field_cells(text: &mut Vec<u8>, plan: &Plan, message: &Message) -> Result<(), AllocError>
+    ensures { OnOk result (text.new.items ≡ text.old.items
+        ++ (group_cells plan.now message.now ++ size_cells message.now)) }
 {
-    text.extend_from_slice(b"<td>")?;
-    push_group(text, plan, &message.ident)?;
-    text.extend_from_slice(b"<td>")?;
-    push_source(text, plan, &message.ident)?;
-    Ok(())
+    push_pieces(
+        text,
+        &[
+            Piece::Html(b"<td>"),
+            group_cell(plan, &message.ident),
+            Piece::Html(b"<td>"),
+            source_cell(plan, &message.ident),
+            Piece::Html(b"<td>"),
+            Piece::Number(u128::from(message.length.bytes())),
+            Piece::Html(b"<td>"),
+            Piece::Number(used_bits(message) as u128),
+        ],
+    )
 }
 
-fn push_size_cells(text: &mut Vec<u8>, message: &Message) -> Result<(), AllocError>
-    ensures { OnOk result (text.new.items ≡ text.old.items ++ size_cells message.now) }
-{
-    text.extend_from_slice(b"<td>")?;
-    push_number(text, usize::from(message.length.bytes()))?;
-    text.extend_from_slice(b"<td>")?;
-    push_number(text, used_bits(message))?;
-    Ok(())
-}
-
+/// Appends the node that sends the message, and the badge of the team that owns it; of a sheet alone the node's badge.
 fn push_people_cells(
     text: &mut Vec<u8>,
     plan: &Plan,
@@ -119,11 +91,14 @@ fn push_people_cells(
     ensures { OnOk result (text.new.items
         ≡ text.old.items ++ people_cells plan.now (message.now, owner.now)) }
 {
-    text.extend_from_slice(b"<td>")?;
-    push_sender(text, plan, message, owner)?;
-    text.extend_from_slice(b"<td>")?;
-    push_owner(text, plan, message, owner)?;
-    Ok(())
+    if plan.subject().is_live() {
+        push_all(text, &[b"<td>", sender_of(message), b"<td>"])?;
+        push_badge(text, plan, owner.as_bytes())
+    } else {
+        text.extend_from_slice(b"<td>")?;
+        push_badge(text, plan, owner.as_bytes())?;
+        text.extend_from_slice(b"<td>")
+    }
 }
 
 fn push_release_cells(
@@ -138,8 +113,7 @@ fn push_release_cells(
     push_releases_with(alloc, text, plan.releases(), message.number())?;
     text.extend_from_slice(b"<td>")?;
     push_state(alloc, text, plan, message)?;
-    text.extend_from_slice(b"\n")?;
-    Ok(())
+    text.extend_from_slice(b"\n")
 }
 
 /// Appends the row of a message of this owner.
@@ -154,11 +128,9 @@ fn push_message_row(
         ≡ text.old.items ++ message_row plan.now (message.now, owner.now)) }
 {
     push_number_cells(alloc, text, message)?;
-    push_group_cells(text, plan, message)?;
-    push_size_cells(text, message)?;
+    push_field_cells(text, plan, message)?;
     push_people_cells(text, plan, message, owner)?;
-    push_release_cells(alloc, text, plan, message)?;
-    Ok(())
+    push_release_cells(alloc, text, plan, message)
 }
 
 /// Appends the rows of the messages.
@@ -197,14 +169,6 @@ fn owner_head(plan: &Plan) -> &'static [u8]
     }
 }
 
-fn push_heads_since(text: &mut Vec<u8>, releases: usize) -> Result<(), AllocError>
-    ensures { OnOk result (text.new.items ≡ text.old.items ++ heads_since releases) }
-{
-    text.extend_from_slice(b"<th>Releases<th>Since ")?;
-    push_number(text, releases)?;
-    Ok(())
-}
-
 /// Appends the heads of what so many releases say.
 fn push_release_heads(text: &mut Vec<u8>, releases: usize) -> Result<(), AllocError>
     ensures { OnOk result (text.new.items ≡ text.old.items ++ release_heads releases) }
@@ -212,19 +176,14 @@ fn push_release_heads(text: &mut Vec<u8>, releases: usize) -> Result<(), AllocEr
     if releases == 0 {
         text.extend_from_slice(b"<th><th>")
     } else {
-        push_heads_since(text, releases)
+        push_pieces(
+            text,
+            &[
+                Piece::Html(b"<th>Releases<th>Since "),
+                Piece::Number(releases as u128),
+            ],
+        )
     }
-}
-
-fn push_message_heads(text: &mut Vec<u8>, plan: &Plan) -> Result<(), AllocError>
-    ensures { OnOk result (text.new.items ≡ text.old.items ++ message_heads plan.now) }
-{
-    text.extend_from_slice(b"<th>Message<th>Number<th>DBC number")?;
-    text.extend_from_slice(group_heads(plan))?;
-    text.extend_from_slice(b"<th>Bytes<th>Bits used<th>Sent by")?;
-    text.extend_from_slice(owner_head(plan))?;
-    push_release_heads(text, plan.releases().len())?;
-    Ok(())
 }
 
 /// The heads of the table.
@@ -232,7 +191,16 @@ fn message_heads(alloc: Global, plan: &Plan) -> Result<Vec<u8>, AllocError>
     ensures { IfOk result (λ heads. heads.items ≡ message_heads plan.now) }
 {
     let mut heads = Vec::new(alloc);
-    push_message_heads(&mut heads, plan)?;
+    push_all(
+        &mut heads,
+        &[
+            b"<th>Message<th>Number<th>DBC number",
+            group_heads(plan),
+            b"<th>Bytes<th>Bits used<th>Sent by",
+            owner_head(plan),
+        ],
+    )?;
+    push_release_heads(&mut heads, plan.releases().len())?;
     Ok(heads)
 }
 
@@ -244,7 +212,6 @@ pub fn push_messages(alloc: Global, text: &mut Vec<u8>, plan: &Plan) -> Result<(
     text.extend_from_slice(b"<section id=messages><h2>Messages</h2>\n")?;
     push_table_start(text, b"t", &heads)?;
     push_message_rows(alloc, text, plan)?;
-    text.extend_from_slice(b"</table>\n")?;
-    text.extend_from_slice(b"</section>\n")?;
+    text.extend_from_slice(b"</table>\n</section>\n")?;
     Ok(())
 }

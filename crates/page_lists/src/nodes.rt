@@ -9,9 +9,9 @@ ghost use Rattle.page_lists.specs.Nodes.{uses_table};
 
 use dbc_sheet::{Message, Node};
 use dbc_words::Name;
-use html::{push_number, push_table_start, push_text};
+use html::{push_all, push_table_start};
 use office_looks::{Tally, received_tally, receives, sends, sent_tally};
-use page_plan::{Plan, push_message_link};
+use page_plan::{Piece, Plan, push_message_link, push_pieces};
 use std::alloc::{AllocError, Global};
 
 /// How many nodes the matrix has at most.
@@ -27,16 +27,20 @@ fn push_node_row(
     ensures { OnOk result (text.new.items ≡ text.old.items
         ++ counts_row (times sent.now node.now.name) (times received.now node.now.name) node.now) }
 {
-    text.extend_from_slice(b"<tr><th>")?;
-    text.extend_from_slice(node.name.as_bytes())?;
-    text.extend_from_slice(b"<td>")?;
-    push_number(text, sent.times(&node.name))?;
-    text.extend_from_slice(b"<td>")?;
-    push_number(text, received.times(&node.name))?;
-    text.extend_from_slice(b"<td>")?;
-    push_text(text, node.comment.as_bytes())?;
-    text.extend_from_slice(b"\n")?;
-    Ok(())
+    push_pieces(
+        text,
+        &[
+            Piece::Html(b"<tr><th>"),
+            Piece::Html(node.name.as_bytes()),
+            Piece::Html(b"<td>"),
+            Piece::Number(sent.times(&node.name) as u128),
+            Piece::Html(b"<td>"),
+            Piece::Number(received.times(&node.name) as u128),
+            Piece::Html(b"<td>"),
+            Piece::Text(node.comment.as_bytes()),
+            Piece::Html(b"\n"),
+        ],
+    )
 }
 
 /// Appends the rows of the nodes.
@@ -94,8 +98,7 @@ fn push_node_table(
 {
     push_table_start(text, b"c", node_heads(nodes))?;
     push_node_rows(alloc, text, messages, nodes)?;
-    text.extend_from_slice(b"</table>\n")?;
-    Ok(())
+    text.extend_from_slice(b"</table>\n")
 }
 
 /// Whether the node receives a signal of the message.
@@ -111,25 +114,25 @@ fn receives_some(node: &Name, message: &Message) -> bool
     0 < count
 }
 
-/// Appends the mark, if the node has it.
-fn push_mark(text: &mut Vec<u8>, has: bool, mark: &[u8]) -> Result<(), AllocError>
-    ensures { OnOk result (text.new.items ≡ text.old.items ++ mark_if has mark.now) }
+/// The mark, if the node has it.
+fn mark_if<'a>(has: bool, mark: &'a [u8]) -> &'a [u8]
+    ensures { result.now ≡ mark_if has mark.now }
 {
-    if has {
-        text.extend_from_slice(mark)
-    } else {
-        Ok(())
-    }
+    if has { mark } else { &[] }
 }
 
 /// Appends the cell of a message and a node.
 fn push_use_cell(text: &mut Vec<u8>, message: &Message, node: &Node) -> Result<(), AllocError>
     ensures { OnOk result (text.new.items ≡ text.old.items ++ use_cell message.now node.now) }
 {
-    text.extend_from_slice(b"<td>")?;
-    push_mark(text, sends(&node.name, message), b"<b>S</b>")?;
-    push_mark(text, receives_some(&node.name, message), b"r")?;
-    Ok(())
+    push_all(
+        text,
+        &[
+            b"<td>",
+            mark_if(sends(&node.name, message), b"<b>S</b>"),
+            mark_if(receives_some(&node.name, message), b"r"),
+        ],
+    )
 }
 
 fn push_use_cells(text: &mut Vec<u8>, message: &Message, nodes: &[Node]) -> Result<(), AllocError>
@@ -149,8 +152,7 @@ fn push_use_row(text: &mut Vec<u8>, nodes: &[Node], message: &Message) -> Result
     text.extend_from_slice(b"<tr><th>")?;
     push_message_link(text, message.name.as_bytes())?;
     push_use_cells(text, message, nodes)?;
-    text.extend_from_slice(b"\n")?;
-    Ok(())
+    text.extend_from_slice(b"\n")
 }
 
 fn push_use_rows(text: &mut Vec<u8>, nodes: &[Node], messages: &[Message]) -> Result<(), AllocError>
@@ -166,10 +168,7 @@ fn push_use_rows(text: &mut Vec<u8>, nodes: &[Node], messages: &[Message]) -> Re
 fn push_node_head(text: &mut Vec<u8>, node: &Node) -> Result<(), AllocError>
     ensures { OnOk result (text.new.items ≡ text.old.items ++ node_head node.now) }
 {
-    text.extend_from_slice(b"<th><span>")?;
-    text.extend_from_slice(node.name.as_bytes())?;
-    text.extend_from_slice(b"</span>")?;
-    Ok(())
+    push_all(text, &[b"<th><span>", node.name.as_bytes(), b"</span>"])
 }
 
 fn push_node_heads(text: &mut Vec<u8>, nodes: &[Node]) -> Result<(), AllocError>
@@ -205,8 +204,7 @@ fn push_uses_table(
     )?;
     push_table_start(text, b"x", &heads)?;
     push_use_rows(text, nodes, messages)?;
-    text.extend_from_slice(b"</table>\n")?;
-    text.extend_from_slice(b"</div>\n")?;
+    text.extend_from_slice(b"</table>\n</div>\n")?;
     Ok(())
 }
 

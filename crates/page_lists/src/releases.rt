@@ -6,10 +6,9 @@ ghost use Rattle.page_lists.specs.Releases.{item_after, item_summary, items, lat
 ghost use Rattle.page_lists.specs.Releases.{releases_section, sheet_at, sizes, title_at};
 
 use dbc_sheet::{Counts, Sheet, counts_of};
-use html::push_number;
 use office_views::signal_count;
 use page_changes::{is_nothing, push_changes, push_summed};
-use page_plan::{Plan, push_counted};
+use page_plan::{Piece, Plan, push_counted, push_pieces};
 use std::alloc::{AllocError, Global};
 
 /// The release at an index; at the index after them the sheet of the page.
@@ -36,9 +35,10 @@ fn push_title(text: &mut Vec<u8>, plan: &Plan, index: usize) -> Result<(), Alloc
     if is_live_at(plan, index) {
         return text.extend_from_slice(b"Live");
     }
-    text.extend_from_slice(b"Release ")?;
-    push_number(text, index + 1)?;
-    Ok(())
+    push_pieces(
+        text,
+        &[Piece::Html(b"Release "), Piece::Number(index as u128 + 1)],
+    )
 }
 
 /// Appends what the item is known by on the page.
@@ -49,9 +49,7 @@ fn push_anchor(text: &mut Vec<u8>, plan: &Plan, index: usize) -> Result<(), Allo
     if is_live_at(plan, index) {
         return text.extend_from_slice(b"live");
     }
-    text.extend_from_slice(b"r")?;
-    push_number(text, index + 1)?;
-    Ok(())
+    push_pieces(text, &[Piece::Html(b"r"), Piece::Number(index as u128 + 1)])
 }
 
 /// Appends how many messages and signals the sheet has.
@@ -60,8 +58,7 @@ fn push_sizes(text: &mut Vec<u8>, sheet: &Sheet) -> Result<(), AllocError>
 {
     push_counted(text, sheet.messages().len(), b"message", b"messages")?;
     text.extend_from_slice(b", ")?;
-    push_counted(text, signal_count(sheet), b"signal", b"signals")?;
-    Ok(())
+    push_counted(text, signal_count(sheet), b"signal", b"signals")
 }
 
 /// Appends the item of the first sheet.
@@ -74,8 +71,7 @@ fn push_first_item(text: &mut Vec<u8>, plan: &Plan) -> Result<(), AllocError>
     push_title(text, plan, 0)?;
     text.extend_from_slice(b"</b> <s>")?;
     push_sizes(text, sheet_at(plan, 0))?;
-    text.extend_from_slice(b"</s></p>\n")?;
-    Ok(())
+    text.extend_from_slice(b"</s></p>\n")
 }
 
 /// The tag of a fold, open for the two last.
@@ -99,8 +95,7 @@ fn push_item_start(text: &mut Vec<u8>, plan: &Plan, index: usize) -> Result<(), 
     push_anchor(text, plan, index)?;
     text.extend_from_slice(b"><summary><b>")?;
     push_title(text, plan, index)?;
-    text.extend_from_slice(b"</b> ")?;
-    Ok(())
+    text.extend_from_slice(b"</b> ")
 }
 
 fn push_item_summary(
@@ -114,11 +109,15 @@ fn push_item_summary(
         ≡ text.old.items ++ item_summary number sheet.now counts) }
 {
     push_sizes(text, sheet)?;
-    text.extend_from_slice(b"; since release ")?;
-    push_number(text, number)?;
-    text.extend_from_slice(b": ")?;
-    push_summed(alloc, text, counts)?;
-    Ok(())
+    push_pieces(
+        text,
+        &[
+            Piece::Html(b"; since release "),
+            Piece::Number(number as u128),
+            Piece::Html(b": "),
+        ],
+    )?;
+    push_summed(alloc, text, counts)
 }
 
 /// Appends what has changed, if something has.

@@ -10,11 +10,11 @@ ghost use Rattle.page_lists.specs.Spns.{spn_item, spns_part, spns_section, spns_
 ghost use Rattle.page_lists.specs.Spns.{used_item};
 
 use crate::spn_plan::SpnPlan;
-use html::push_number;
+use html::push_all;
 use office_seen::has_number_in;
 use office_spns::SpnPlace;
 use office_types::BlockForm;
-use page_plan::{Plan, push_counted, push_message_link};
+use page_plan::{Piece, Plan, push_counted, push_message_link, push_pieces};
 use std::alloc::{AllocError, Global};
 
 /// How many numbers aren't folded.
@@ -62,19 +62,21 @@ fn push_live_place(text: &mut Vec<u8>, place: &SpnPlace) -> Result<(), AllocErro
     ensures { OnOk result (text.new.items ≡ text.old.items ++ live_place place.now) }
 {
     push_message_link(text, place.message().name.as_bytes())?;
-    text.extend_from_slice(b".")?;
-    text.extend_from_slice(place.signal().name.as_bytes())?;
-    Ok(())
+    push_all(text, &[b".", place.signal().name.as_bytes()])
 }
 
 /// Appends message and signal.
 fn push_gone_place(text: &mut Vec<u8>, place: &SpnPlace) -> Result<(), AllocError>
     ensures { OnOk result (text.new.items ≡ text.old.items ++ gone_place place.now) }
 {
-    text.extend_from_slice(place.message().name.as_bytes())?;
-    text.extend_from_slice(b".")?;
-    text.extend_from_slice(place.signal().name.as_bytes())?;
-    Ok(())
+    push_all(
+        text,
+        &[
+            place.message().name.as_bytes(),
+            b".",
+            place.signal().name.as_bytes(),
+        ],
+    )
 }
 
 fn push_later_live(text: &mut Vec<u8>, places: &[SpnPlace]) -> Result<(), AllocError>
@@ -129,11 +131,15 @@ fn push_gone_places(text: &mut Vec<u8>, places: &[SpnPlace]) -> Result<(), Alloc
 fn push_number_start(text: &mut Vec<u8>, tag: &[u8], number: u32) -> Result<(), AllocError>
     ensures { OnOk result (text.new.items ≡ text.old.items ++ number_start tag.now number) }
 {
-    text.extend_from_slice(tag)?;
-    text.extend_from_slice(b"<b>")?;
-    push_number(text, number as usize)?;
-    text.extend_from_slice(b"</b> ")?;
-    Ok(())
+    push_pieces(
+        text,
+        &[
+            Piece::Html(tag),
+            Piece::Html(b"<b>"),
+            Piece::Number(u128::from(number)),
+            Piece::Html(b"</b> "),
+        ],
+    )
 }
 
 fn push_live_item(text: &mut Vec<u8>, plan: &SpnPlan, number: u32) -> Result<(), AllocError>
@@ -141,8 +147,7 @@ fn push_live_item(text: &mut Vec<u8>, plan: &SpnPlan, number: u32) -> Result<(),
 {
     push_number_start(text, b"<li>", number)?;
     push_live_places(text, plan.live().places(number))?;
-    text.extend_from_slice(b"\n")?;
-    Ok(())
+    text.extend_from_slice(b"\n")
 }
 
 /// The number of the last release that has the number, 0 where no release has it.
@@ -177,9 +182,14 @@ fn push_gone_item(text: &mut Vec<u8>, plan: &SpnPlan, number: u32) -> Result<(),
     ensures { OnOk result (text.new.items ≡ text.old.items ++ gone_item plan.now number) }
 {
     push_number_start(text, b"<li class=q>", number)?;
-    text.extend_from_slice(b"burnt, last in release ")?;
-    push_number(text, last_release_with(plan, number) as usize)?;
-    text.extend_from_slice(b": ")?;
+    push_pieces(
+        text,
+        &[
+            Piece::Html(b"burnt, last in release "),
+            Piece::Number(u128::from(last_release_with(plan, number))),
+            Piece::Html(b": "),
+        ],
+    )?;
     push_gone_places(text, released_places(plan, number))?;
     text.extend_from_slice(b"\n")?;
     Ok(())
@@ -189,8 +199,7 @@ fn push_used_item(text: &mut Vec<u8>, number: u32) -> Result<(), AllocError>
     ensures { OnOk result (text.new.items ≡ text.old.items ++ used_item number) }
 {
     push_number_start(text, b"<li class=q>", number)?;
-    text.extend_from_slice(b"burnt or on another network\n")?;
-    Ok(())
+    text.extend_from_slice(b"burnt or on another network\n")
 }
 
 fn push_item(text: &mut Vec<u8>, plan: &SpnPlan, number: u32) -> Result<(), AllocError>
@@ -242,10 +251,14 @@ fn push_burnt(text: &mut Vec<u8>, plan: &SpnPlan, numbers: &[u32]) -> Result<(),
     if !plan.plan().subject().is_live() {
         return Ok(());
     }
-    text.extend_from_slice(b", ")?;
-    push_number(text, burnt_count(plan, numbers))?;
-    text.extend_from_slice(b" burnt")?;
-    Ok(())
+    push_pieces(
+        text,
+        &[
+            Piece::Html(b", "),
+            Piece::Number(burnt_count(plan, numbers) as u128),
+            Piece::Html(b" burnt"),
+        ],
+    )
 }
 
 fn push_summary(text: &mut Vec<u8>, plan: &SpnPlan, numbers: &[u32]) -> Result<(), AllocError>
@@ -253,8 +266,7 @@ fn push_summary(text: &mut Vec<u8>, plan: &SpnPlan, numbers: &[u32]) -> Result<(
 {
     push_counted(text, live_count(plan, numbers), b"number", b"numbers")?;
     text.extend_from_slice(b" on signals")?;
-    push_burnt(text, plan, numbers)?;
-    Ok(())
+    push_burnt(text, plan, numbers)
 }
 
 /// The start of the fold, open if the numbers are few.
@@ -271,8 +283,10 @@ fn fold_start(numbers: &[u32]) -> &'static [u8]
 fn push_section(text: &mut Vec<u8>, plan: &SpnPlan, numbers: &[u32]) -> Result<(), AllocError>
     ensures { OnOk result (text.new.items ≡ text.old.items ++ spns_section plan.now numbers.now) }
 {
-    text.extend_from_slice(b"<section id=spns><h2>SPNs</h2>\n")?;
-    text.extend_from_slice(fold_start(numbers))?;
+    push_all(
+        text,
+        &[b"<section id=spns><h2>SPNs</h2>\n", fold_start(numbers)],
+    )?;
     push_summary(text, plan, numbers)?;
     text.extend_from_slice(b"</summary><ul class=n>")?;
     push_items(text, plan, numbers)?;

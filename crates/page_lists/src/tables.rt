@@ -4,6 +4,7 @@ ghost use Rattle.std.specs.List.{flat_map};
 ghost use Rattle.page_lists.specs.Tables.{table_item, tables_part, tables_section};
 
 use dbc_sheet::ValueTable;
+use html::push_all;
 use page_changes::push_values;
 use page_plan::Plan;
 use std::alloc::AllocError;
@@ -11,12 +12,9 @@ use std::alloc::AllocError;
 fn push_table_item(text: &mut Vec<u8>, table: &ValueTable) -> Result<(), AllocError>
     ensures { OnOk result (text.new.items ≡ text.old.items ++ table_item table.now) }
 {
-    text.extend_from_slice(b"<dt>")?;
-    text.extend_from_slice(table.name.as_bytes())?;
-    text.extend_from_slice(b"<dd>")?;
+    push_all(text, &[b"<dt>", table.name.as_bytes(), b"<dd>"])?;
     push_values(text, table.entries.as_slice())?;
-    text.extend_from_slice(b"\n")?;
-    Ok(())
+    text.extend_from_slice(b"\n")
 }
 
 fn push_table_items(text: &mut Vec<u8>, tables: &[ValueTable]) -> Result<(), AllocError>

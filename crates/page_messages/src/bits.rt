@@ -16,11 +16,12 @@ ghost use Rattle.page_messages.specs.Groups.{grouped};
 
 use crate::byte_rows::{Row, join_row};
 use crate::groups::{Group, join};
-use crate::marks::push_star;
+use crate::marks::star;
 use base::{Items, put_item};
 use bitlayout::{Layout, Mux, Order, has_bit, meet};
 use dbc_sheet::{Message, Signal, ValueText};
-use html::{push_number, push_text, push_wide_number};
+use html::push_number;
+use page_plan::{Piece, push_pieces};
 use std::alloc::{AllocError, Global};
 
 /// The bits of a byte, as they are shown from left to right.
@@ -95,21 +96,20 @@ fn push_span(text: &mut Vec<u8>, group: &Group) -> Result<(), AllocError>
         return Ok(());
     }
     let end = u64::from(group.first) + 1;
-    text.extend_from_slice(b" colspan=")?;
-    push_number(text, end.saturating_sub(u64::from(group.last)) as usize)?;
-    Ok(())
+    let columns = u128::from(end.saturating_sub(u64::from(group.last)));
+    push_pieces(text, &[Piece::Html(b" colspan="), Piece::Number(columns)])
 }
 
 /// Appends bits of a raw value.
 fn push_bit_range(text: &mut Vec<u8>, high: u64, low: u64) -> Result<(), AllocError>
     ensures { OnOk result (text.new.items ≡ text.old.items ++ bit_range high low) }
 {
-    push_number(text, high as usize)?;
-    if high != low {
-        text.extend_from_slice(b":")?;
-        push_number(text, low as usize)?;
+    let first = Piece::Number(u128::from(high));
+    if high == low {
+        return push_pieces(text, &[first]);
     }
-    Ok(())
+    let last = Piece::Number(u128::from(low));
+    push_pieces(text, &[first, Piece::Html(b":"), last])
 }
 
 /// Appends bits of a raw value of this size, unless they are all of it.
@@ -121,8 +121,7 @@ fn push_part_of(text: &mut Vec<u8>, size: u64, high: u64, low: u64) -> Result<()
     }
     text.extend_from_slice(b" <s>")?;
     push_bit_range(text, high, low)?;
-    text.extend_from_slice(b"</s>")?;
-    Ok(())
+    text.extend_from_slice(b"</s>")
 }
 
 /// Appends which bits of the signal the group has.
@@ -157,15 +156,19 @@ fn push_signal_cell(
 {
     text.extend_from_slice(b"<td")?;
     push_span(text, group)?;
-    text.extend_from_slice(b" class=")?;
-    text.extend_from_slice(cell_class(signal.mux))?;
-    text.extend_from_slice(b">")?;
-    push_star(text, old, signal)?;
-    push_wide_number(text, index as u128 + 1)?;
-    text.extend_from_slice(b" ")?;
-    text.extend_from_slice(signal.name.as_bytes())?;
-    push_part(text, signal, group)?;
-    Ok(())
+    push_pieces(
+        text,
+        &[
+            Piece::Html(b" class="),
+            Piece::Html(cell_class(signal.mux)),
+            Piece::Html(b">"),
+            Piece::Html(star(old, signal)),
+            Piece::Number(index as u128 + 1),
+            Piece::Html(b" "),
+            Piece::Html(signal.name.as_bytes()),
+        ],
+    )?;
+    push_part(text, signal, group)
 }
 
 /// Appends the cell of the signal at an index, if there is one.
@@ -191,8 +194,8 @@ fn push_clash_numbers(text: &mut Vec<u8>, indices: &[usize]) -> Result<(), Alloc
         ≡ text.old.items ++ flat_map (λ i. codes " " ++ decimal (i + 1)) indices.now) }
 {
     for index in indices {
-        text.extend_from_slice(b" ")?;
-        push_wide_number(text, *index as u128 + 1)?;
+        let number = Piece::Number(*index as u128 + 1);
+        push_pieces(text, &[Piece::Html(b" "), number])?;
     }
     Ok(())
 }
@@ -213,8 +216,7 @@ fn push_free_cell(text: &mut Vec<u8>, group: &Group) -> Result<(), AllocError>
 {
     text.extend_from_slice(b"<td")?;
     push_span(text, group)?;
-    text.extend_from_slice(b">")?;
-    Ok(())
+    text.extend_from_slice(b">")
 }
 
 /// Appends the cell of neighbouring bits.
@@ -302,24 +304,32 @@ fn push_byte_head(text: &mut Vec<u8>, byte: u32) -> Result<(), AllocError>
     ensures { OnOk result (text.new.items ≡ text.old.items ++ byte_head byte) }
 {
     let first = 8 * u64::from(byte);
-    text.extend_from_slice(b"<tr><th>")?;
-    push_number(text, byte as usize)?;
-    text.extend_from_slice(b" <s>")?;
-    push_number(text, (first + 7) as usize)?;
-    text.extend_from_slice(b"-")?;
-    push_number(text, first as usize)?;
-    text.extend_from_slice(b"</s>")?;
-    Ok(())
+    push_pieces(
+        text,
+        &[
+            Piece::Html(b"<tr><th>"),
+            Piece::Number(u128::from(byte)),
+            Piece::Html(b" <s>"),
+            Piece::Number(u128::from(first + 7)),
+            Piece::Html(b"-"),
+            Piece::Number(u128::from(first)),
+            Piece::Html(b"</s>"),
+        ],
+    )
 }
 
 fn push_bytes_head(text: &mut Vec<u8>, first: u32, last: u32) -> Result<(), AllocError>
     ensures { OnOk result (text.new.items ≡ text.old.items ++ bytes_head first last) }
 {
-    text.extend_from_slice(b"<tr><th>")?;
-    push_number(text, first as usize)?;
-    text.extend_from_slice(b"-")?;
-    push_number(text, last as usize)?;
-    Ok(())
+    push_pieces(
+        text,
+        &[
+            Piece::Html(b"<tr><th>"),
+            Piece::Number(u128::from(first)),
+            Piece::Html(b"-"),
+            Piece::Number(u128::from(last)),
+        ],
+    )
 }
 
 /// Appends a byte with its positions, or several bytes.
@@ -338,8 +348,7 @@ fn push_free_row(text: &mut Vec<u8>, first: u32, last: u32) -> Result<(), AllocE
     ensures { OnOk result (text.new.items ≡ text.old.items ++ free_row first last) }
 {
     push_free_head(text, first, last)?;
-    text.extend_from_slice(b"<td colspan=8>")?;
-    Ok(())
+    text.extend_from_slice(b"<td colspan=8>")
 }
 
 /// Appends the row of a byte in which a drawn signal has a bit.
@@ -356,8 +365,7 @@ fn push_drawn_row(
 {
     let groups = bit_groups(alloc, value, signals, byte)?;
     push_byte_head(text, u32::from(byte))?;
-    push_group_cells(text, old, signals, &groups)?;
-    Ok(())
+    push_group_cells(text, old, signals, &groups)
 }
 
 /// Appends a row.
@@ -482,8 +490,8 @@ fn push_value_name(
     match value_with(alloc, &digits, signal.values.as_slice())? {
         None => Ok(()),
         Some(found) => {
-            text.extend_from_slice(b", ")?;
-            push_text(text, found.text.as_bytes())
+            let name = Piece::Text(found.text.as_bytes());
+            push_pieces(text, &[Piece::Html(b", "), name])
         }
     }
 }
@@ -492,10 +500,16 @@ fn push_value_name(
 fn caption(alloc: Global, signal: &Signal, value: u32) -> Result<Vec<u8>, AllocError>
     ensures { IfOk result (λ text. text.items ≡ caption signal.now value) }
 {
-    let mut text = Vec::from_slice(alloc, b"<caption>")?;
-    text.extend_from_slice(signal.name.as_bytes())?;
-    text.extend_from_slice(b" = ")?;
-    push_number(&mut text, value as usize)?;
+    let mut text = Vec::new(alloc);
+    push_pieces(
+        &mut text,
+        &[
+            Piece::Html(b"<caption>"),
+            Piece::Html(signal.name.as_bytes()),
+            Piece::Html(b" = "),
+            Piece::Number(u128::from(value)),
+        ],
+    )?;
     push_value_name(alloc, &mut text, signal, value)?;
     text.extend_from_slice(b"</caption>")?;
     Ok(text)

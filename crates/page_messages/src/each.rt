@@ -15,12 +15,12 @@ use crate::signals::{differ, push_signals};
 use crate::used::used_bits;
 use can_id::{Ident, J1939, has_destination};
 use dbc_sheet::{Message, Sheet, Signal, partner};
-use html::{push_number, push_text};
+use html::push_all;
 use office_seen::last_of;
 use page_changes::{SignalField, push_message_changes, signal_text};
 use page_plan::{
-    Label, Plan, numbers_with, owned_count, push_badge, push_counted, push_ident_code,
-    push_releases_with, sender_of, state_word,
+    Label, Piece, Plan, numbers_with, owned_count, push_badge, push_ident_code, push_pieces,
+    push_releases_with, sender_of, state_word, word_for,
 };
 use std::alloc::{AllocError, Global};
 
@@ -54,8 +54,7 @@ fn push_list_since(
     };
     text.extend_from_slice(b"<ul class=d>")?;
     push_message_changes(alloc, text, old, message)?;
-    text.extend_from_slice(b"</ul>\n")?;
-    Ok(())
+    text.extend_from_slice(b"</ul>\n")
 }
 
 // ---- facts
@@ -65,10 +64,14 @@ fn push_number_fact(text: &mut Vec<u8>, word: &[u8], number: usize) -> Result<()
     ensures { OnOk result (text.new.items
         ≡ text.old.items ++ fact (word.now ++ decimal number)) }
 {
-    text.extend_from_slice(b" &#183; ")?;
-    text.extend_from_slice(word)?;
-    push_number(text, number)?;
-    Ok(())
+    push_pieces(
+        text,
+        &[
+            Piece::Html(b" &#183; "),
+            Piece::Html(word),
+            Piece::Number(number as u128),
+        ],
+    )
 }
 
 fn push_destination(text: &mut Vec<u8>, fields: J1939) -> Result<(), AllocError>
@@ -107,14 +110,20 @@ fn push_size_facts(text: &mut Vec<u8>, message: &Message) -> Result<(), AllocErr
     ensures { OnOk result (text.new.items ≡ text.old.items ++ size_facts message.now) }
 {
     let bytes = usize::from(message.length.bytes());
-    text.extend_from_slice(b" &#183; ")?;
-    push_counted(text, bytes, b"byte", b"bytes")?;
-    text.extend_from_slice(b" &#183; ")?;
-    push_number(text, used_bits(message))?;
-    text.extend_from_slice(b" of ")?;
-    push_number(text, 8 * bytes)?;
-    text.extend_from_slice(b" bits used")?;
-    Ok(())
+    push_pieces(
+        text,
+        &[
+            Piece::Html(b" &#183; "),
+            Piece::Number(bytes as u128),
+            Piece::Html(b" "),
+            Piece::Html(word_for(bytes, b"byte", b"bytes")),
+            Piece::Html(b" &#183; "),
+            Piece::Number(used_bits(message) as u128),
+            Piece::Html(b" of "),
+            Piece::Number(8 * bytes as u128),
+            Piece::Html(b" bits used"),
+        ],
+    )
 }
 
 /// Appends a dot, the word and the text, if the text has bytes.
@@ -124,10 +133,7 @@ fn push_fact_if(text: &mut Vec<u8>, word: &[u8], content: &[u8]) -> Result<(), A
     if content.is_empty() {
         return Ok(());
     }
-    text.extend_from_slice(b" &#183; ")?;
-    text.extend_from_slice(word)?;
-    text.extend_from_slice(content)?;
-    Ok(())
+    push_all(text, &[b" &#183; ", word, content])
 }
 
 /// The text of the field that all signals have; no bytes where they differ.
@@ -245,10 +251,14 @@ pub fn push_comment(text: &mut Vec<u8>, comment: &[u8]) -> Result<(), AllocError
     if comment.is_empty() {
         return Ok(());
     }
-    text.extend_from_slice(b"<p>")?;
-    push_text(text, comment)?;
-    text.extend_from_slice(b"</p>\n")?;
-    Ok(())
+    push_pieces(
+        text,
+        &[
+            Piece::Html(b"<p>"),
+            Piece::Text(comment),
+            Piece::Html(b"</p>\n"),
+        ],
+    )
 }
 
 fn push_body(
@@ -276,10 +286,7 @@ fn push_emphasized_after(text: &mut Vec<u8>, word: &[u8]) -> Result<(), AllocErr
     if word.is_empty() {
         return Ok(());
     }
-    text.extend_from_slice(b" <em>")?;
-    text.extend_from_slice(word)?;
-    text.extend_from_slice(b"</em>")?;
-    Ok(())
+    push_all(text, &[b" <em>", word, b"</em>"])
 }
 
 fn push_title(
@@ -292,12 +299,9 @@ fn push_title(
     ensures { OnOk result (text.new.items
         ≡ text.old.items ++ title plan.now (message.now, owner.now)) }
 {
-    text.extend_from_slice(b"<b>")?;
-    text.extend_from_slice(message.name.as_bytes())?;
-    text.extend_from_slice(b"</b> ")?;
+    push_all(text, &[b"<b>", message.name.as_bytes(), b"</b> "])?;
     push_badge(text, plan, owner.as_bytes())?;
-    push_emphasized_after(text, state_word(alloc, plan, message))?;
-    Ok(())
+    push_emphasized_after(text, state_word(alloc, plan, message))
 }
 
 fn section_tag(folded: bool) -> &'static [u8]
@@ -319,10 +323,14 @@ fn title_start(folded: bool) -> &'static [u8]
 fn push_section_start(text: &mut Vec<u8>, folded: bool, name: &[u8]) -> Result<(), AllocError>
     ensures { OnOk result (text.new.items ≡ text.old.items ++ section_start folded name.now) }
 {
-    text.extend_from_slice(section_tag(folded))?;
-    text.extend_from_slice(name)?;
-    text.extend_from_slice(title_start(folded))?;
-    Ok(())
+    push_pieces(
+        text,
+        &[
+            Piece::Html(section_tag(folded)),
+            Piece::Html(name),
+            Piece::Html(title_start(folded)),
+        ],
+    )
 }
 
 fn title_end(folded: bool) -> &'static [u8]
@@ -394,10 +402,14 @@ fn push_star_note(text: &mut Vec<u8>, releases: usize) -> Result<(), AllocError>
     if releases == 0 {
         return Ok(());
     }
-    text.extend_from_slice(b" * is new or changed since release ")?;
-    push_number(text, releases)?;
-    text.extend_from_slice(b".")?;
-    Ok(())
+    push_pieces(
+        text,
+        &[
+            Piece::Html(b" * is new or changed since release "),
+            Piece::Number(releases as u128),
+            Piece::Html(b"."),
+        ],
+    )
 }
 
 fn is_folded(plan: &Plan) -> bool

@@ -1,11 +1,10 @@
 //! Which signals of a message are new or changed.
-ghost use Rattle.std.specs.Prelude.{◌≡◌, ◌++◌, OnOk};
+ghost use Rattle.std.specs.Prelude.{◌≡◌};
 ghost use Rattle.std.specs.Option.{option_copied};
 ghost use Rattle.page_messages.specs.Marks.{differs_from, is_marked, star};
 
 use dbc_sheet::{Message, Signal};
 use page_changes::signal_named;
-use std::alloc::AllocError;
 
 /// Whether the signal isn't equal to this one.
 fn differs_from(old: Option<&Signal>, signal: &Signal) -> bool
@@ -30,18 +29,13 @@ fn is_marked(old: Option<&Message>, signal: &Signal) -> bool
     }
 }
 
-/// Appends a star for a signal that is new or changed since the message was this one.
-pub(crate) fn push_star(
-    text: &mut Vec<u8>,
-    old: Option<&Message>,
-    signal: &Signal,
-) -> Result<(), AllocError>
-    ensures { OnOk result (text.new.items
-        ≡ text.old.items ++ star (option_copied old.entry) signal.now) }
+/// A star for a signal that is new or changed since the message was this one.
+pub(crate) fn star(old: Option<&Message>, signal: &Signal) -> &'static [u8]
+    ensures { result.now ≡ star (option_copied old.entry) signal.now }
 {
     if is_marked(old, signal) {
-        text.extend_from_slice(b"<b>*</b>")
+        b"<b>*</b>"
     } else {
-        Ok(())
+        &[]
     }
 }

@@ -6,11 +6,12 @@ ghost use Rattle.page_messages.specs.Signals.{break_between, cell_if, coding_cel
 ghost use Rattle.page_messages.specs.Signals.{mux_mark, name_cells, note_cell, outside_mark, place_cell, signal_heads};
 ghost use Rattle.page_messages.specs.Signals.{signal_row, signals_table, table_with, unit_cells, value_cells};
 
-use crate::marks::push_star;
+use crate::marks::star;
 use bitlayout::{Mux, inside};
 use dbc_sheet::{Message, Signal, ValueText};
-use html::{push_number, push_table_start, push_text, push_wide_number};
+use html::{push_all, push_table_start, push_text};
 use page_changes::{SignalField, push_spn, push_values, signal_text};
+use page_plan::{Piece, push_pieces};
 use std::alloc::{AllocError, Global};
 
 /// How many texts for values aren't folded.
@@ -44,9 +45,7 @@ fn push_cell_if(text: &mut Vec<u8>, there: bool, content: &[u8]) -> Result<(), A
     if !there {
         return Ok(());
     }
-    text.extend_from_slice(b"<td>")?;
-    text.extend_from_slice(content)?;
-    Ok(())
+    push_all(text, &[b"<td>", content])
 }
 
 /// Appends a space and the multiplexer indicator, if there is one.
@@ -56,8 +55,8 @@ fn push_mux_mark(text: &mut Vec<u8>, mux: Mux) -> Result<(), AllocError>
     match mux {
         Mux::Always => Ok(()),
         _ => {
-            text.extend_from_slice(b" ")?;
-            text.extend_from_slice(mux.indicator().as_bytes())
+            let indicator = mux.indicator();
+            push_all(text, &[b" ", indicator.as_bytes()])
         }
     }
 }
@@ -71,13 +70,17 @@ fn push_name_cells(
     ensures { OnOk result (text.new.items
         ≡ text.old.items ++ name_cells (option_copied old.entry) index signal.now) }
 {
-    text.extend_from_slice(b"<tr><td>")?;
-    push_wide_number(text, index as u128 + 1)?;
-    text.extend_from_slice(b"<th>")?;
-    push_star(text, old, signal)?;
-    text.extend_from_slice(signal.name.as_bytes())?;
-    push_mux_mark(text, signal.mux)?;
-    Ok(())
+    push_pieces(
+        text,
+        &[
+            Piece::Html(b"<tr><td>"),
+            Piece::Number(index as u128 + 1),
+            Piece::Html(b"<th>"),
+            Piece::Html(star(old, signal)),
+            Piece::Html(signal.name.as_bytes()),
+        ],
+    )?;
+    push_mux_mark(text, signal.mux)
 }
 
 /// What marks a signal that isn't in a payload of so many bytes.
@@ -94,36 +97,48 @@ fn outside_mark(bytes: u16, signal: &Signal) -> &'static [u8]
 fn push_place_cell(text: &mut Vec<u8>, bytes: u16, signal: &Signal) -> Result<(), AllocError>
     ensures { OnOk result (text.new.items ≡ text.old.items ++ place_cell bytes signal.now) }
 {
-    text.extend_from_slice(b"<td>")?;
-    push_number(text, usize::from(signal.layout.start))?;
-    text.extend_from_slice(b"|")?;
-    push_number(text, usize::from(signal.layout.size.bits()))?;
-    text.extend_from_slice(outside_mark(bytes, signal))?;
-    Ok(())
+    push_pieces(
+        text,
+        &[
+            Piece::Html(b"<td>"),
+            Piece::Number(u128::from(signal.layout.start)),
+            Piece::Html(b"|"),
+            Piece::Number(u128::from(signal.layout.size.bits())),
+            Piece::Html(outside_mark(bytes, signal)),
+        ],
+    )
 }
 
 fn push_value_cells(text: &mut Vec<u8>, signal: &Signal) -> Result<(), AllocError>
     ensures { OnOk result (text.new.items ≡ text.old.items ++ value_cells signal.now) }
 {
-    text.extend_from_slice(b"<td>")?;
-    signal.factor.print_into(text)?;
-    text.extend_from_slice(b"<td>")?;
-    signal.offset.print_into(text)?;
-    text.extend_from_slice(b"<td>")?;
-    signal.minimum.print_into(text)?;
-    text.extend_from_slice(b" to ")?;
-    signal.maximum.print_into(text)?;
-    Ok(())
+    push_pieces(
+        text,
+        &[
+            Piece::Html(b"<td>"),
+            Piece::Decimal(&signal.factor),
+            Piece::Html(b"<td>"),
+            Piece::Decimal(&signal.offset),
+            Piece::Html(b"<td>"),
+            Piece::Decimal(&signal.minimum),
+            Piece::Html(b" to "),
+            Piece::Decimal(&signal.maximum),
+        ],
+    )
 }
 
 fn push_unit_cells(text: &mut Vec<u8>, signal: &Signal) -> Result<(), AllocError>
     ensures { OnOk result (text.new.items ≡ text.old.items ++ unit_cells signal.now) }
 {
-    text.extend_from_slice(b"<td>")?;
-    push_text(text, signal.unit.as_bytes())?;
-    text.extend_from_slice(b"<td>")?;
-    push_spn(text, signal.spn)?;
-    Ok(())
+    push_pieces(
+        text,
+        &[
+            Piece::Html(b"<td>"),
+            Piece::Text(signal.unit.as_bytes()),
+            Piece::Html(b"<td>"),
+        ],
+    )?;
+    push_spn(text, signal.spn)
 }
 
 fn push_coding_cells(
@@ -139,8 +154,7 @@ fn push_coding_cells(
     let coding = signal_text(alloc, SignalField::Coding, signal)?;
     let names = signal_text(alloc, SignalField::Receivers, signal)?;
     push_cell_if(text, codings, &coding)?;
-    push_cell_if(text, receivers, &names)?;
-    Ok(())
+    push_cell_if(text, receivers, &names)
 }
 
 /// Appends texts for values, folded if they are many.
@@ -150,12 +164,16 @@ fn push_folded_values(text: &mut Vec<u8>, values: &[ValueText]) -> Result<(), Al
     if values.len() <= SHOWN_TEXTS {
         return push_values(text, values);
     }
-    text.extend_from_slice(b"<details><summary>")?;
-    push_number(text, values.len())?;
-    text.extend_from_slice(b" texts</summary>")?;
+    push_pieces(
+        text,
+        &[
+            Piece::Html(b"<details><summary>"),
+            Piece::Number(values.len() as u128),
+            Piece::Html(b" texts</summary>"),
+        ],
+    )?;
     push_values(text, values)?;
-    text.extend_from_slice(b"</details>")?;
-    Ok(())
+    text.extend_from_slice(b"</details>")
 }
 
 /// A line break, between a comment and texts.
@@ -238,9 +256,7 @@ fn push_head_if(text: &mut Vec<u8>, there: bool, head: &[u8]) -> Result<(), Allo
     if !there {
         return Ok(());
     }
-    text.extend_from_slice(b"<th>")?;
-    text.extend_from_slice(head)?;
-    Ok(())
+    push_all(text, &[b"<th>", head])
 }
 
 fn signal_heads(alloc: Global, columns: Columns) -> Result<Vec<u8>, AllocError>

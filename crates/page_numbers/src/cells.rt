@@ -15,7 +15,7 @@ use can_id::Ident;
 use html::push_number;
 use office_looks::{is_number_of, team_at};
 use office_types::{BlockForm, Team};
-use page_plan::{CAPITAL, Plan, SMALL, place_of, push_letters, push_tone};
+use page_plan::{CAPITAL, Piece, Plan, SMALL, place_of, push_letters, push_pieces, push_tone};
 use std::alloc::AllocError;
 
 /// What a number is.
@@ -146,10 +146,14 @@ fn push_more(text: &mut Vec<u8>, count: usize) -> Result<(), AllocError>
     if count <= 1 {
         return Ok(());
     }
-    text.extend_from_slice(b" and ")?;
-    push_number(text, count - 1)?;
-    text.extend_from_slice(b" more")?;
-    Ok(())
+    push_pieces(
+        text,
+        &[
+            Piece::Html(b" and "),
+            Piece::Number(count as u128 - 1),
+            Piece::Html(b" more"),
+        ],
+    )
 }
 
 fn push_live_link(
@@ -226,8 +230,7 @@ fn push_free_cell(text: &mut Vec<u8>, place: Option<usize>) -> Result<(), AllocE
 {
     push_cell_start(text, b"f", place)?;
     text.extend_from_slice(b">")?;
-    push_letters_or(text, &[], SMALL, place)?;
-    Ok(())
+    push_letters_or(text, &[], SMALL, place)
 }
 
 /// Appends the cell of the number.

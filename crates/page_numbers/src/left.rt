@@ -6,6 +6,7 @@ ghost use Rattle.office_types.specs.Free.{has_form};
 ghost use Rattle.office_blocks.specs.Blocks.{forms_in, free_numbers, runs_in, step_of};
 ghost use Rattle.office_blocks.specs.Numbers.{AreNumbersOf};
 ghost use Rattle.page_plan.specs.Badges.{tone};
+ghost use Rattle.page_plan.specs.Pieces.{piece_text};
 ghost use Rattle.page_numbers.specs.Left.{bar, bar_part, block_form, block_item, block_label, blocks_fold, blocks_of};
 ghost use Rattle.page_numbers.specs.Left.{count_cells, count_if, form_label, free_at, free_count, granted};
 ghost use Rattle.page_numbers.specs.Left.{granted_cells, held_at, held_in, is_beside, is_group, is_of, is_scarce};
@@ -17,11 +18,13 @@ ghost use Rattle.page_numbers.specs.Left as lefts;
 
 use base::Items;
 use columns::{Run, runs_of};
-use html::{push_number, push_table_start, push_wide_number};
+use html::{push_all, push_number, push_table_start, push_wide_number};
 use office_blocks::{Ascending, FormNumbers, Left, Numbers, free_numbers, left_of, part_in};
 use office_seen::View;
 use office_types::{BlockForm, FormBlock, GrantedBlock, NumberForm};
-use page_plan::{Label, Plan, place_of, push_badge, push_counted, push_runs, push_tone};
+use page_plan::{
+    Label, Piece, Plan, place_of, push_badge, push_counted, push_pieces, push_runs, push_tone,
+};
 use std::alloc::{AllocError, Global};
 use std::marker::Model;
 
@@ -342,12 +345,16 @@ fn push_bar_part(text: &mut Vec<u8>, kind: &[u8], count: u128) -> Result<(), All
     if count == 0 {
         return Ok(());
     }
-    text.extend_from_slice(b"<i class=")?;
-    text.extend_from_slice(kind)?;
-    text.extend_from_slice(b" style=flex:")?;
-    push_wide_number(text, count)?;
-    text.extend_from_slice(b"></i>")?;
-    Ok(())
+    push_pieces(
+        text,
+        &[
+            Piece::Html(b"<i class="),
+            Piece::Html(kind),
+            Piece::Html(b" style=flex:"),
+            Piece::Number(count),
+            Piece::Html(b"></i>"),
+        ],
+    )
 }
 
 /// Appends the bar in the colour of a place.
@@ -381,10 +388,14 @@ fn push_free_count(text: &mut Vec<u8>, left: &TeamLeft) -> Result<(), AllocError
     if left.free == 0 {
         return text.extend_from_slice(b"<em>none</em>");
     }
-    text.extend_from_slice(b"<em>only ")?;
-    push_wide_number(text, left.free)?;
-    text.extend_from_slice(b"</em>")?;
-    Ok(())
+    push_pieces(
+        text,
+        &[
+            Piece::Html(b"<em>only "),
+            Piece::Number(left.free),
+            Piece::Html(b"</em>"),
+        ],
+    )
 }
 
 /// How many runs a row has at most.
@@ -407,10 +418,14 @@ fn push_more_runs(text: &mut Vec<u8>, count: usize) -> Result<(), AllocError>
     if count <= SHOWN_RUNS {
         return Ok(());
     }
-    text.extend_from_slice(b" and ")?;
-    push_number(text, count - SHOWN_RUNS)?;
-    text.extend_from_slice(b" more")?;
-    Ok(())
+    push_pieces(
+        text,
+        &[
+            Piece::Html(b" and "),
+            Piece::Number((count - SHOWN_RUNS) as u128),
+            Piece::Html(b" more"),
+        ],
+    )
 }
 
 /// Appends the first runs, and how many more there are.
@@ -446,38 +461,47 @@ fn push_granted_cells(
     ensures { OnOk result (text.new.items
         ≡ text.old.items ++ granted_cells (tone place) left.now) }
 {
-    text.extend_from_slice(b"<td>")?;
-    text.extend_from_slice(form_label(left.form))?;
-    text.extend_from_slice(b"<td>")?;
-    push_wide_number(text, granted(left))?;
-    text.extend_from_slice(b"<td>")?;
-    push_bar(text, place, left)?;
-    Ok(())
+    push_pieces(
+        text,
+        &[
+            Piece::Html(b"<td>"),
+            Piece::Html(form_label(left.form)),
+            Piece::Html(b"<td>"),
+            Piece::Number(granted(left)),
+            Piece::Html(b"<td>"),
+        ],
+    )?;
+    push_bar(text, place, left)
 }
 
-/// Appends the count, if it isn't 0.
-fn push_count_if(text: &mut Vec<u8>, count: u128) -> Result<(), AllocError>
-    ensures { OnOk result (text.new.items ≡ text.old.items ++ count_if count) }
+/// The count, if it isn't 0.
+fn count_if(count: u128) -> Piece<'static>
+    ensures { piece_text result ≡ count_if count }
 {
     if count == 0 {
-        return Ok(());
+        Piece::Html(b"")
+    } else {
+        Piece::Number(count)
     }
-    push_wide_number(text, count)
 }
 
 fn push_count_cells(text: &mut Vec<u8>, left: &TeamLeft) -> Result<(), AllocError>
     ensures { OnOk result (text.new.items ≡ text.old.items ++ count_cells left.now) }
 {
-    text.extend_from_slice(b"<td>")?;
-    push_wide_number(text, left.live)?;
-    text.extend_from_slice(b"<td>")?;
-    push_count_if(text, left.held)?;
-    text.extend_from_slice(b"<td>")?;
+    push_pieces(
+        text,
+        &[
+            Piece::Html(b"<td>"),
+            Piece::Number(left.live),
+            Piece::Html(b"<td>"),
+            count_if(left.held),
+            Piece::Html(b"<td>"),
+        ],
+    )?;
     push_free_count(text, left)?;
     text.extend_from_slice(b"<td>")?;
     push_some_runs(text, left.runs.as_slice())?;
-    text.extend_from_slice(b"\n")?;
-    Ok(())
+    text.extend_from_slice(b"\n")
 }
 
 /// Appends the row at an index of a team.
@@ -493,8 +517,7 @@ fn push_left_row(
 {
     push_row_start(text, plan, team, index == 0)?;
     push_granted_cells(text, place_of(plan, team), left)?;
-    push_count_cells(text, left)?;
-    Ok(())
+    push_count_cells(text, left)
 }
 
 /// Adds what is left of the team's numbers of the form, if it has some.
@@ -513,8 +536,7 @@ fn add_left(
     if !has_numbers(&left) {
         return Ok(());
     }
-    lefts.push(left)?;
-    Ok(())
+    lefts.push(left)
 }
 
 /// What is left of the team's numbers, of the forms in which it has some.
@@ -605,10 +627,14 @@ fn push_range(text: &mut Vec<u8>, block: FormBlock) -> Result<(), AllocError>
     if range.first == range.last {
         return push_number(text, range.first as usize);
     }
-    push_number(text, range.first as usize)?;
-    text.extend_from_slice(b"-")?;
-    push_number(text, range.last as usize)?;
-    Ok(())
+    push_pieces(
+        text,
+        &[
+            Piece::Number(u128::from(range.first)),
+            Piece::Html(b"-"),
+            Piece::Number(u128::from(range.last)),
+        ],
+    )
 }
 
 fn push_block_item(
@@ -618,14 +644,14 @@ fn push_block_item(
 ) -> Result<(), AllocError>
     ensures { OnOk result (text.new.items ≡ text.old.items ++ block_item plan.now granted.now) }
 {
-    text.extend_from_slice(b"<li><b>")?;
-    text.extend_from_slice(block_label(granted.block.form()))?;
-    text.extend_from_slice(b"</b> ")?;
+    push_all(
+        text,
+        &[b"<li><b>", block_label(granted.block.form()), b"</b> "],
+    )?;
     push_range(text, granted.block)?;
     text.extend_from_slice(b" ")?;
     push_badge(text, plan, granted.team.as_bytes())?;
-    text.extend_from_slice(b"\n")?;
-    Ok(())
+    text.extend_from_slice(b"\n")
 }
 
 fn push_block_items(
@@ -706,6 +732,5 @@ pub fn push_left(
 {
     text.extend_from_slice(b"<section id=left><h2>Numbers left</h2>\n")?;
     push_left_body(alloc, text, view, plan)?;
-    text.extend_from_slice(b"</section>\n")?;
-    Ok(())
+    text.extend_from_slice(b"</section>\n")
 }

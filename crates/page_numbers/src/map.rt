@@ -17,9 +17,8 @@ use crate::pages::{MapPage, addressed_page, broadcast_page, ident_page};
 use base::{Items, put_item};
 use can_id::Ident;
 use dbc_sheet::Message;
-use html::{push_number, push_text};
 use office_types::BlockForm;
-use page_plan::{Label, Plan, push_hexed, push_letter_box};
+use page_plan::{Label, Piece, Plan, push_hexed, push_letter_box, push_pieces};
 use std::alloc::{AllocError, Global};
 
 // ---- a row
@@ -55,8 +54,7 @@ fn push_row(
 {
     text.extend_from_slice(b"<tr><th>")?;
     push_hexed(alloc, text, columns, first)?;
-    push_cells(text, plan, form, numbers)?;
-    Ok(())
+    push_cells(text, plan, form, numbers)
 }
 
 fn push_column_head(alloc: Global, text: &mut Vec<u8>, column: u32) -> Result<(), AllocError>
@@ -236,26 +234,11 @@ fn last_number(page: MapPage) -> u32
     number_of(page, (16 * u32::from(page.rows)).saturating_sub(1))
 }
 
-/// Appends that the numbers of the page are addressed, if they are.
-fn push_addressed(text: &mut Vec<u8>, page: MapPage) -> Result<(), AllocError>
-    ensures { OnOk result (text.new.items ≡ text.old.items ++ addressed_words page) }
+/// That the numbers of the page are addressed, if they are.
+fn addressed_words(page: MapPage) -> &'static [u8]
+    ensures { result.now ≡ addressed_words page }
 {
-    if !page.addressed {
-        return Ok(());
-    }
-    text.extend_from_slice(b", addressed")
-}
-
-fn push_page_caption(text: &mut Vec<u8>, page: MapPage) -> Result<(), AllocError>
-    requires { IsPage page }
-    ensures { OnOk result (text.new.items ≡ text.old.items ++ page_caption page) }
-{
-    text.extend_from_slice(form_words(page.form))?;
-    push_number(text, page.first as usize)?;
-    text.extend_from_slice(b" to ")?;
-    push_number(text, last_number(page) as usize)?;
-    push_addressed(text, page)?;
-    Ok(())
+    if page.addressed { b", addressed" } else { b"" }
 }
 
 /// Appends the table of the page up to its rows.
@@ -264,7 +247,16 @@ fn push_page_start(alloc: Global, text: &mut Vec<u8>, page: MapPage) -> Result<(
     ensures { OnOk result (text.new.items ≡ text.old.items ++ map_start (page_caption page)) }
 {
     let mut caption = Vec::new(alloc);
-    push_page_caption(&mut caption, page)?;
+    push_pieces(
+        &mut caption,
+        &[
+            Piece::Html(form_words(page.form)),
+            Piece::Number(u128::from(page.first)),
+            Piece::Html(b" to "),
+            Piece::Number(u128::from(last_number(page))),
+            Piece::Html(addressed_words(page)),
+        ],
+    )?;
     push_map_start(alloc, text, &caption)
 }
 
@@ -300,8 +292,7 @@ fn push_page_table(
 {
     push_page_start(alloc, text, page)?;
     push_page_rows(alloc, text, plan, page, rows)?;
-    text.extend_from_slice(b"</table>\n")?;
-    Ok(())
+    text.extend_from_slice(b"</table>\n")
 }
 
 /// Appends the page with these rows, if there are any.
@@ -493,8 +484,7 @@ fn push_extended_table(
 {
     push_map_start(alloc, text, b"29 bits, rows with a number in use")?;
     push_extended_rows(alloc, text, plan, rows)?;
-    text.extend_from_slice(b"</table>\n")?;
-    Ok(())
+    text.extend_from_slice(b"</table>\n")
 }
 
 /// Appends the table of these rows, if there are any.
@@ -539,9 +529,7 @@ fn push_legend_item(text: &mut Vec<u8>, index: usize, team: &Label) -> Result<()
 {
     text.extend_from_slice(b"<li>")?;
     push_letter_box(text, index)?;
-    text.extend_from_slice(b" ")?;
-    push_text(text, team.as_bytes())?;
-    Ok(())
+    push_pieces(text, &[Piece::Html(b" "), Piece::Text(team.as_bytes())])
 }
 
 fn push_legend_items(text: &mut Vec<u8>, teams: &[Label]) -> Result<(), AllocError>

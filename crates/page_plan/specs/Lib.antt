@@ -4,3 +4,4 @@ pub mod Numbers
 pub mod Since
 pub mod Links
 pub mod Names
+pub mod Pieces

@@ -2,8 +2,9 @@
 ghost use Rattle.std.specs.Prelude.{◌≡◌, ◌≤◌, ◌++◌, OnOk};
 ghost use Rattle.page_plan.specs.Badges.{badge, badge_at, letter_box, letters, place_of, tone};
 
+use crate::pieces::{Piece, push_pieces};
 use crate::plan::Plan;
-use html::{push_number, push_text};
+use html::push_number;
 use std::alloc::AllocError;
 
 /// The first capital letter.
@@ -18,13 +19,11 @@ pub fn push_letters(text: &mut Vec<u8>, first: u8, index: usize) -> Result<(), A
     ensures { OnOk result (text.new.items ≡ text.old.items ++ letters first index) }
 {
     if index < 26 {
-        text.push(first + index as u8)?;
-        return Ok(());
+        return text.extend_from_slice(&[first + index as u8]);
     }
     if index < 702 {
-        text.push(first + ((index - 26) / 26) as u8)?;
-        text.push(first + ((index - 26) % 26) as u8)?;
-        return Ok(());
+        let later = index - 26;
+        return text.extend_from_slice(&[first + (later / 26) as u8, first + (later % 26) as u8]);
     }
     push_number(text, index)
 }
@@ -35,10 +34,7 @@ pub fn push_tone(text: &mut Vec<u8>, place: Option<usize>) -> Result<(), AllocEr
 {
     match place {
         None => text.extend_from_slice(b"tx"),
-        Some(index) => {
-            text.extend_from_slice(b"t")?;
-            push_number(text, index % 8)
-        }
+        Some(index) => { push_pieces(text, &[Piece::Html(b"t"), Piece::Number(index as u128 % 8)]) }
     }
 }
 
@@ -59,8 +55,7 @@ pub fn push_letter_box(text: &mut Vec<u8>, index: usize) -> Result<(), AllocErro
     push_tone(text, Some(index))?;
     text.extend_from_slice(b"\">")?;
     push_letters(text, CAPITAL, index)?;
-    text.extend_from_slice(b"</b>")?;
-    Ok(())
+    text.extend_from_slice(b"</b>")
 }
 
 /// Appends the badge of the team at a place.
@@ -71,9 +66,7 @@ fn push_badge_at(text: &mut Vec<u8>, place: Option<usize>, team: &[u8]) -> Resul
         return Ok(());
     };
     push_letter_box(text, index)?;
-    text.extend_from_slice(b" ")?;
-    push_text(text, team)?;
-    Ok(())
+    push_pieces(text, &[Piece::Html(b" "), Piece::Text(team)])
 }
 
 /// Appends the team's badge; nothing where it has no letter.

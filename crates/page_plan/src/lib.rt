@@ -8,6 +8,7 @@
 //! - [`numbers_with`], [`push_releases_with`], [`push_state`] and [`state_word`]: what the releases have of a message
 //!   (`Since.antt`).
 //! - [`push_message_link`], and [`owned_count`], up to where messages have owners.
+//! - [`push_pieces`]: HTML, texts to escape, numbers and decimals in one call (`Pieces.antt`).
 //!
 //! Names of messages, signals, nodes and teams are written on a page as they are: they need no escape
 //! ([`names_are_kept`]).
@@ -20,6 +21,7 @@ mod labels;
 mod links;
 mod names;
 mod numbers;
+mod pieces;
 mod plan;
 mod since;
 mod subject;
@@ -29,6 +31,7 @@ pub use labels::{Label, LabelRule};
 pub use links::{owned_count, push_message_link};
 pub use names::names_are_kept;
 pub use numbers::{push_counted, push_hexed, push_ident_code, push_runs, word_for};
+pub use pieces::{Piece, push_pieces};
 pub use plan::{Plan, sender_of};
 pub use since::{numbers_with, push_releases_with, push_state, state_word};
 pub use subject::Subject;

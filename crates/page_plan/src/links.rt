@@ -4,18 +4,14 @@ ghost use Rattle.page_plan.specs.Links.{message_link};
 ghost use Rattle.page_plan.specs.Plan.{owned};
 
 use crate::plan::Plan;
+use html::push_all;
 use std::alloc::AllocError;
 
 /// Appends a link to the message of this name.
 pub fn push_message_link(text: &mut Vec<u8>, name: &[u8]) -> Result<(), AllocError>
     ensures { OnOk result (text.new.items ≡ text.old.items ++ message_link name.now) }
 {
-    text.extend_from_slice(b"<a href=#m-")?;
-    text.extend_from_slice(name)?;
-    text.extend_from_slice(b">")?;
-    text.extend_from_slice(name)?;
-    text.extend_from_slice(b"</a>")?;
-    Ok(())
+    push_all(text, &[b"<a href=#m-", name, b">", name, b"</a>"])
 }
 
 /// How many messages there are, each with an owner.

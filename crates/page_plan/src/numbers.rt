@@ -3,9 +3,10 @@ ghost use Rattle.std.specs.Prelude.{◌≡◌, ◌++◌, ◌==◌, OnOk, if◌th
 ghost use Rattle.columns.specs.Run.{run_text};
 ghost use Rattle.page_plan.specs.Numbers.{counted, hexed, ident_code, ident_hexed, later_runs, runs_text};
 
+use crate::pieces::{Piece, push_pieces};
 use can_id::Ident;
 use columns::{Run, filled};
-use html::push_number;
+use html::{push_all, push_number};
 use std::alloc::{AllocError, Global};
 
 /// Appends the number in upper case hexadecimal digits, at least so many.
@@ -37,8 +38,7 @@ pub fn push_ident_code(alloc: Global, text: &mut Vec<u8>, ident: &Ident) -> Resu
 {
     text.extend_from_slice(b"<code>")?;
     push_ident_hexed(alloc, text, ident)?;
-    text.extend_from_slice(b"</code>")?;
-    Ok(())
+    text.extend_from_slice(b"</code>")
 }
 
 /// The word for one, or for more.
@@ -59,20 +59,18 @@ pub fn push_counted(
         ≡ text.old.items ++ counted number one.now many.now) }
 {
     push_number(text, number)?;
-    text.extend_from_slice(b" ")?;
-    text.extend_from_slice(word_for(number, one, many))?;
-    Ok(())
+    push_all(text, &[b" ", word_for(number, one, many)])
 }
 
 fn push_run(text: &mut Vec<u8>, run: Run) -> Result<(), AllocError>
     ensures { OnOk result (text.new.items ≡ text.old.items ++ run_text run) }
 {
-    push_number(text, run.first as usize)?;
-    if run.first != run.last {
-        text.extend_from_slice(b"-")?;
-        push_number(text, run.last as usize)?;
+    let first = Piece::Number(u128::from(run.first));
+    if run.first == run.last {
+        return push_pieces(text, &[first]);
     }
-    Ok(())
+    let last = Piece::Number(u128::from(run.last));
+    push_pieces(text, &[first, Piece::Html(b"-"), last])
 }
 
 /// Appends the runs, each after a comma.

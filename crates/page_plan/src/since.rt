@@ -10,6 +10,7 @@ use crate::numbers::push_runs;
 use crate::plan::Plan;
 use columns::runs_of;
 use dbc_sheet::{Message, Sheet, has_number, partner};
+use html::push_all;
 use office_seen::last_of;
 use std::alloc::{AllocError, Global};
 
@@ -75,10 +76,7 @@ fn push_emphasized(text: &mut Vec<u8>, word: &[u8]) -> Result<(), AllocError>
     if word.is_empty() {
         return Ok(());
     }
-    text.extend_from_slice(b"<em>")?;
-    text.extend_from_slice(word)?;
-    text.extend_from_slice(b"</em>")?;
-    Ok(())
+    push_all(text, &[b"<em>", word, b"</em>"])
 }
 
 /// Appends what has become of the message since the last of the releases.

@@ -1,4 +1,4 @@
-use Rattle.html.specs.Elements.{table_end, table_start}
+use Rattle.html.specs.Elements.{table_start}
 use Rattle.page_lists.specs.Held.{held_heads, held_row}
 use Rattle.std.specs.List.{flat_map}
 use Rattle.std.specs.Prelude.{codes}
@@ -13,4 +13,4 @@ returns c =
     (also {b = c.push_held_rows.new.text.items} c.push_table_start.new.text.items
     (flat_map (held_row c.args.view.now c.args.plan.now) c.args.view.now.held) _
     (cc (c.in_ok-push_held_rows.ensures))
-    (also _ table_end _ c.in_ok-extend_from_slice-2.ensures.items c.in_ok-extend_from_slice-3.ensures.items)))
+    c.in_ok-extend_from_slice-2.ensures.items))

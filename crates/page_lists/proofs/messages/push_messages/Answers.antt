@@ -1,7 +1,7 @@
 use Rattle.std.proofs.Common.{◌++◌, codes, ap, ◌∙◌}
 use Rattle.std.specs.List.{flat_map}
 use Rattle.html.proofs.Pushing.{also}
-use Rattle.html.specs.Elements.{table_end, table_start}
+use Rattle.html.specs.Elements.{table_start}
 use Rattle.page_lists.specs.Messages.{message_heads, message_row}
 use Rattle.page_plan.specs.Plan.{owned}
 use Rattle.page_lists.proofs.messages.push_messages.Goals as goal
@@ -16,4 +16,4 @@ returns c =
     ∙ ap (λ v. c.extend_from_slice.new.self.items ++ table_start (codes "t") v)
     (c.deref.ensures.value ∙ c.in_ok-heads.ensures))
     (also _ (flat_map (message_row plan) (owned plan)) _ c.in_ok-push_message_rows.ensures
-    (also _ table_end _ c.in_ok-extend_from_slice-2.ensures.items c.in_ok-extend_from_slice-3.ensures.items)))
+    c.in_ok-extend_from_slice-2.ensures.items))

@@ -1,7 +1,7 @@
 use Rattle.std.proofs.Common.{◌++◌, codes, ap, ◌∙◌}
 use Rattle.std.specs.List.{flat_map}
 use Rattle.html.proofs.Pushing.{also}
-use Rattle.html.specs.Elements.{table_end, table_start}
+use Rattle.html.specs.Elements.{table_start}
 use Rattle.page_lists.specs.Nodes.{use_row, uses_heads, uses_start}
 use Rattle.page_lists.proofs.nodes.push_uses_table.Goals as goal
 
@@ -14,4 +14,4 @@ returns c =
     ∙ ap (λ v. c.extend_from_slice.new.self.items ++ table_start (codes "x") v)
     (c.deref.ensures.value ∙ c.in_ok-heads.ensures))
     (also _ (flat_map (use_row nodes) c.args.messages.now) _ c.in_ok-push_use_rows.ensures
-    (also _ table_end _ c.in_ok-extend_from_slice-2.ensures.items c.in_ok-extend_from_slice-3.ensures.items)))
+    c.in_ok-extend_from_slice-2.ensures.items))

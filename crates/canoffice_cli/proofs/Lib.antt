@@ -18,4 +18,5 @@ pub mod Applied
 pub mod LookRows
 pub mod Differing
 pub mod Requesting
+pub mod Unprinted
 pub mod Sent

@@ -77,6 +77,7 @@ abbrev pub judged : Outcome → Outcome
 judged o = judged_by o.status o
 
 -- what the office at the place shows is printed, with that status
-abbrev pub IsReleasesOutcome : Desks → Databases → Databases → Place → List ℕ → ℕ → ℕ → Outcome → Type 0
-IsReleasesOutcome desks before after place net old new o =
-    (shown : Outcome) × IsLookOutcome desks before after place (compare_look net old new) shown × (o ≡ judged shown)
+abbrev pub IsReleasesOutcome : Desks → Desks → Databases → Databases → Place → List ℕ → ℕ → ℕ → Outcome → Type 0
+IsReleasesOutcome earlier later before after place net old new o =
+    (shown : Outcome) × IsLookOutcome earlier later before after place (compare_look net old new) shown
+    × (o ≡ judged shown)

@@ -5,6 +5,7 @@ pub mod Answered
 pub mod LongestLines
 pub mod Applied
 pub mod Desks
+pub mod Unprinted
 pub mod Looked
 pub mod Exported
 pub mod Migrated

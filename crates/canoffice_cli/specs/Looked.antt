@@ -1,8 +1,9 @@
 -- What a look at an office prints.
-use Rattle.std.specs.Prelude.{◌≡◌, ℕ, List, Option, Some, None, Result, Ok, Err, IfOk}
-use Rattle.canoffice_desks.specs.Desks.{Asked, Desks}
+use Rattle.std.specs.Prelude.{◌≡◌, ℕ, List, [], ◌∷◌, Option, Some, None, Result, Ok, Err, IfOk}
+use Rattle.canoffice_desks.specs.Desks.{Asked, Desks, Takes, TakesNone, turn}
 use Rattle.canoffice_jobs.specs.Words.{requests_look, show_look}
 use Rattle.canoffice_jobs.specs.declared.what.What.{What}
+use Rattle.desk_client.specs.Request.{request_bytes}
 use Rattle.desk_head.specs.Asked.{target_of}
 use Rattle.office_types.specs.declared.state.Office.{Office}
 use Rattle.office_history.specs.History.{Answered, IsLegal}
@@ -33,27 +34,31 @@ pub record IsLookedUp (before after : Databases) (path : List ℕ) (look : Look)
   pub statistics : HasBegun before path → StatisticsStay before after path
   pub of_none : before.is_new path → (shown ≡ Ok None) × AreKept before after
 
--- the desk on the port was asked for the target of the look, and what came of it is printed
-abbrev pub IsAskedFor : Desks → ℕ → Look → Outcome → Type 0
-IsAskedFor desks port look o =
-    (asked : Asked) × desks.asked port (target_of look) asked × (o ≡ asked_outcome port asked)
+-- The desk on the port was asked for the target of the look, once, and what came of it is printed. Nothing else was
+-- sent.
+abbrev pub IsAskedFor : Desks → Desks → ℕ → Look → Outcome → Type 0
+IsAskedFor earlier later port look o =
+    (asked : Asked) × earlier.asked port (target_of look) asked
+    × Takes earlier later (turn port (request_bytes (target_of look)) asked ∷ []) × (o ≡ asked_outcome port asked)
 
--- the office at the place looks, and what it shows is printed
-abbrev pub IsLookedAt : Desks → Databases → Databases → Place → Look → Outcome → Type 0
-IsLookedAt desks before after (Database path) look o =
-    (shown : Result (Option (List ℕ)) Lost) × IsLookedUp before after path.now look shown × (o ≡ shown_outcome shown)
-IsLookedAt desks before after (Desk port) look o = IsAskedFor desks port look o × AreKept before after
+-- the office at the place looks, and what it shows is printed; no desk is asked for one in a database
+abbrev pub IsLookedAt : Desks → Desks → Databases → Databases → Place → Look → Outcome → Type 0
+IsLookedAt earlier later before after (Database path) look o =
+    (shown : Result (Option (List ℕ)) Lost) × IsLookedUp before after path.now look shown × TakesNone earlier later
+    × (o ≡ shown_outcome shown)
+IsLookedAt earlier later before after (Desk port) look o = IsAskedFor earlier later port look o × AreKept before after
 
 -- the same of words: where one hasn't the form of what it names, there is nothing, and nothing is done
-abbrev pub IsLookOutcome : Desks → Databases → Databases → Place → Option Look → Outcome → Type 0
-IsLookOutcome desks before after place None o = (o ≡ not_found) × AreKept before after
-IsLookOutcome desks before after place (Some look) o = IsLookedAt desks before after place look o
+abbrev pub IsLookOutcome : Desks → Desks → Databases → Databases → Place → Option Look → Outcome → Type 0
+IsLookOutcome earlier later before after place None o =
+    (o ≡ not_found) × AreKept before after × TakesNone earlier later
+IsLookOutcome earlier later before after place (Some look) o = IsLookedAt earlier later before after place look o
 
-abbrev pub IsShowOutcome : Desks → Databases → Databases → Place → Option (List ℕ) → What → Option (List ℕ) → Outcome
-    → Type 0
-IsShowOutcome desks before after place net what name o =
-    IsLookOutcome desks before after place (show_look net what name) o
+abbrev pub IsShowOutcome : Desks → Desks → Databases → Databases → Place → Option (List ℕ) → What → Option (List ℕ)
+    → Outcome → Type 0
+IsShowOutcome earlier later before after place net what name o =
+    IsLookOutcome earlier later before after place (show_look net what name) o
 
-abbrev pub IsRequestsOutcome : Desks → Databases → Databases → Place → List ℕ → Outcome → Type 0
-IsRequestsOutcome desks before after place team o =
-    IsLookOutcome desks before after place (requests_look team) o
+abbrev pub IsRequestsOutcome : Desks → Desks → Databases → Databases → Place → List ℕ → Outcome → Type 0
+IsRequestsOutcome earlier later before after place team o =
+    IsLookOutcome earlier later before after place (requests_look team) o

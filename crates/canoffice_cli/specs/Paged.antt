@@ -38,6 +38,6 @@ IsFilePageOutcome path bytes o =
     ⊎ ((fault : ReadFault) × IsReadFault bytes fault × (o ≡ fault_errors (fault_line fault)))
 
 -- the page of the release of a network, or of the live network for 0, as the office at the place has it
-abbrev pub IsPageOutcome : Desks → Databases → Databases → Place → List ℕ → ℕ → Outcome → Type 0
-IsPageOutcome desks before after place net number o =
-    IsLookOutcome desks before after place (page_look net number) o
+abbrev pub IsPageOutcome : Desks → Desks → Databases → Databases → Place → List ℕ → ℕ → Outcome → Type 0
+IsPageOutcome earlier later before after place net number o =
+    IsLookOutcome earlier later before after place (page_look net number) o

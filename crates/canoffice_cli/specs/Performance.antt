@@ -2,7 +2,7 @@
 use Rattle.std.specs.Prelude.{◌≡◌, ◌⊎◌, ⊤, ℕ, Bool, false, List, map, Option, Some, None, option_map, Result, Ok, Err}
 use Rattle.std.specs.Prelude.{string_bytes}
 use Rattle.std.specs.Borrow.{Bor}
-use Rattle.canoffice_desks.specs.Desks.{Desks}
+use Rattle.canoffice_desks.specs.Desks.{Desks, TakesNone}
 use Rattle.dbc_advice.specs.ShownPath.{shown_path}
 use Rattle.office_script.specs.Files.{Files, Holding, unknown, absent, holding}
 use Rattle.canoffice_jobs.specs.CommandLine.{IsLine, entered}
@@ -24,6 +24,7 @@ use Rattle.canoffice_cli.specs.Sent.{IsSendOutcome}
 use Rattle.canoffice_cli.specs.Served.{IsServeOutcome}
 use Rattle.canoffice_cli.specs.Tabled.{IsTableOutcome}
 use Rattle.canoffice_cli.specs.Delivery.{IsDelivered, Writing}
+use Rattle.canoffice_cli.specs.Unprinted.{IsUnprinted}
 use Rattle.canoffice_jobs.specs.declared.extras.Extras.{Extras}
 use Rattle.canoffice_cli.specs.declared.report.Status.{Status}
 use Rattle.canoffice_cli.specs.declared.file_jobs.FileJob.{FileJob}
@@ -85,42 +86,49 @@ abbrev pub IsExported : Files → Holding → Databases → Databases → List �
 IsExported files input before after path net number extras o =
     IsExportedBy files input before after path net number extras.original extras.j1939 o
 
--- the outcome of the job, by whether standard error is a terminal, and what is known of databases before and after
-abbrev pub IsDone : Files → Holding → Bool → Desks → Databases → Databases → Job → Outcome → Type 0
-IsDone files input terminal desks before after (Apply database script explain manner) o =
+-- the outcome of the job, by whether standard error is a terminal, and what is known of desks and of databases before
+-- and after; a job that names no desk sends nothing
+abbrev pub IsDone : Files → Holding → Bool → Desks → Desks → Databases → Databases → Job → Outcome → Type 0
+IsDone files input terminal earlier later before after (Apply database script explain manner) o =
     IsFileOutcome files input before after
     (record { task = task.Apply database manner; path = script; advice = of_script explain terminal }) o
-IsDone files input terminal desks before after (Chart length signals) o =
-    IsChartOutcome length (map (λ s. s.now) signals.items) o × AreKept before after
-IsDone files input terminal desks before after (Check file explain lint) o =
+    × TakesNone earlier later
+IsDone files input terminal earlier later before after (Chart length signals) o =
+    IsChartOutcome length (map (λ s. s.now) signals.items) o × AreKept before after × TakesNone earlier later
+IsDone files input terminal earlier later before after (Check file explain lint) o =
     IsFileOutcome files input before after
-    (record { task = task.Check lint; path = file; advice = requested explain }) o
-IsDone files input terminal desks before after (Compare old new) o =
+    (record { task = task.Check lint; path = file; advice = requested explain }) o × TakesNone earlier later
+IsDone files input terminal earlier later before after (Compare old new) o =
     IsOfTwoFiles (IsCompareOutcome old.now new.now) files input old.now new.now o × AreKept before after
-IsDone files input terminal desks before after (CompareReleases place net old new) o =
-    IsReleasesOutcome desks before after place net.now old new o
-IsDone files input terminal desks before after (Export database net number extras) o =
-    IsExported files input before after database.now net.now number extras o
-IsDone files input terminal desks before after (Format file explain keep) o =
+    × TakesNone earlier later
+IsDone files input terminal earlier later before after (CompareReleases place net old new) o =
+    IsReleasesOutcome earlier later before after place net.now old new o
+IsDone files input terminal earlier later before after (Export database net number extras) o =
+    IsExported files input before after database.now net.now number extras o × TakesNone earlier later
+IsDone files input terminal earlier later before after (Format file explain keep) o =
     IsFileOutcome files input before after
-    (record { task = task.Format keep; path = file; advice = requested explain }) o
-IsDone files input terminal desks before after (Migrate database) o = IsMigrateOutcome before after database.now o
-IsDone files input terminal desks before after (Page place net number) o =
-    IsPageOutcome desks before after place net.now number o
-IsDone files input terminal desks before after (PageFile file) o =
+    (record { task = task.Format keep; path = file; advice = requested explain }) o × TakesNone earlier later
+IsDone files input terminal earlier later before after (Migrate database) o =
+    IsMigrateOutcome before after database.now o × TakesNone earlier later
+IsDone files input terminal earlier later before after (Page place net number) o =
+    IsPageOutcome earlier later before after place net.now number o
+IsDone files input terminal earlier later before after (PageFile file) o =
     IsFileOutcome files input before after (record { task = task.Page file; path = file; advice = requested false }) o
-IsDone files input terminal desks before after (Requests place team) o =
-    IsRequestsOutcome desks before after place team.now o
-IsDone files input terminal desks before after (Send sending script) o =
-    IsOfFile ⊤ (IsSendOutcome files desks sending) script.now (source_at files input script.now) o
+    × TakesNone earlier later
+IsDone files input terminal earlier later before after (Requests place team) o =
+    IsRequestsOutcome earlier later before after place team.now o
+IsDone files input terminal earlier later before after (Send sending script) o =
+    IsOfFile (TakesNone earlier later) (IsSendOutcome files earlier later sending) script.now
+    (source_at files input script.now) o
     × AreKept before after
-IsDone files input terminal desks before after (Serve database port count explain) o =
-    IsServeOutcome before after database.now count o
-IsDone files input terminal desks before after (Show place net what name) o =
-    IsShowOutcome desks before after place (option_map (λ word. word.now) net) what
+IsDone files input terminal earlier later before after (Serve database port count explain) o =
+    IsServeOutcome before after database.now count o × TakesNone earlier later
+IsDone files input terminal earlier later before after (Show place net what name) o =
+    IsShowOutcome earlier later before after place (option_map (λ word. word.now) net) what
     (option_map (λ word. word.now) name) o
-IsDone files input terminal desks before after (Table file) o =
+IsDone files input terminal earlier later before after (Table file) o =
     IsFileOutcome files input before after (record { task = task.Table; path = file; advice = requested false }) o
+    × TakesNone earlier later
 
 -- the outcome of words that request no job: the text of their fault
 abbrev pub IsFaultAnswer : JobFault → Outcome → Type 0
@@ -129,24 +137,33 @@ IsFaultAnswer (Usage text) o = o ≡ wrong_input (string_bytes text)
 IsFaultAnswer Memory o = o ≡ memory_lost
 
 -- the outcome of a command line
-abbrev pub IsAnswer : Files → Holding → Bool → Desks → Databases → Databases → Result Job JobFault → Outcome → Type 0
-IsAnswer files input terminal desks before after (Ok job) o = IsDone files input terminal desks before after job o
-IsAnswer files input terminal desks before after (Err fault) o = IsFaultAnswer fault o × AreKept before after
+abbrev pub IsAnswer : Files → Holding → Bool → Desks → Desks → Databases → Databases → Result Job JobFault → Outcome
+    → Type 0
+IsAnswer files input terminal earlier later before after (Ok job) o =
+    IsDone files input terminal earlier later before after job o
+IsAnswer files input terminal earlier later before after (Err fault) o =
+    IsFaultAnswer fault o × AreKept before after × TakesNone earlier later
 
 -- the outcome of the words that clap is given
-abbrev pub IsEnteredAnswer : List (List ℕ) → Files → Holding → Bool → Desks → Databases → Databases → Outcome → Type 0
-IsEnteredAnswer words files input terminal desks before after o = (line : Result Job JobFault) × IsLine words line
-    × IsAnswer files input terminal desks before after line o
+abbrev pub IsEnteredAnswer : List (List ℕ) → Files → Holding → Bool → Desks → Desks → Databases → Databases → Outcome
+    → Type 0
+IsEnteredAnswer words files input terminal earlier later before after o =
+    (line : Result Job JobFault) × IsLine words line
+    × IsAnswer files input terminal earlier later before after line o
 
 -- the outcome of the program's words, unless memory runs out before there is one
-abbrev pub IsAnswered : List (List ℕ) → Files → Holding → Bool → Desks → Databases → Databases → Outcome → Type 0
-IsAnswered words files input terminal desks before after o =
-    IsEnteredAnswer (entered (words_meant words)) files input terminal desks before after o
-
--- a run of the program: the outcome of its words is delivered, or that memory ran out
-abbrev pub IsPerformed : List (List ℕ) → Files → Holding → Bool → Desks → Databases → Databases → Writing → Writing
-    → Status
+abbrev pub IsAnswered : List (List ℕ) → Files → Holding → Bool → Desks → Desks → Databases → Databases → Outcome
     → Type 0
-IsPerformed words files input terminal desks before after output errors status =
-    (o : Outcome) × ((o ≡ memory_lost) ⊎ IsAnswered words files input terminal desks before after o)
+IsAnswered words files input terminal earlier later before after o =
+    IsEnteredAnswer (entered (words_meant words)) files input terminal earlier later before after o
+
+-- A run of the program: the outcome of its words is delivered, or that memory ran out. Then no desk was sent anything,
+-- or just what it is sent for an outcome of these words.
+abbrev pub IsPerformed : List (List ℕ) → Files → Holding → Bool → Desks → Desks → Databases → Databases → Writing
+    → Writing → Status → Type 0
+IsPerformed words files input terminal earlier later before after output errors status =
+    (o : Outcome)
+    × (((o ≡ memory_lost)
+    × IsUnprinted earlier later (IsAnswered words files input terminal earlier later before after))
+    ⊎ IsAnswered words files input terminal earlier later before after o)
     × IsDelivered o output errors status

@@ -3,7 +3,7 @@ use Rattle.std.specs.Prelude.{◌≡◌, ◌⊎◌, ◌==◌, ◌+◌, ◌-◌, 
 use Rattle.std.specs.Prelude.{Option, Some, None, Result, Ok, Err}
 use Rattle.std.specs.List.{AllZip}
 use Rattle.std.specs.Option.{option_map}
-use Rattle.canoffice_desks.specs.Desks.{Desks}
+use Rattle.canoffice_desks.specs.Desks.{Desks, Takes, TakesNone, Turn}
 use Rattle.canoffice_desks.specs.Replies.{Comes}
 use Rattle.canoffice_desks.specs.declared.sending.SendFault.{SendFault}
 use Rattle.canoffice_desks.specs.declared.sending.SendFault.TheVariants as fault
@@ -33,23 +33,36 @@ abbrev pub results_of : List Answer → Option SendFault → List (Result Answer
 results_of answers None = map Ok answers
 results_of answers (Some fault) = map Ok answers ++ Err fault ∷ []
 
--- each of the first requests came to its answer, and the next one to that for which it is lost, if one was
-abbrev pub HaveCome : (List ℕ → Result Answer SendFault → Type 0) → List (List ℕ) → List Answer → Option Lost → Type 0
-HaveCome Comes requests answers lost = (fault : Option SendFault) × (lost ≡ option_map lost_by fault)
-    × AllZip Comes (take (length (results_of answers fault)) requests) (results_of answers fault)
+-- Each of the requests came to its result, in the tries, at the port, and just these turns were taken: first those of
+-- the first request, then those of the next one, and so on.
+abbrev pub ComeInTurn : Desks → Sending → List (List ℕ) → List (Result Answer SendFault) → List Turn → Type 0
+ComeInTurn desks sending [] [] turns = turns ≡ []
+ComeInTurn desks sending [] (r ∷ rs) turns = ⊥
+ComeInTurn desks sending (request ∷ requests) [] turns = ⊥
+ComeInTurn desks sending (request ∷ requests) (r ∷ rs) turns =
+    (own : List Turn) × (later : List Turn) × (turns ≡ own ++ later)
+    × Comes desks sending.port request sending.tries own r × ComeInTurn desks sending requests rs later
 
--- what comes of the bytes of a request, at the port and in the tries
-abbrev pub comes_of : Desks → Sending → List ℕ → Result Answer SendFault → Type 0
-comes_of desks sending request r = Comes (desks.sent sending.port request) sending.tries r
+-- each of the first requests came to its answer, and the next one to that for which it is lost, if one was; none of
+-- those after it was sent
+abbrev pub HaveCome : Desks → Sending → List (List ℕ) → List Answer → Option Lost → List Turn → Type 0
+HaveCome desks sending requests answers lost turns = (fault : Option SendFault) × (lost ≡ option_map lost_by fault)
+    × ComeInTurn desks sending (take (length (results_of answers fault)) requests) (results_of answers fault) turns
 
--- The arrivals were sent in turn, as far as is due, each as its request, and what came of them is printed.
-pub record AreSent (desks : Desks) (sending : Sending) (arrivals : List Arrival) (o : Outcome) : Type 0 where
+-- so it was: these turns were taken, and no other one
+abbrev pub AreTaken : Desks → Desks → Sending → List (List ℕ) → List Answer → Option Lost → Type 0
+AreTaken before after sending requests answers lost =
+    (turns : List Turn) × Takes before after turns × HaveCome before sending requests answers lost turns
+
+-- The arrivals were sent in turn, as far as is due, each as its request, and what came of them is printed. Nothing else
+-- was sent.
+pub record AreSent (before after : Desks) (sending : Sending) (arrivals : List Arrival) (o : Outcome) : Type 0 where
   pub requests : List (List ℕ)
   pub sent : AllZip IsSentAs arrivals requests
   pub answers : List Answer
   pub lost : Option Lost
   pub far : IsFarEnough sending.manner.strict arrivals answers lost
-  pub came : HaveCome (comes_of desks sending) requests answers lost
+  pub came : AreTaken before after sending requests answers lost
   pub outcome : o ≡ answers_outcome sending.manner arrivals answers lost
 
 -- ---- what can't be sent
@@ -61,8 +74,9 @@ requesting_line number index (line ∷ lines) =
     if says_nothing line then requesting_line (number + 1) index lines
     else (if index == 0 then Some number else requesting_line (number + 1) (index - 1) lines)
 
--- no request is sent of one of the arrivals: the number of its line is printed
-pub record IsUnsendable (script : List ℕ) (arrivals : List Arrival) (o : Outcome) : Type 0 where
+-- no request is sent of one of the arrivals: the number of its line is printed, and nothing was sent
+pub record IsUnsendable (before after : Desks) (script : List ℕ) (arrivals : List Arrival) (o : Outcome) : Type 0 where
+  pub none : TakesNone before after
   pub index : ℕ
   pub first : IsFirstUnsent arrivals index
   pub number : ℕ
@@ -72,9 +86,9 @@ pub record IsUnsendable (script : List ℕ) (arrivals : List Arrival) (o : Outco
 -- ---- the whole script
 
 -- The arrivals of the script were sent, or of one of them no request is sent. Or something is amiss at a line of it.
--- The key `-` is wrong.
-abbrev pub IsSendOutcome : Files → Desks → Sending → List ℕ → Outcome → Type 0
-IsSendOutcome files desks sending script o =
+-- The key `-` is wrong. Then nothing was sent.
+abbrev pub IsSendOutcome : Files → Desks → Desks → Sending → List ℕ → Outcome → Type 0
+IsSendOutcome files before after sending script o =
     ((arrivals : List Arrival) × AreArrivalsOf files Wrong (lines_of script) arrivals
-    × (AreSent desks sending arrivals o ⊎ IsUnsendable script arrivals o))
-    ⊎ IsAmiss files Wrong script o
+    × (AreSent before after sending arrivals o ⊎ IsUnsendable before after script arrivals o))
+    ⊎ (IsAmiss files Wrong script o × TakesNone before after)

@@ -1,5 +1,5 @@
 //! Comparing two DBC texts, or two releases of a network.
-ghost use Rattle.std.specs.Prelude.{◌≡◌, ◌↔◌, ⊤, IfErr, IfOk, IsTrue};
+ghost use Rattle.std.specs.Prelude.{◌≡◌, ◌↔◌, ⊤, IfErr, IfOk, IsTrue, OnErr};
 ghost use Rattle.dbc_compare.specs.Lines.{compare_text};
 ghost use Rattle.dbc_grammar.specs.Reads.{Reads};
 ghost use Rattle.dbc_read.specs.Reading.{IsReadFault};
@@ -9,6 +9,7 @@ ghost use Rattle.canoffice_cli.specs.Formatted.{fault_errors};
 ghost use Rattle.canoffice_cli.specs.Holding.{source_at};
 ghost use Rattle.canoffice_cli.specs.Outcome.{outcome_of};
 ghost use Rattle.canoffice_cli.specs.Performance.{IsOfFile, IsOfTwoFiles};
+ghost use Rattle.canoffice_cli.specs.Unprinted.{IsUnprinted};
 
 use crate::databases::Databases;
 use crate::file_jobs::unreadable_report;
@@ -197,9 +198,12 @@ pub fn compare_releases_report<D: Databases, K: Desks>(
     old: u32,
     new: u32,
 ) -> Result<Report, AllocError>
-    ensures { IfOk result (λ report. IsReleasesOutcome (K.known desks.old)
-        (D.known databases.old)
-        (D.known databases.new) place.entry net.now old new (outcome_of report)) }
+    ensures shown { IfOk result (λ report. IsReleasesOutcome (K.known desks.old) (K.known desks.new)
+        (D.known databases.old) (D.known databases.new) place.entry net.now old new
+        (outcome_of report)) }
+    ensures lost { OnErr result (IsUnprinted (K.known desks.old) (K.known desks.new)
+        (IsReleasesOutcome (K.known desks.old) (K.known desks.new) (D.known databases.old)
+        (D.known databases.new) place.entry net.now old new)) }
 {
     let look = compare_look(alloc, net, old, new)?;
     let report = look_report(alloc, databases, desks, place, look)?;

@@ -1,5 +1,5 @@
 //! Looking at an office: one in a database, or one that a desk serves.
-ghost use Rattle.std.specs.Prelude.{◌≡◌, None, Ok, IfOk};
+ghost use Rattle.std.specs.Prelude.{◌≡◌, None, Ok, IfOk, OnErr};
 ghost use Rattle.std.specs.Option.{option_map};
 ghost use Rattle.std.specs.Result.{result_map_both};
 ghost use Rattle.sqlite.specs.Held.{state};
@@ -14,6 +14,7 @@ ghost use Rattle.canoffice_cli.specs.Desks.{asked_outcome, no_answer, response_o
 ghost use Rattle.canoffice_cli.specs.Looked.{IsLookOutcome, IsLookedAt, IsRequestsOutcome, IsShowOutcome};
 ghost use Rattle.canoffice_cli.specs.Looked.{shown_outcome};
 ghost use Rattle.canoffice_cli.specs.Outcome.{not_found, outcome_of};
+ghost use Rattle.canoffice_cli.specs.Unprinted.{IsUnprinted};
 
 use crate::answering::{lost_report, office_on};
 use crate::databases::Databases;
@@ -139,8 +140,11 @@ fn report_at<D: Databases, K: Desks>(
     place: Place<'_>,
     look: &Look,
 ) -> Result<Report, AllocError>
-    ensures { IfOk result (λ report. IsLookedAt (K.known desks.old) (D.known databases.old)
-        (D.known databases.new) place.entry look.now (outcome_of report)) }
+    ensures shown { IfOk result (λ report. IsLookedAt (K.known desks.old) (K.known desks.new)
+        (D.known databases.old) (D.known databases.new) place.entry look.now (outcome_of report)) }
+    ensures lost { OnErr result (IsUnprinted (K.known desks.old) (K.known desks.new)
+        (IsLookedAt (K.known desks.old) (K.known desks.new) (D.known databases.old)
+        (D.known databases.new) place.entry look.now)) }
 {
     match place {
         Place::Database(path) => shown_report(alloc, databases.look(alloc, path, look)),
@@ -159,8 +163,11 @@ pub(crate) fn look_report<D: Databases, K: Desks>(
     place: Place<'_>,
     look: Option<Look>,
 ) -> Result<Report, AllocError>
-    ensures { IfOk result (λ report. IsLookOutcome (K.known desks.old) (D.known databases.old)
-        (D.known databases.new) place.entry look (outcome_of report)) }
+    ensures shown { IfOk result (λ report. IsLookOutcome (K.known desks.old) (K.known desks.new)
+        (D.known databases.old) (D.known databases.new) place.entry look (outcome_of report)) }
+    ensures lost { OnErr result (IsUnprinted (K.known desks.old) (K.known desks.new)
+        (IsLookOutcome (K.known desks.old) (K.known desks.new) (D.known databases.old)
+        (D.known databases.new) place.entry look)) }
 {
     match look {
         Some(look) => report_at(alloc, databases, desks, place, &look),
@@ -181,9 +188,14 @@ pub fn show_report<D: Databases, K: Desks>(
     what: What,
     name: Option<&str>,
 ) -> Result<Report, AllocError>
-    ensures { IfOk result (λ report. IsShowOutcome (K.known desks.old) (D.known databases.old)
+    ensures shown { IfOk result (λ report. IsShowOutcome (K.known desks.old) (K.known desks.new)
+        (D.known databases.old) (D.known databases.new) place.entry
+        (option_map (λ w. w.now) net.entry) what (option_map (λ w. w.now) name.entry)
+        (outcome_of report)) }
+    ensures lost { OnErr result (IsUnprinted (K.known desks.old) (K.known desks.new)
+        (IsShowOutcome (K.known desks.old) (K.known desks.new) (D.known databases.old)
         (D.known databases.new) place.entry (option_map (λ w. w.now) net.entry) what
-        (option_map (λ w. w.now) name.entry) (outcome_of report)) }
+        (option_map (λ w. w.now) name.entry))) }
 {
     let look = show_look(alloc, net, what, name)?;
     look_report(alloc, databases, desks, place, look)
@@ -198,9 +210,12 @@ pub fn requests_report<D: Databases, K: Desks>(
     place: Place<'_>,
     team: &str,
 ) -> Result<Report, AllocError>
-    ensures { IfOk result (λ report. IsRequestsOutcome (K.known desks.old)
-        (D.known databases.old)
-        (D.known databases.new) place.entry team.now (outcome_of report)) }
+    ensures shown { IfOk result (λ report. IsRequestsOutcome (K.known desks.old) (K.known desks.new)
+        (D.known databases.old) (D.known databases.new) place.entry team.now
+        (outcome_of report)) }
+    ensures lost { OnErr result (IsUnprinted (K.known desks.old) (K.known desks.new)
+        (IsRequestsOutcome (K.known desks.old) (K.known desks.new) (D.known databases.old)
+        (D.known databases.new) place.entry team.now)) }
 {
     let look = requests_look(alloc, team)?;
     look_report(alloc, databases, desks, place, look)

@@ -1,8 +1,9 @@
 //! Pages: of DBC texts, and of what an office has.
-ghost use Rattle.std.specs.Prelude.{◌≡◌, ◌≤◌, length, IfOk};
+ghost use Rattle.std.specs.Prelude.{◌≡◌, ◌≤◌, length, IfOk, OnErr};
 ghost use Rattle.std.specs.List.{suffix_len};
 ghost use Rattle.canoffice_cli.specs.Outcome.{outcome_of};
 ghost use Rattle.canoffice_cli.specs.Paged.{IsFilePageOutcome, IsPageOutcome, in_part, last_part, page_name};
+ghost use Rattle.canoffice_cli.specs.Unprinted.{IsUnprinted};
 
 use crate::checking::fault_line;
 use crate::databases::Databases;
@@ -78,8 +79,12 @@ pub fn page_report<D: Databases, K: Desks>(
     net: &str,
     number: u32,
 ) -> Result<Report, AllocError>
-    ensures { IfOk result (λ report. IsPageOutcome (K.known desks.old) (D.known databases.old)
-        (D.known databases.new) place.entry net.now number (outcome_of report)) }
+    ensures shown { IfOk result (λ report. IsPageOutcome (K.known desks.old) (K.known desks.new)
+        (D.known databases.old) (D.known databases.new) place.entry net.now number
+        (outcome_of report)) }
+    ensures lost { OnErr result (IsUnprinted (K.known desks.old) (K.known desks.new)
+        (IsPageOutcome (K.known desks.old) (K.known desks.new) (D.known databases.old)
+        (D.known databases.new) place.entry net.now number)) }
 {
     let look = page_look(alloc, net, number)?;
     look_report(alloc, databases, desks, place, look)

@@ -1,8 +1,9 @@
 //! A run of the program, from its words to its exit status.
-ghost use Rattle.std.specs.Prelude.{IfOk, is_some, map};
+ghost use Rattle.std.specs.Prelude.{IfOk, OnErr, is_some, map};
 ghost use Rattle.canoffice_cli.specs.Outcome.{outcome_of};
 ghost use Rattle.canoffice_jobs.specs.CommandLine.{entered};
 ghost use Rattle.canoffice_cli.specs.Performance.{IsAnswered, IsDone, IsEnteredAnswer, IsFaultAnswer, IsPerformed};
+ghost use Rattle.canoffice_cli.specs.Unprinted.{IsUnprinted};
 
 use crate::charting::chart_report;
 use crate::comparing::{compare_releases_report, compare_report};
@@ -49,7 +50,7 @@ pub fn perform<
     progress: &mut Progress<W>,
 ) -> Status
     ensures { IsPerformed (map (λ s. s.now) words.entry.now) (F.held files.now) (F.given files.now)
-        (is_some progress.old.to) (K.known desks.old)
+        (is_some progress.old.to) (K.known desks.old) (K.known desks.new)
         (D.known databases.old) (D.known databases.new) (O.contents out.old, O.contents out.new)
         (E.contents errors.old, E.contents errors.new) result }
 {
@@ -66,11 +67,15 @@ fn answer<'a, F: FileSource + StandardInput, D: Databases, K: Desks, W: Write>(
     desks: &mut K,
     progress: &mut Progress<W>,
 ) -> Result<Report, AllocError>
-    ensures { IfOk result (λ report. IsAnswered (map (λ s. s.now) words.entry.now)
-        (F.held files.now)
-        (F.given files.now) (is_some progress.old.to) (K.known desks.old)
-        (D.known databases.old) (D.known databases.new)
-        (outcome_of report)) }
+    ensures answered { IfOk result (λ report. IsAnswered (map (λ s. s.now) words.entry.now)
+        (F.held files.now) (F.given files.now)
+        (is_some progress.old.to) (K.known desks.old) (K.known desks.new)
+        (D.known databases.old) (D.known databases.new) (outcome_of report)) }
+    ensures lost { OnErr result (IsUnprinted (K.known desks.old) (K.known desks.new)
+        (IsAnswered (map (λ s. s.now) words.entry.now)
+        (F.held files.now) (F.given files.now)
+        (is_some progress.old.to) (K.known desks.old) (K.known desks.new)
+        (D.known databases.old) (D.known databases.new))) }
 {
     match name_before_help(words) {
         Some(name) => {
@@ -90,11 +95,15 @@ fn answer_meant<'a, F: FileSource + StandardInput, D: Databases, K: Desks, W: Wr
     desks: &mut K,
     progress: &mut Progress<W>,
 ) -> Result<Report, AllocError>
-    ensures { IfOk result (λ report. IsEnteredAnswer (entered (map (λ s. s.now) words.entry.now))
-        (F.held files.now)
-        (F.given files.now) (is_some progress.old.to) (K.known desks.old)
-        (D.known databases.old) (D.known databases.new)
-        (outcome_of report)) }
+    ensures answered { IfOk result (λ report. IsEnteredAnswer (entered (map (λ s. s.now) words.entry.now))
+        (F.held files.now) (F.given files.now)
+        (is_some progress.old.to) (K.known desks.old) (K.known desks.new)
+        (D.known databases.old) (D.known databases.new) (outcome_of report)) }
+    ensures lost { OnErr result (IsUnprinted (K.known desks.old) (K.known desks.new)
+        (IsEnteredAnswer (entered (map (λ s. s.now) words.entry.now))
+        (F.held files.now) (F.given files.now)
+        (is_some progress.old.to) (K.known desks.old) (K.known desks.new)
+        (D.known databases.old) (D.known databases.new))) }
 {
     if is_check(words) {
         let entered = lint_entered(alloc, words)?;
@@ -112,11 +121,15 @@ fn answer_entered<'a, F: FileSource + StandardInput, D: Databases, K: Desks, W: 
     desks: &mut K,
     progress: &mut Progress<W>,
 ) -> Result<Report, AllocError>
-    ensures { IfOk result (λ report. IsEnteredAnswer (map (λ s. s.now) words.entry.now)
-        (F.held files.now)
-        (F.given files.now) (is_some progress.old.to) (K.known desks.old)
-        (D.known databases.old) (D.known databases.new)
-        (outcome_of report)) }
+    ensures answered { IfOk result (λ report. IsEnteredAnswer (map (λ s. s.now) words.entry.now)
+        (F.held files.now) (F.given files.now)
+        (is_some progress.old.to) (K.known desks.old) (K.known desks.new)
+        (D.known databases.old) (D.known databases.new) (outcome_of report)) }
+    ensures lost { OnErr result (IsUnprinted (K.known desks.old) (K.known desks.new)
+        (IsEnteredAnswer (map (λ s. s.now) words.entry.now)
+        (F.held files.now) (F.given files.now)
+        (is_some progress.old.to) (K.known desks.old) (K.known desks.new)
+        (D.known databases.old) (D.known databases.new))) }
 {
     match job_of(alloc, words) {
         Ok(job) => report_of(alloc, &job, files, databases, desks, progress),
@@ -144,10 +157,15 @@ pub fn report_of<F: FileSource + StandardInput, D: Databases, K: Desks, W: Write
     desks: &mut K,
     progress: &mut Progress<W>,
 ) -> Result<Report, AllocError>
-    ensures { IfOk result (λ report. IsDone (F.held files.now) (F.given files.now)
-        (is_some progress.old.to) (K.known desks.old)
-        (D.known databases.old)
-        (D.known databases.new) job.now (outcome_of report)) }
+    ensures done { IfOk result (λ report. IsDone
+        (F.held files.now) (F.given files.now)
+        (is_some progress.old.to) (K.known desks.old) (K.known desks.new)
+        (D.known databases.old) (D.known databases.new) job.now (outcome_of report)) }
+    ensures lost { OnErr result (IsUnprinted (K.known desks.old) (K.known desks.new)
+        (IsDone
+        (F.held files.now) (F.given files.now)
+        (is_some progress.old.to) (K.known desks.old) (K.known desks.new)
+        (D.known databases.old) (D.known databases.new) job.now)) }
 {
     match job {
         Job::Apply {

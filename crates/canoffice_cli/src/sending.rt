@@ -1,6 +1,7 @@
 //! Sending a script to a desk.
-ghost use Rattle.std.specs.Prelude.{◌≡◌, ◌∷◌, length, List, IfOk, IfSome, ⊤};
+ghost use Rattle.std.specs.Prelude.{◌≡◌, ◌∷◌, length, List, IfOk, IfSome, OnErr};
 ghost use Rattle.std.specs.List.{AllZip};
+ghost use Rattle.canoffice_desks.specs.Desks.{TakesNone};
 ghost use Rattle.desk_send.specs.Request.{IsSentAs};
 ghost use Rattle.office_history.specs.declared.arrival.Arrival.{Arrival as AnArrival};
 ghost use Rattle.office_script.specs.Lines.{lines_of};
@@ -8,7 +9,8 @@ ghost use Rattle.canoffice_cli.specs.Answered.{IsFarEnough};
 ghost use Rattle.canoffice_cli.specs.Holding.{source_at};
 ghost use Rattle.canoffice_cli.specs.Outcome.{outcome_of};
 ghost use Rattle.canoffice_cli.specs.Performance.{IsOfFile};
-ghost use Rattle.canoffice_cli.specs.Sent.{AreSent, HaveCome, IsSendOutcome, comes_of, lost_by, requesting_line};
+ghost use Rattle.canoffice_cli.specs.Sent.{AreSent, AreTaken, IsSendOutcome, lost_by, requesting_line};
+ghost use Rattle.canoffice_cli.specs.Unprinted.{IsUnprinted};
 
 use crate::answering::{Answers, stops_at};
 use crate::apply::amiss_report;
@@ -71,8 +73,9 @@ fn send_all<K: Desks, W: Write>(
     ensures far { IfOk result (λ sent. (arrivals : List AnArrival)
         → length requests.now ≡ length arrivals
         → IsFarEnough sending.manner.strict arrivals sent.answers.items sent.lost) }
-    ensures came { IfOk result (λ sent. HaveCome (comes_of (K.known desks.old) sending)
+    ensures came { IfOk result (λ sent. AreTaken (K.known desks.old) (K.known desks.new) sending
         requests.now sent.answers.items sent.lost) }
+    ensures none { OnErr result (TakesNone (K.known desks.old) (K.known desks.new)) }
 {
     let mut answers = Vec::with_capacity(alloc, requests.len())?;
     let mut lines = RequestLines::of(script);
@@ -120,8 +123,10 @@ fn sent_report<K: Desks, W: Write>(
     progress: &mut Progress<W>,
 ) -> Result<Report, AllocError>
     requires { AllZip IsSentAs arrivals.now requests.now }
-    ensures { IfOk result (λ report. AreSent (K.known desks.old) sending arrivals.now
-        (outcome_of report)) }
+    ensures sent { IfOk result (λ report. AreSent (K.known desks.old) (K.known desks.new) sending
+        arrivals.now (outcome_of report)) }
+    ensures lost { OnErr result (IsUnprinted (K.known desks.old) (K.known desks.new)
+        (AreSent (K.known desks.old) (K.known desks.new) sending arrivals.now)) }
 {
     // Room first, so that no answer is lost because memory for its line runs out.
     let room = Room::for_answers(alloc, arrivals, sending.manner.echo)?;
@@ -139,8 +144,11 @@ fn send_script<F: FileSource, K: Desks, W: Write>(
     sending: Sending,
     progress: &mut Progress<W>,
 ) -> Result<Report, AllocError>
-    ensures { IfOk result (λ report. IsSendOutcome (F.held files.now) (K.known desks.old) sending
-        script.now (outcome_of report)) }
+    ensures sent { IfOk result (λ report. IsSendOutcome (F.held files.now) (K.known desks.old)
+        (K.known desks.new) sending script.now (outcome_of report)) }
+    ensures lost { OnErr result (IsUnprinted (K.known desks.old) (K.known desks.new)
+        (IsSendOutcome (F.held files.now) (K.known desks.old) (K.known desks.new) sending
+        script.now)) }
 {
     let arrivals = match arrivals_of(alloc, script, Dash::Wrong, files) {
         Ok(arrivals) => arrivals,
@@ -172,9 +180,13 @@ pub fn send_report<F: FileSource + StandardInput, K: Desks, W: Write>(
     sending: Sending,
     progress: &mut Progress<W>,
 ) -> Result<Report, AllocError>
-    ensures { IfOk result (λ report. IsOfFile ⊤
-        (IsSendOutcome (F.held files.now) (K.known desks.old) sending) path.now
+    ensures sent { IfOk result (λ report. IsOfFile (TakesNone (K.known desks.old) (K.known desks.new))
+        (IsSendOutcome (F.held files.now) (K.known desks.old) (K.known desks.new) sending) path.now
         (source_at (F.held files.now) (F.given files.now) path.now) (outcome_of report)) }
+    ensures lost { OnErr result (IsUnprinted (K.known desks.old) (K.known desks.new)
+        (IsOfFile (TakesNone (K.known desks.old) (K.known desks.new))
+        (IsSendOutcome (F.held files.now) (K.known desks.old) (K.known desks.new) sending) path.now
+        (source_at (F.held files.now) (F.given files.now) path.now))) }
 {
     match bytes_at(alloc, files, path) {
         Ok(script) => send_script(alloc, &script, files, desks, sending, progress),

@@ -9,6 +9,7 @@ use Rattle.desk_types.specs.declared.fault.DeskFault.TheVariants.{Memory, Read, 
 use Rattle.office_history.specs.declared.arrival.Answer.TheVariants.{Reply, KeyReused}
 use Rattle.office_types.specs.declared.refusal.Refusal.TheVariants as no
 use Rattle.office_types.specs.declared.reply.Reply.TheVariants as reply
+use Rattle.canoffice_desks.specs.Desks.{no_desk, turn, unknown_desks}
 use Rattle.canoffice_desks.specs.Replies.{Comes, IsReply, is_again}
 use Rattle.canoffice_desks.specs.declared.sending.SendFault.TheVariants.{NoReply}
 
@@ -34,12 +35,30 @@ a_used_key : IsReply (Ok (whole (Other 409) (codes "{\"name\":\"KeyReused\",\"re
 unfolding serde_json_on_literals digits
 a_used_key = record { status = refl; body = refl }
 
--- a desk that isn't there at first
-comes_in_the_end : Comes (λ came. Unit {0}) 3 (Ok (Reply reply.Done))
+-- a desk that isn't there at first: its three turns are the record, each of the same bytes
+comes_in_the_end : Comes unknown_desks 8086 (codes "POST") 3
+    (turn 8086 (codes "POST") (Err Connect) ∷ turn 8086 (codes "POST") (Err Connect)
+    ∷ turn 8086 (codes "POST") (Ok (whole Success (codes "{\"done\":true}"))) ∷ [])
+    (Ok (Reply reply.Done))
 unfolding serde_json_on_literals digits
 comes_in_the_end =
     let done = Ok (whole Success (codes "{\"done\":true}")) in
-    (Err Connect, tt, (Err Connect, tt, (done, tt, record { status = refl; body = refl })))
+    let last = turn 8086 (codes "POST") done ∷ [] in
+    let one = turn 8086 (codes "POST") (Err Connect) ∷ last in (
+      Err Connect,
+      one,
+      refl,
+      tt,
+      (
+        Err Connect,
+        last,
+        refl,
+        tt,
+        (done, [], refl, tt, (refl, record { status = refl; body = refl })),
+      ),
+    )
 
-never_comes : Comes (λ came. came ≡ Err Connect) 2 (Err NoReply)
-never_comes = (Err Connect, refl, (Err Connect, refl, refl))
+never_comes : Comes no_desk 8086 [] 2 (turn 8086 [] (Err Connect) ∷ turn 8086 [] (Err Connect) ∷ []) (Err NoReply)
+never_comes =
+    let one = turn 8086 [] (Err Connect) ∷ [] in
+    (Err Connect, one, refl, refl, (Err Connect, [], refl, refl, (refl, refl)))

@@ -1,11 +1,11 @@
 -- What comes of a request that is sent to a desk until it is answered.
-use Rattle.std.specs.Prelude.{◌≡◌, ◌==◌, ℕ, zero, suc, Bool, true, false, Result, Ok, Err, ⊤}
+use Rattle.std.specs.Prelude.{◌≡◌, ◌==◌, ℕ, zero, suc, Bool, true, false, List, [], ◌∷◌, Result, Ok, Err, ⊤}
 use Rattle.desk_client.specs.Received.{code_of, cut, not_http, too_long, whole}
 use Rattle.desk_client.specs.declared.fault.AskFault.TheVariants.{Connect, Connection}
 use Rattle.desk_send.specs.Answer.{IsAnswer, IsWritten}
 use Rattle.desk_types.specs.declared.fault.DeskFault.TheVariants as desk
 use Rattle.office_history.specs.declared.arrival.Answer.{Answer}
-use Rattle.canoffice_desks.specs.Desks.{Asked}
+use Rattle.canoffice_desks.specs.Desks.{Asked, Desks, Takes, Turn, turn}
 use Rattle.canoffice_desks.specs.declared.sending.SendFault.{SendFault}
 use Rattle.canoffice_desks.specs.declared.sending.SendFault.TheVariants.{NoReply, Memory}
 use Rattle.canoffice_desks.specs.declared.sending.Step.{Step}
@@ -34,29 +34,51 @@ IsReply (Err fault) a = ⊥
 abbrev pub HasNoReply : Asked → Type 0
 HasNoReply came = (a : Answer) → IsAnswer a → ¬ (IsReply came a)
 
--- a try of which this came, after which the request isn't sent again, ends with this; out of memory states nothing
+-- memory may run out for the connection, or for what a whole response says
+abbrev pub MayLackMemory : Asked → Type 0
+MayLackMemory (Ok (whole status body)) = ⊤
+MayLackMemory (Ok cut) = ⊥
+MayLackMemory (Ok not_http) = ⊥
+MayLackMemory (Ok too_long) = ⊥
+MayLackMemory (Err Connect) = ⊥
+MayLackMemory (Err (Connection desk.Read)) = ⊥
+MayLackMemory (Err (Connection desk.Write)) = ⊥
+MayLackMemory (Err (Connection desk.Memory)) = ⊤
+
+-- a try of which this came, after which the request isn't sent again, ends with this
 abbrev pub EndsWith : Asked → Result Answer SendFault → Type 0
 EndsWith came (Ok a) = IsReply came a
 EndsWith came (Err NoReply) = HasNoReply came
-EndsWith came (Err Memory) = ⊤
+EndsWith came (Err Memory) = MayLackMemory came
 
-abbrev pub GoesOn : Bool → Type 0 → Asked → Result Answer SendFault → Type 0
-GoesOn true Next came r = Next
-GoesOn false Next came r = EndsWith came r
+-- a try of which this came: the next ones follow where the request is sent again, and else none does
+abbrev pub GoesOn : Bool → List Turn → Type 0 → Asked → Result Answer SendFault → Type 0
+GoesOn true later Next came r = Next
+GoesOn false later Next came r = (later ≡ []) × EndsWith came r
 
--- In so many tries, of each of which this may come, this comes of a request: where it is to be sent again, what comes
--- in the tries that are left, and where none is left, no reply.
-abbrev pub Comes : (Asked → Type 0) → ℕ → Result Answer SendFault → Type 0
-Comes May zero r = r ≡ Err NoReply
-Comes May (suc tries) r = (came : Asked) × May came × GoesOn (is_again came) (Comes May tries r) came r
+-- In so many tries of a request at a port just these turns are taken, and this comes of it in the end. Each is of
+-- exactly its bytes at that port. Where it is to be sent again, the next ones are in the tries that are left; else it
+-- was the last one. Where no try is left, there is none, and no reply.
+abbrev pub Comes : Desks → ℕ → List ℕ → ℕ → List Turn → Result Answer SendFault → Type 0
+Comes desks port request zero turns r = (turns ≡ []) × (r ≡ Err NoReply)
+Comes desks port request (suc tries) turns r =
+    (came : Asked) × (later : List Turn) × (turns ≡ turn port request came ∷ later) × desks.sent port request came
+    × GoesOn (is_again came) later (Comes desks port request tries later r) came r
+
+-- so it was: these turns were taken, and no other one
+abbrev pub HasCome : Desks → Desks → ℕ → List ℕ → ℕ → Result Answer SendFault → Type 0
+HasCome before after port request tries r =
+    (turns : List Turn) × Takes before after turns × Comes before port request tries turns r
 
 -- what a try shows
 abbrev pub IsStep : Asked → Step → Type 0
 IsStep came (step.Answered a) = (is_again came ≡ false) × IsReply came a
 IsStep came step.Again = is_again came ≡ true
 IsStep came step.Over = (is_again came ≡ false) × HasNoReply came
-IsStep came step.OutOfMemory = is_again came ≡ false
+IsStep came step.OutOfMemory = (is_again came ≡ false) × MayLackMemory came
 
--- the same of a try of which this may come
-abbrev pub Shows : (Asked → Type 0) → Step → Type 0
-Shows May shown = (came : Asked) × May came × IsStep came shown
+-- the same of a try, which is one turn
+abbrev pub Shows : Desks → Desks → ℕ → List ℕ → Step → Type 0
+Shows before after port request shown =
+    (came : Asked) × before.sent port request came × Takes before after (turn port request came ∷ [])
+    × IsStep came shown

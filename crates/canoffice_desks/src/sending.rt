@@ -2,8 +2,8 @@
 ghost use Rattle.std.specs.Prelude.{Ok};
 ghost use Rattle.std.specs.Result.{result_map_both};
 ghost use Rattle.desk_client.specs.Received.{seen, whole};
-ghost use Rattle.canoffice_desks.specs.Desks.{AreStill};
-ghost use Rattle.canoffice_desks.specs.Replies.{Comes, IsStep, Shows};
+ghost use Rattle.canoffice_desks.specs.Desks.{AreStill, TakesNone};
+ghost use Rattle.canoffice_desks.specs.Replies.{HasCome, IsStep, Shows};
 
 use crate::desks::Desks;
 use desk_client::{AskFault, Received, Response};
@@ -69,7 +69,8 @@ fn step_of(alloc: Global, came: Result<Received, AskFault>) -> Step
 
 /// Waits for a moment, unless it is the first try.
 fn pause_before<K: Desks>(desks: &mut K, is_first: bool)
-    ensures { AreStill (K.known desks.old) (K.known desks.new) }
+    ensures still { AreStill (K.known desks.old) (K.known desks.new) }
+    ensures takes { TakesNone (K.known desks.old) (K.known desks.new) }
 {
     if !is_first {
         desks.pause();
@@ -84,7 +85,7 @@ fn try_once<K: Desks>(
     request: &[u8],
     is_first: bool,
 ) -> Step
-    ensures shows { Shows ((K.known desks.old).sent port request.now) result }
+    ensures shows { Shows (K.known desks.old) (K.known desks.new) port request.now result }
     ensures still { AreStill (K.known desks.old) (K.known desks.new) }
 {
     pause_before(desks, is_first);
@@ -101,7 +102,7 @@ pub fn reply_to<K: Desks>(
     request: &[u8],
     tries: u32,
 ) -> Result<Answer, SendFault>
-    ensures comes { Comes ((K.known desks.old).sent port request.now) tries result }
+    ensures comes { HasCome (K.known desks.old) (K.known desks.new) port request.now tries result }
     ensures still { AreStill (K.known desks.old) (K.known desks.new) }
 {
     let mut left = tries;

@@ -2,8 +2,8 @@ use Rattle.std.proofs.Common.{◌≡◌, ◌+◌, ◌<◌, ◌++◌, ◌∷◌, 
 use Rattle.std.proofs.lemmas.List.{take_more}
 use Rattle.std.specs.List.{list_any}
 use Rattle.office_script.specs.Echoes.{is_refused}
-use Rattle.canoffice_desks.proofs.Trying.{comes_more, still_on}
-use Rattle.canoffice_cli.specs.Sent.{comes_of}
+use Rattle.canoffice_desks.specs.Replies.{HasCome}
+use Rattle.canoffice_desks.proofs.Trying.{still_on}
 use Rattle.canoffice_cli.proofs.Sent.{answered_more, answered_none, come_all, come_to_a_loss}
 use Rattle.canoffice_cli.proofs.Stopping.{far_at_loss, far_at_refusal, ends_here, still_none}
 use Rattle.canoffice_cli.proofs.sending.send_all.Goals as goal
@@ -18,7 +18,7 @@ loop-request-init g c =
       each = ap length c.in_ok-answers.ensures.items;
       none = λ _. ap (list_any is_refused) c.in_ok-answers.ensures.items;
       still = λ port request came may. may;
-      came = answered_none (comes_of first c.args.sending) c.args.requests.now _ c.in_ok-answers.ensures.items;
+      came = answered_none first c.args.sending c.args.requests.now _ c.in_ok-answers.ensures.items;
     }
 
 pub push_reserved-requires : goal.push_reserved-requires
@@ -32,6 +32,7 @@ loop-request-preserved g c =
     let at = c.loop-request.request-index in
     let first = g.K.Desks.known c.args.desks.now in
     let mid = g.K.Desks.known c.loop-request.desks in
+    let after = g.K.Desks.known c.reply_to.new.desks in
     let requests = c.args.requests.now in
     let item = c.request-item.result in
     let items = c.loop-request.answers.items in
@@ -39,10 +40,8 @@ loop-request-preserved g c =
     let within : at < length requests = c.loop-request-test.true in
     let next : take (at + 1) requests ≡ take at requests ++ item ∷ [] =
     rw (take_more requests at item within, ← c.request-item.is) in
-    let came : comes_of first sending item (Ok c.in-Ok.answer) =
-    comes_more (mid.sent sending.port item) (first.sent sending.port item)
-    (λ came may. i.still sending.port item came may) sending.tries _
-    (rw c.as_slice.ensures at c.in-Ok.ensures.comes) in
+    let one : HasCome mid after sending.port item sending.tries (Ok c.in-Ok.answer) =
+    rw c.as_slice.ensures at c.in-Ok.ensures.comes in
     record {
       within = omega (arith, within);
       len = let len = i.len in let more = c.push_reserved.ensures.len in omega (arith, len, more);
@@ -51,9 +50,9 @@ loop-request-preserved g c =
           ap length c.push_reserved.ensures.items ∙ omega (arith, each, one);
       none = still_none sending.manner.strict c.stops_at-stops.result items _ c.in-Ok.answer i.none
           c.stops_at-stops.ensures c.if-stops.false c.push_reserved.ensures.items;
-      still = still_on first mid (g.K.Desks.known c.reply_to.new.desks) i.still c.in-Ok.ensures.still;
-      came = answered_more (comes_of first sending) requests at items _ item c.in-Ok.answer next
-          c.push_reserved.ensures.items i.came came;
+      still = still_on first mid after i.still c.in-Ok.ensures.still;
+      came = answered_more first sending mid after requests i.still at items item next _ c.in-Ok.answer
+          c.push_reserved.ensures.items i.came one;
     }
 
 pub returns-in-Err-clause-far : goal.returns-in-Err-clause-far
@@ -70,18 +69,17 @@ returns-in-Err-clause-came g c =
     let at = c.loop-request.request-index in
     let first = g.K.Desks.known c.args.desks.now in
     let mid = g.K.Desks.known c.loop-request.desks in
+    let after = g.K.Desks.known c.reply_to.new.desks in
     let requests = c.args.requests.now in
     let item = c.request-item.result in
     let sending = c.args.sending in
     let within : at < length requests = c.loop-request-test.true in
     let next : take (at + 1) requests ≡ take at requests ++ item ∷ [] =
     rw (take_more requests at item within, ← c.request-item.is) in
-    let came : comes_of first sending item (Err c.in-Err.fault) =
-    comes_more (mid.sent sending.port item) (first.sent sending.port item)
-    (λ came may. i.still sending.port item came may) sending.tries _
-    (rw c.as_slice.ensures at c.in-Err.ensures.comes) in
-    come_to_a_loss (comes_of first sending) requests at c.loop-request.answers.items item c.in-Err.fault _ next i.each
-    i.came came c.lost_by.ensures
+    let one : HasCome mid after sending.port item sending.tries (Err c.in-Err.fault) =
+    rw c.as_slice.ensures at c.in-Err.ensures.comes in
+    come_to_a_loss first sending mid after requests i.still at c.loop-request.answers.items item next c.in-Err.fault _
+    i.each i.came one c.lost_by.ensures
 
 pub returns-then-stops-clause-far : goal.returns-then-stops-clause-far
 returns-then-stops-clause-far g c =
@@ -102,6 +100,7 @@ returns-then-stops-clause-came g c =
     let at = c.loop-request.request-index in
     let first = g.K.Desks.known c.args.desks.now in
     let mid = g.K.Desks.known c.loop-request.desks in
+    let after = g.K.Desks.known c.reply_to.new.desks in
     let requests = c.args.requests.now in
     let item = c.request-item.result in
     let items = c.loop-request.answers.items in
@@ -110,19 +109,17 @@ returns-then-stops-clause-came g c =
     let within : at < length requests = c.loop-request-test.true in
     let next : take (at + 1) requests ≡ take at requests ++ item ∷ [] =
     rw (take_more requests at item within, ← c.request-item.is) in
-    let came : comes_of first sending item (Ok c.in-Ok.answer) =
-    comes_more (mid.sent sending.port item) (first.sent sending.port item)
-    (λ came may. i.still sending.port item came may) sending.tries _
-    (rw c.as_slice.ensures at c.in-Ok.ensures.comes) in
+    let one : HasCome mid after sending.port item sending.tries (Ok c.in-Ok.answer) =
+    rw c.as_slice.ensures at c.in-Ok.ensures.comes in
     let before = i.each in
-    let one = length-append items (c.in-Ok.answer ∷ []) in
-    let each : length all ≡ at + 1 = ap length c.push_reserved.ensures.items ∙ omega (arith, before, one) in
-    come_all (comes_of first sending) requests (at + 1) all each
-    (answered_more (comes_of first sending) requests at items all item c.in-Ok.answer next
-    c.push_reserved.ensures.items i.came came)
+    let longer = length-append items (c.in-Ok.answer ∷ []) in
+    let each : length all ≡ at + 1 = ap length c.push_reserved.ensures.items ∙ omega (arith, before, longer) in
+    come_all first sending after requests (at + 1) all each
+    (answered_more first sending mid after requests i.still at items item next all c.in-Ok.answer
+    c.push_reserved.ensures.items i.came one)
 
 pub returns-clause-came : goal.returns-clause-came
 returns-clause-came g c =
     let i = c.loop-request.invariant in
-    come_all (comes_of (g.K.Desks.known c.args.desks.now) c.args.sending) c.args.requests.now
+    come_all (g.K.Desks.known c.args.desks.now) c.args.sending (g.K.Desks.known c.loop-request.desks) c.args.requests.now
     c.loop-request.request-index c.loop-request.answers.items i.each i.came

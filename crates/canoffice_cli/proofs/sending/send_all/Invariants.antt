@@ -3,7 +3,6 @@ use Rattle.std.specs.Prelude.{IsTrue}
 use Rattle.std.specs.Vec.{vec_capacity, vec_len}
 use Rattle.canoffice_desks.specs.Desks.{AreStill}
 use Rattle.canoffice_cli.specs.Answered.{NoneRefused}
-use Rattle.canoffice_cli.specs.Sent.{comes_of}
 use Rattle.canoffice_cli.proofs.Sent.{Answered}
 use Rattle.canoffice_cli.proofs.sending.send_all.Given as goal
 
@@ -18,5 +17,5 @@ invariant-loop-request g l =
       each : length l.answers.items ≡ l.request-index;
       none : IsTrue l.sending.manner.strict → NoneRefused l.answers.items;
       still : AreStill first (g.K.Desks.known l.desks);
-      came : Answered (comes_of first l.sending) l.requests l.request-index l.answers.items;
+      came : Answered first l.sending (g.K.Desks.known l.desks) l.requests l.request-index l.answers.items;
     }

@@ -4,4 +4,5 @@ pub mod CommandLine
 pub mod Meant
 pub mod Built
 pub mod What
+pub mod WhatFault
 pub mod Words

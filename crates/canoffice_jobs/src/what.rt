@@ -2,6 +2,7 @@
 ghost use Rattle.std.specs.Prelude.{◌≡◌, None, Some, IfErr, IfOk};
 ghost use Rattle.std.specs.Option.{option_map};
 ghost use Rattle.canoffice_jobs.specs.What.{fits, shown_by, what_given, what_of, word_of};
+ghost use Rattle.canoffice_jobs.specs.WhatFault.{IsWhatFault};
 
 use std::alloc::{AllocError, Global};
 
@@ -109,19 +110,21 @@ impl WhatFault<'_> {
     }
 }
 
-/// What the word names; the state where there is no word.
-fn what_given<'a>(what: Option<&'a str>) -> Result<What, WhatFault<'a>>
+/// What the word names; the state where there is no word. The error is the word, which names nothing.
+fn what_given<'a>(what: Option<&'a str>) -> Result<What, &'a str>
     ensures given { IfOk result
         (λ shown. what_given (option_map (λ w. w.now) what.entry) ≡ Some shown) }
     ensures wrong { IfErr result
-        (λ fault. what_given (option_map (λ w. w.now) what.entry) ≡ None) }
+        (λ word. what_given (option_map (λ w. w.now) what.entry) ≡ None) }
+    ensures word { IfErr result (λ word. (option_map (λ w. w.now) what.entry ≡ Some word.now)
+        × (what_of word.now ≡ None)) }
 {
     let Some(word) = what else {
         return Ok(What::State);
     };
     match What::of_word(word) {
         Some(what) => Ok(what),
-        None => Err(WhatFault::Unknown(word)),
+        None => Err(word),
     }
 }
 
@@ -132,8 +135,13 @@ pub fn shown_by<'a>(what: Option<&'a str>, name: Option<&'a str>) -> Result<What
         (option_map (λ w. w.now) name.entry) ≡ Some shown) }
     ensures wrong { IfErr result (λ fault. shown_by (option_map (λ w. w.now) what.entry)
         (option_map (λ w. w.now) name.entry) ≡ None) }
+    ensures why { IfErr result (λ fault. IsWhatFault (option_map (λ w. w.now) what.entry)
+        (option_map (λ w. w.now) name.entry) fault) }
 {
-    let what = what_given(what)?;
+    let what = match what_given(what) {
+        Ok(what) => what,
+        Err(word) => return Err(WhatFault::Unknown(word)),
+    };
     if what.fits(name.is_some()) {
         return Ok(what);
     }

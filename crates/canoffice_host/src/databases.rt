@@ -49,9 +49,7 @@ fn serve_at<S: Alter>(
     serving: Serving,
 ) -> Result<(), ServeFault> {
     let mut listener = listen(rt, serving.port)?;
-    let Ok(address) = listener.address() else {
-        return Err(ServeFault::Listen);
-    };
+    let address = listener.address();
     let mut errors = rt.stderr();
     if !listener.has_descriptors() {
         let _reported = writeln!(

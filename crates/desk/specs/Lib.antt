@@ -1,5 +1,7 @@
 pub mod Devices
+pub mod LocalPort
 pub mod Noted
+pub mod Ports
 pub mod Responding
 pub mod Serving
 pub mod Visits

@@ -12,15 +12,18 @@
 //! contract says that each connection in turn leads from the history that the office's tables held before it to the one
 //! that they hold after it (`specs/Serving.antt`; `Visits.antt` has what came of the listener). A fault of a connection
 //! ends that connection alone. A [`Listener`] is in memory ([`MemoryListener`]) or a TCP port of this machine
-//! ([`LocalPort`]). No contract states the bytes of a socket: there the contract of [`serve`] says what becomes of the
-//! history, and that alone. [`Notes`] reports connections beside their responses, and no contract depends on it.
+//! ([`LocalPort`]), at 127.0.0.1 alone ([`LoopbackAddr`]). No contract states the bytes of a socket: there the contract
+//! of [`serve`] says what becomes of the history, and that alone. [`Notes`] reports connections beside their responses,
+//! and no contract depends on it.
 #![tactic(auto)]
 
 mod answering;
 mod fault;
 mod listener;
 mod local_port;
+mod loopback;
 mod memory_listener;
+mod ports;
 mod responding;
 mod serving;
 mod tcp_side;
@@ -30,7 +33,9 @@ pub use desk_types::{Counted, DeskFault, Failed, Problem, Sink, Source};
 pub use fault::ServeFault;
 pub use listener::Listener;
 pub use local_port::{LocalPort, listen};
+pub use loopback::LoopbackAddr;
 pub use memory_listener::{EndedConnection, MemoryListener};
+pub use ports::{PortSocket, Ports};
 pub use responding::serve_one;
 pub use serving::serve;
 pub use tcp_side::TcpSide;

@@ -1,12 +1,17 @@
 //! A TCP port of this machine.
-ghost use Rattle.std.specs.Prelude.{◌≡◌, None, IfErr};
+ghost use Rattle.std.specs.Prelude.{◌≡◌, IfErr, IfOk, IfSome, OnErr};
+ghost use Rattle.desk.specs.LocalPort.{stream_of, unknown_coming, unknown_ended};
+ghost use Rattle.desk.specs.Ports.{IsBoundAt, IsLoopback, TakesAtMostOne, TakesOne};
+ghost use Rattle.desk.specs.Serving.{IsAccepted, NoneWaits, Starts};
 
 use crate::fault::ServeFault;
 use crate::listener::Listener;
+use crate::loopback::LoopbackAddr;
+use crate::ports::{PortSocket, Ports};
 use crate::tcp_side::{TcpSide, Timed, is_interrupted};
 use desk_types::Failed;
 use std::io::{self, Read};
-use std::net::{Ipv4Addr, Net, Shutdown, SocketAddr, TcpListener, TcpStream};
+use std::net::{Shutdown, SocketAddr, TcpStream};
 use std::time::{Clock, Duration, Instant};
 
 /// For how many seconds what a peer still sends after its response is read: no read begins later. They begin anew where
@@ -19,50 +24,91 @@ const DRAIN_TURN_SECONDS: u64 = 1;
 /// How many such reads there are at most, each of at most 4096 bytes.
 const DRAIN_TURNS: u32 = 4096;
 
-/// A TCP port of this machine that is listened on, with the clock that bounds the time of connections.
+/// A port of 127.0.0.1 that is listened on, with the clock that bounds the time of connections.
 #[derive(Drop)]
-pub struct LocalPort<'r, C> {
-    listener: TcpListener,
+pub struct LocalPort<'r, S, C> {
+    socket: S,
+    at: LoopbackAddr,
     clock: &'r C,
 }
 
-/// Listens on the port of 127.0.0.1; on a free one where it is 0. `Listen` if that fails.
-pub fn listen<R: Net<Listener = TcpListener, Stream = TcpStream> + Clock>(
-    rt: &R,
-    port: u16,
-) -> Result<LocalPort<'_, R>, ServeFault>
-    ensures { IfErr result (λ fault. fault ≡ ServeFault.Listen) }
+/// The address of the socket, if it is 127.0.0.1 and the port, or any port where that is 0.
+fn checked_address<S: PortSocket>(socket: &S, port: u16) -> Option<LoopbackAddr>
+    ensures { IfSome result (λ at. IsBoundAt (S.address socket.now) port at.port) }
 {
-    match TcpListener::bind(rt, (Ipv4Addr::LOCALHOST, port)) {
-        Ok(listener) => Ok(LocalPort {
-            listener,
-            clock: rt,
-        }),
-        Err(_) => Err(ServeFault::Listen),
+    let Ok(own) = socket.own_address() else {
+        return None;
+    };
+    match LoopbackAddr::of(own) {
+        Some(at) if port == 0 || at.port == port => Some(at),
+        _ => None,
     }
 }
 
-impl<C: Clock> LocalPort<'_, C> {
+/// Listens on the port of 127.0.0.1; on a free one where it is 0. `Listen` if that fails, or if the socket then has
+/// another address.
+pub fn listen<R: Ports + Clock>(
+    rt: &R,
+    port: u16,
+) -> Result<LocalPort<'_, R::Socket, R>, ServeFault>
+    ensures bound { IfOk result (λ l. IsBoundAt (R.Socket.address l.socket) port l.at.port) }
+    ensures fault { IfErr result (λ fault. fault ≡ ServeFault.Listen) }
+{
+    let Ok(socket) = rt.listen_at(LoopbackAddr { port }) else {
+        return Err(ServeFault::Listen);
+    };
+    match checked_address(&socket, port) {
+        Some(at) => Ok(LocalPort {
+            socket,
+            at,
+            clock: rt,
+        }),
+        None => Err(ServeFault::Listen),
+    }
+}
+
+impl<S: PortSocket, C> LocalPort<'_, S, C> {
     /// The address and port that are listened on.
-    pub fn address(&self) -> io::Result<SocketAddr> {
-        self.listener.local_addr()
+    pub fn address(&self) -> SocketAddr
+        ensures { IsLoopback self.now.at.port result }
+    {
+        self.at.socket_addr()
     }
 
-    /// Whether there are two more file descriptors, which a connection takes. No contract says so: what the operating
-    /// system has left is in no clause of `std`.
+    /// Whether there are two more file descriptors, which a connection takes.
     pub fn has_descriptors(&self) -> bool {
-        match self.listener.try_clone() {
-            Ok(_first) => self.listener.try_clone().is_ok(),
-            Err(_) => false,
-        }
+        self.socket.has_descriptors()
     }
 }
 
 /// The two handles of a connection, one to read and one to write, with their time limits.
-fn timed_handles(stream: TcpStream, other: TcpStream) -> io::Result<(Timed, Timed)> {
+fn timed_handles(stream: TcpStream, other: TcpStream) -> io::Result<(Timed, Timed)>
+    ensures { IfOk result (λ handles. handles.0.stream ≡ stream) }
+{
     let reading = Timed::reading(stream)?;
     let writing = Timed::writing(other)?;
     Ok((reading, writing))
+}
+
+/// The two sides of a connection. If its time limits can't be set, each fails at its first call, and so it ends alone.
+/// `Failed` if there is no file descriptor for its second handle.
+fn sides_of<'r, C>(
+    stream: TcpStream,
+    clock: &'r C,
+) -> Result<(TcpSide<'r, C>, TcpSide<'r, C>), Failed>
+    ensures sound { IfOk result (λ c. (c.0.count ≡ 0) × (c.1.count ≡ 0)) }
+    ensures same { IfOk result (λ c. IfSome (stream_of c.0.timed) (λ s. s ≡ stream)) }
+{
+    let Ok(other) = stream.try_clone() else {
+        return Err(Failed);
+    };
+    match timed_handles(stream, other) {
+        Ok((reading, writing)) => Ok((
+            TcpSide::new(Some(reading), clock),
+            TcpSide::new(Some(writing), clock),
+        )),
+        Err(_) => Ok((TcpSide::new(None, clock), TcpSide::new(None, clock))),
+    }
 }
 
 /// Whether the peer has sent bytes that are unread, as it is now. They are thrown away, up to 4096.
@@ -96,36 +142,42 @@ fn drain<C: Clock>(stream: &mut TcpStream, clock: &C) -> io::Result<()> {
     Ok(())
 }
 
-impl<'r, C: Clock> Listener for LocalPort<'r, C> {
+impl<'r, S: PortSocket, C: Clock> Listener for LocalPort<'r, S, C> {
     type Request = TcpSide<'r, C>;
 
     type Response = TcpSide<'r, C>;
 
-    ghost coming = { λ _. None };
+    ghost coming = { λ _. unknown_coming };
 
-    ghost ended = { λ _. None };
+    ghost ended = { λ _. unknown_ended };
 
-    /// A connection whose time limits can't be set fails at its first read, and so ends alone. Without a file
-    /// descriptor for its second handle none can be accepted.
-    fn accept(&mut self) -> Result<(TcpSide<'r, C>, TcpSide<'r, C>), Failed> {
-        let Ok((stream, _)) = self.listener.accept() else {
+    /// Just one connection is taken. The error is that none comes, or that there is no file descriptor for the second
+    /// handle of one that came.
+    fn accept(&mut self) -> Result<(TcpSide<'r, C>, TcpSide<'r, C>), Failed>
+        // What any listener promises, of one that states neither what comes nor what ended.
+        ensures sound { IfOk result (λ c. (c.0.count ≡ 0) × (c.1.count ≡ 0)) }
+        ensures comes { IfOk result (λ c. IsAccepted unknown_coming unknown_coming None) }
+        ensures starts { IfOk result (λ c. Starts unknown_ended None) }
+        ensures waits { OnErr result
+            ((unknown_coming ≡ unknown_coming) × NoneWaits unknown_coming) }
+
+        // And of the socket.
+        ensures one { IfOk result (λ c. TakesOne (S.coming self.old.socket)
+            (S.coming self.new.socket) (stream_of c.0.timed)) }
+        ensures failed { OnErr result
+            (TakesAtMostOne (S.coming self.old.socket) (S.coming self.new.socket)) }
+    {
+        let Ok(stream) = self.socket.take_next() else {
             return Err(Failed);
         };
-        let Ok(other) = stream.try_clone() else {
-            return Err(Failed);
-        };
-        let (reading, writing) = match timed_handles(stream, other) {
-            Ok((reading, writing)) => (Some(reading), Some(writing)),
-            Err(_) => (None, None),
-        };
-        Ok((
-            TcpSide::new(reading, self.clock),
-            TcpSide::new(writing, self.clock),
-        ))
+        let sides = sides_of(stream, self.clock)?;
+        Ok(sides)
     }
 
     /// Shows the peer that nothing more comes. If it has sent bytes that are unread, what it still sends is read.
-    fn finish(&mut self, mut request: TcpSide<'r, C>, response: TcpSide<'r, C>) {
+    fn finish(&mut self, mut request: TcpSide<'r, C>, response: TcpSide<'r, C>)
+        ensures none { S.coming self.new.socket ≡ S.coming self.old.socket }
+    {
         let (Some(reading), Some(writing)) = (&mut request.timed, &response.timed) else {
             return;
         };

@@ -32,7 +32,9 @@ pub(crate) struct Timed {
 
 impl Timed {
     /// A handle that nothing was read from yet.
-    pub(crate) fn reading(stream: TcpStream) -> io::Result<Timed> {
+    pub(crate) fn reading(stream: TcpStream) -> io::Result<Timed>
+        ensures { IfOk result (λ timed. timed.stream ≡ stream) }
+    {
         let first = Duration::from_secs(FIRST_BYTE_SECONDS);
         stream.set_read_timeout(Some(first))?;
         Ok(Timed {
@@ -123,7 +125,8 @@ pub struct TcpSide<'r, C> {
 impl<'r, C> TcpSide<'r, C> {
     /// A side none of whose calls failed yet.
     pub(crate) fn new(timed: Option<Timed>, clock: &'r C) -> TcpSide<'r, C>
-        ensures { result.count ≡ 0 }
+        ensures sound { result.count ≡ 0 }
+        ensures timed { result.timed ≡ timed }
     {
         TcpSide {
             timed,

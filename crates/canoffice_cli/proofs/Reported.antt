@@ -2,16 +2,22 @@
 use Rattle.std.proofs.Common.{◌≡◌, ◌⊎◌, ◌+◌, ◌≤◌, ◌<◌, ℕ, zero, suc, inl, inr, List, [], ◌∷◌, ◌++◌, length, take, refl}
 use Rattle.std.proofs.Common.{sym, ap, subst, ◌∙◌, arith, append_assoc, append-nil}
 use Rattle.std.specs.Prelude.{IsTrue}
+use Rattle.sqlite.specs.Effect.{Database}
 use Rattle.sqlite.specs.State.{State}
+use Rattle.sqlite.specs.Tree.{Trees}
+use Rattle.office_rules.specs.Profile.{One, Profile, Two}
 use Rattle.store_tables.specs.Statements.{statistics_of}
 use Rattle.office_history.specs.Answering.{reported}
 use Rattle.office_history.specs.declared.arrival.Answer.{Answer}
 use Rattle.office_history.specs.declared.arrival.Arrival.{Arrival}
 use Rattle.office_history.specs.History.{Answered, IsLegalHistory}
 use Rattle.office_history.specs.Laws.{HistoriesGrow}
+use Rattle.store_migrate.specs.InForm.{KeepsAs}
+use Rattle.store_migrate.specs.declared.forms.SchemaForm.{SchemaForm}
+use Rattle.store_migrate.specs.declared.forms.SchemaForm.TheVariants.{All, Analyzed, Bodies, Foreign, Rows}
 use Rattle.store.specs.Holding.{Holding, Keeps}
-use Rattle.store.specs.Opening.{HasNone, HasOffice, HoldingInSomeForm, KeepsInSomeForm}
-use Rattle.store.proofs.TablesInForm.{has_office, in_form, office_in_form}
+use Rattle.store.specs.Opening.{HasNone, HasOffice, HoldingInSomeForm, HoldingOlder, KeepsInSomeForm, KeepsOlder}
+use Rattle.store.proofs.TablesInForm.{has_office, office_in_form}
 use Rattle.canoffice_cli.specs.Answered.{answered_with}
 use Rattle.canoffice_cli.specs.Databases.{Begins}
 
@@ -58,21 +64,41 @@ history_at_first h xs ys none = sym (ap (λ l. h ++ l) (ap (answered_with xs) no
 pub held_is_legal : (h : List Answered) (s : State) → Holding h s → IsLegalHistory h
 held_is_legal h s holding = (holding.keeps.holds.holds.office, holding.keeps.holds.holds.legal)
 
+-- in whatever form
+form_is_legal : (p : Profile) (form : SchemaForm) (h : List Answered) (db : Trees) → KeepsAs p form h db
+    → IsLegalHistory h
+form_is_legal One Bodies h db keeps = (keeps.holds.holds.office, keeps.holds.holds.legal)
+form_is_legal One Rows h db keeps = (keeps.holds.holds.office, keeps.holds.holds.legal)
+form_is_legal One All h db keeps = (keeps.holds.holds.office, keeps.holds.holds.legal)
+form_is_legal One Analyzed h db keeps = (keeps.holds.holds.office, keeps.holds.holds.legal)
+form_is_legal One Foreign h db keeps = absurd keeps.holds
+form_is_legal Two Bodies h db keeps = absurd keeps.holds
+form_is_legal Two Rows h db keeps = (keeps.holds.holds.office, keeps.holds.holds.legal)
+form_is_legal Two All h db keeps = (keeps.holds.holds.office, keeps.holds.holds.legal)
+form_is_legal Two Analyzed h db keeps = (keeps.holds.holds.office, keeps.holds.holds.legal)
+form_is_legal Two Foreign h db keeps = absurd keeps.holds
+
 -- the history with which an office begins is a legal one
 pub begun_is_legal : HistoriesGrow → (h : List Answered) (s : State) → Begins h s → IsLegalHistory h
-begun_is_legal grow h s (inl holding) = held_is_legal h s holding
+begun_is_legal grow h s (inl holding) = form_is_legal holding.keeps.0 holding.keeps.1 h s.now.trees holding.keeps.2
 begun_is_legal grow h s (inr new) = subst IsLegalHistory (sym new.0) (_, grow.begins)
 
 -- an office that was opened holds the history with which it begins
 pub begins_held : (old new : State) → (HasNone old → Holding [] new)
-    → ((h : List Answered) → Holding h old → Holding h new) → (h : List Answered) → Begins h old → Holding h new
+    → ((h : List Answered) → HoldingInSomeForm h old → Holding h new) → (h : List Answered) → Begins h old
+    → Holding h new
 begins_held old new made held h (inl holding) = held h holding
 begins_held old new made held h (inr none) = subst (λ k. Holding k new) (sym none.0) (made none.1)
 
 -- an office that was opened shows the statistics that there were
 pub begins_in_form : (h : List Answered) (s : State) → Begins h s → HoldingInSomeForm h s ⊎ HasNone s
-begins_in_form h s (inl holding) = inl (in_form h s holding)
+begins_in_form h s (inl holding) = inl holding
 begins_in_form h s (inr none) = inr none.1
+
+-- it begins on the tables of an office of some time, or on none
+pub begins_on : (h : List Answered) (s : State) → Begins h s → HasOffice s ⊎ HasNone s
+begins_on h s (inl holding) = inl (office_in_form h s holding)
+begins_on h s (inr none) = inr none.1
 
 pub still_rows : (old new : State) → (IsTrue old.is_open → old.now ≡ old.committed)
     → (IsTrue new.is_open → new.now ≡ new.committed)
@@ -85,6 +111,30 @@ still_rows old new settled_old settled_new back opened h (inr none) =
     ap statistics_of (settled_new opened ∙ back (inr none) opened ∙ sym (settled_old none.is_open))
 
 -- where opening is lost, what was last committed is shown still
+pub still_same : (old new : State) → (IsTrue old.is_open → old.now ≡ old.committed)
+    → (IsTrue new.is_open → new.now ≡ new.committed)
+    → (HasOffice old ⊎ HasNone old → IsTrue new.is_open → new.committed ≡ old.committed) → HasOffice old ⊎ HasNone old
+    → IsTrue new.is_open → (new.now ≡ old.now) × (new.committed ≡ old.committed)
+still_same old new settled_old settled_new back (inl office) opened =
+    let same = back (inl office) opened in (settled_new opened ∙ same ∙ sym (settled_old office.is_open), same)
+still_same old new settled_old settled_new back (inr none) opened =
+    let same = back (inr none) opened in (settled_new opened ∙ same ∙ sym (settled_old none.is_open), same)
+
+-- so that holds what was held, in whatever form
+pub same_in_form : (h : List Answered) (old new : State) → HoldingInSomeForm h old → IsTrue new.is_open
+    → new.now ≡ old.now → HoldingInSomeForm h new
+same_in_form h old new holding opened same = record {
+  is_open = opened;
+  keeps = subst (λ (db : Database). KeepsInSomeForm h db.trees) (sym same) holding.keeps;
+}
+
+pub same_older : (h : List Answered) (old new : State) → HoldingOlder h old → IsTrue new.is_open → new.now ≡ old.now
+    → HoldingOlder h new
+same_older h old new holding opened same = record {
+  is_open = opened;
+  keeps = subst (λ (db : Database). KeepsOlder h db.trees) (sym same) holding.keeps;
+}
+
 pub still_held : (old new : State) → (IsTrue old.is_open → old.now ≡ old.committed)
     → (IsTrue new.is_open → new.now ≡ new.committed)
     → (HasOffice old → IsTrue new.is_open → new.committed ≡ old.committed) → IsTrue new.is_open → (h : List Answered)
@@ -99,9 +149,8 @@ pub still_in_form : (old new : State) → (IsTrue old.is_open → old.now ≡ ol
     → (HasOffice old → IsTrue new.is_open → new.committed ≡ old.committed) → IsTrue new.is_open → (h : List Answered)
     → HoldingInSomeForm h old → HoldingInSomeForm h new
 still_in_form old new settled_old settled_new back opened h holding =
-    let same : new.now ≡ old.now = settled_new opened ∙ back (office_in_form h old holding) opened
-    ∙ sym (settled_old holding.is_open) in
-    record { is_open = opened; keeps = subst (λ db. KeepsInSomeForm h db.trees) (sym same) holding.keeps }
+    same_in_form h old new holding opened
+    (settled_new opened ∙ back (office_in_form h old holding) opened ∙ sym (settled_old holding.is_open))
 
 length_first : (k : ℕ) (xs : List Arrival) → k ≤ length xs → length (take k xs) ≡ k
 length_first zero xs within = refl

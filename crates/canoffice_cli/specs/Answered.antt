@@ -76,10 +76,20 @@ pub record AreAnswered (manner : Manner) (GoesOn : List Answered → Option Lost
 abbrev pub InMemory : List Answered → Option Lost → Type 0
 InMemory reported lost = IsLegalHistory reported
 
--- In the database of the path: the tables hold the history that they held, followed by what was answered. New tables
--- hold what was answered, or nothing was. The statistics stay.
+-- nothing was answered: opening the database was lost, or already the first arrival
+abbrev pub NoneAnswered : {A : Type 0} → List A → Option Lost → Type 0
+NoneAnswered answers lost = IsSome lost × (answers ≡ [])
+
+-- In the database of the path: the tables hold the history that they held, in whatever form, followed by what was
+-- answered. New tables hold what was answered. Or nothing was answered, as under the first profile, and they are as
+-- before. The statistics stay.
 pub record InDatabase (before after : Databases) (path : List ℕ) (reported : List Answered) (lost : Option Lost) : Type
     0 where
   pub held : (h : List Answered) → before.holds path h → after.is_sound → after.holds path (h ++ reported)
-  pub made : before.is_new path → after.is_sound → after.holds path reported ⊎ (IsSome lost × (reported ≡ []))
+  pub completed : (h : List Answered) → before.holds_in_form path h → after.is_sound
+      → after.holds path (h ++ reported) ⊎ (NoneAnswered reported lost × after.holds_in_form path h)
+  pub older : (h : List Answered) → before.holds_older path h → after.is_sound
+      → NoneAnswered reported lost × after.holds_older path h
+  pub made : before.is_new path → after.is_sound
+      → after.holds path reported ⊎ (NoneAnswered reported lost × after.is_new path)
   pub statistics : HasBegun before path → StatisticsStay before after path

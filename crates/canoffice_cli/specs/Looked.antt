@@ -1,5 +1,5 @@
 -- What a look at an office prints.
-use Rattle.std.specs.Prelude.{◌≡◌, ℕ, List, [], ◌∷◌, Option, Some, None, Result, Ok, Err, IfOk}
+use Rattle.std.specs.Prelude.{◌≡◌, ℕ, List, [], ◌∷◌, Option, Some, None, Result, Ok, Err, IfOk, IsErr, OnOk}
 use Rattle.canoffice_desks.specs.Desks.{Asked, Desks, Takes, TakesNone, turn}
 use Rattle.canoffice_jobs.specs.Words.{requests_look, show_look}
 use Rattle.canoffice_jobs.specs.declared.what.What.{What}
@@ -11,7 +11,7 @@ use Rattle.store.specs.declared.lost.Lost.{Lost}
 use Rattle.office_types.specs.declared.look.Look.{Look}
 use Rattle.store.specs.Looking.{IsShown}
 use Rattle.canoffice_cli.specs.Answered.{lost_outcome}
-use Rattle.canoffice_cli.specs.Databases.{AreKept, Databases, HasBegun, StatisticsStay}
+use Rattle.canoffice_cli.specs.Databases.{AreKept, Databases, HasBegun, HoldsInSomeForm, StatisticsStay}
 use Rattle.canoffice_cli.specs.Desks.{asked_outcome}
 use Rattle.canoffice_cli.specs.Outcome.{Outcome, not_found, success}
 use Rattle.canoffice_jobs.specs.declared.place.Place.{Place}
@@ -24,13 +24,18 @@ shown_outcome (Ok None) = not_found
 shown_outcome (Err lost) = lost_outcome lost
 
 -- The office in the database of the path looked the look up, and this is what it showed, unless that was lost. The
--- tables hold what they held, and the statistics stay. Where the file has no tables, nothing is shown, and nothing is
--- made.
+-- tables hold what they held, and the statistics stay. Those of an earlier version are of this one where the look
+-- succeeded. Under the first profile the look is lost, and they stay. Where the file has no tables, nothing is shown,
+-- and nothing is made.
 pub record IsLookedUp (before after : Databases) (path : List ℕ) (look : Look)
     (shown : Result (Option (List ℕ)) Lost) : Type 0 where
-  pub of_held : (h : List Answered) (office : Office) → before.holds path h → IsLegal h office → after.is_sound
-      → IfOk shown (IsShown h office look)
+  pub of_held : (h : List Answered) (office : Office) → HoldsInSomeForm before path h → IsLegal h office
+      → after.is_sound → IfOk shown (IsShown h office look)
   pub held : (h : List Answered) → before.holds path h → after.is_sound → after.holds path h
+  pub completed : (h : List Answered) → before.holds_in_form path h → after.is_sound → OnOk shown (after.holds path h)
+  pub left : (h : List Answered) → before.holds_in_form path h → after.is_sound → after.holds_in_form path h
+  pub older : (h : List Answered) → before.holds_older path h → after.is_sound
+      → IsErr shown × after.holds_older path h
   pub statistics : HasBegun before path → StatisticsStay before after path
   pub of_none : before.is_new path → (shown ≡ Ok None) × AreKept before after
 

@@ -1,5 +1,5 @@
 -- The outcome of making a database of an earlier version one of this version.
-use Rattle.std.specs.Prelude.{◌≡◌, ◌⊎◌, ℕ, List, [], codes, Result, Ok, Err, OnErr, OnOk, ⊤}
+use Rattle.std.specs.Prelude.{◌≡◌, ℕ, List, [], codes, Result, Ok, Err, OnErr, OnOk, ⊤}
 use Rattle.office_history.specs.History.{Answered}
 use Rattle.store.specs.declared.lost.Lost.{Lost}
 use Rattle.canoffice_cli.specs.Answered.{lost_outcome}
@@ -19,8 +19,7 @@ pub record IsMigrated (before after : Databases) (path : List ℕ) (done : Resul
       → OnErr done (after.holds_in_form path h)
   pub held : (h : List Answered) → before.holds path h → after.is_sound → after.holds path h
   pub made : before.is_new path → after.is_sound → OnOk done (after.holds path [])
-  pub statistics : ((h : List Answered) × before.holds_in_form path h) ⊎ HasBegun before path
-      → StatisticsStay before after path
+  pub statistics : HasBegun before path → StatisticsStay before after path
 
 abbrev pub IsMigrateOutcome : Databases → Databases → List ℕ → Outcome → Type 0
 IsMigrateOutcome before after path o = (done : Result ⊤ Lost) × IsMigrated before after path done

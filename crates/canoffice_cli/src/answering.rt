@@ -1,17 +1,20 @@
 //! Answering arrivals, up to the first that is lost.
 ghost use Rattle.std.specs.Prelude.{◌≡◌, ◌⊎◌, ◌++◌, ◌&&◌, [], Bool, List, None, Some, IsTrue, IsSome, IfOk};
-ghost use Rattle.std.specs.Prelude.{IfErr, OnErr};
+ghost use Rattle.std.specs.Prelude.{IfErr, IsErr, OnErr};
 ghost use Rattle.sqlite.specs.Held.{state};
+ghost use Rattle.sqlite.specs.State.{HasCleanDisk};
 ghost use Rattle.std.specs.List.{list_any};
 ghost use Rattle.office_script.specs.Echoes.{is_refused};
 ghost use Rattle.office_history.specs.declared.arrival.Arrival.{Arrival as AnArrival};
 ghost use Rattle.office_history.specs.History.{IsLegalHistory};
-ghost use Rattle.store.specs.Calls.{HoldsOnErr, IsSettled, KeepsDoubt, OnHistory};
+ghost use Rattle.store.specs.Calls.{HoldsOnErr, IsSettled, KeepsDoubt, OnHistory, ShowsSame};
 ghost use Rattle.store.specs.Holding.{Holding};
+ghost use Rattle.store.specs.Opening.{HasNone, HasOffice};
 ghost use Rattle.store.specs.OpensAs.{conn_of};
-ghost use Rattle.canoffice_cli.specs.Answered.{InMemory, IsFarEnough, answered_with, answers_outcome};
-ghost use Rattle.canoffice_cli.specs.Answered.{lost_outcome, printed, status_of};
-ghost use Rattle.canoffice_cli.specs.Databases.{OnBeginning, ShowsStatisticsIfOpen};
+ghost use Rattle.canoffice_cli.specs.Answered.{InMemory, IsFarEnough, NoneAnswered, answered_with};
+ghost use Rattle.canoffice_cli.specs.Answered.{answers_outcome, lost_outcome, printed, status_of};
+ghost use Rattle.canoffice_cli.specs.Databases.{OnBeginning, OnOlder, ShowsSameIfOpen};
+ghost use Rattle.canoffice_cli.specs.Databases.{ShowsStatisticsIfOpen};
 ghost use Rattle.canoffice_cli.specs.Outcome.{outcome_of};
 
 use crate::lines::{PrintedLine, add_lines};
@@ -48,7 +51,8 @@ pub fn nothing_answered(alloc: Global, lost: Lost) -> Answers
     }
 }
 
-/// An office on the connection, as it is there, or a new one. If opening it is lost, the connection is given back.
+/// An office on the connection, as it is there, in the form of this version or of an earlier one, or a new one. If
+/// opening it is lost, the connection is given back, as it was; so it is under the first profile.
 pub(crate) fn office_on<S: Alter>(
     conn: Connection<S>,
 ) -> Result<StoredOffice<S>, (Lost, Connection<S>)>
@@ -56,7 +60,11 @@ pub(crate) fn office_on<S: Alter>(
     ensures clean { KeepsDoubt S.Store conn (conn_of result) }
     ensures begun { OnBeginning S.Store conn (conn_of result) (λ h.
         IfOk result (λ office. Holding h (state S.Store office.conn))) }
+    ensures older { OnOlder S.Store conn (conn_of result) (λ h. IsErr result) }
     ensures held { HoldsOnErr S.Store conn (conn_of result) result }
+    ensures back { HasCleanDisk (state S.Store (conn_of result))
+        → HasOffice (state S.Store conn) ⊎ HasNone (state S.Store conn)
+        → OnErr result (ShowsSameIfOpen S.Store conn (conn_of result)) }
     ensures statistics { OnBeginning S.Store conn (conn_of result) (λ h.
         ShowsStatisticsIfOpen S.Store conn (conn_of result)) }
 {
@@ -143,9 +151,10 @@ fn answer_all<S: Alter, W: Write>(
 
 /// Answers the arrivals in turn by the office on the connection, up to the first that is lost, and where it is strict,
 /// up to the first that is refused, and gives the connection back. A new office is made where the connection has no
-/// table. It is shown how far the script of the arrivals is, and why arrivals are refused is added to the reasons:
-/// where the office fails while that is read, the answer stands, and the next arrival is lost. The error is out of
-/// memory for the answers: then nothing arrived.
+/// table, and one of an earlier version goes on in tables of this one. Under the first profile nothing is answered, and
+/// the tables stay. It is shown how far the script of the arrivals is, and why arrivals are refused is added to the
+/// reasons: where the office fails while that is read, the answer stands, and the next arrival is lost. The error is
+/// out of memory for the answers: then nothing arrived.
 pub fn answer_on<S: Alter + Drop, W: Write>(
     alloc: Global,
     conn: Connection<S>,
@@ -166,7 +175,11 @@ pub fn answer_on<S: Alter + Drop, W: Write>(
     ensures begun { OnBeginning S.Store conn result.1 (λ h. IsTrue (state S.Store result.1).is_open
         → IfOk result.0 (λ reported.
         Holding (h ++ answered_with arrivals.now reported.answers.items) (state S.Store result.1)
-        ⊎ (IsSome reported.lost × (reported.answers.items ≡ [])))) }
+        ⊎ (NoneAnswered reported.answers.items reported.lost
+        × ShowsSame S.Store conn result.1))) }
+    ensures older { OnOlder S.Store conn result.1 (λ h. IfOk result.0
+        (λ reported. NoneAnswered reported.answers.items reported.lost)
+        × ShowsSameIfOpen S.Store conn result.1) }
     ensures legal { OnBeginning S.Store conn result.1 (λ h.
         IfOk result.0 (λ reported. IsLegalHistory
         (h ++ answered_with arrivals.now reported.answers.items))) }

@@ -1,15 +1,18 @@
 //! Looking at an office: one in a database, or one that a desk serves.
-ghost use Rattle.std.specs.Prelude.{◌≡◌, None, Ok, IfOk, OnErr};
+ghost use Rattle.std.specs.Prelude.{◌≡◌, None, Ok, IfOk, IsErr, OnErr, OnOk};
 ghost use Rattle.std.specs.Option.{option_map};
 ghost use Rattle.std.specs.Result.{result_map_both};
 ghost use Rattle.sqlite.specs.Held.{state};
 ghost use Rattle.desk_client.specs.Received.{seen};
 ghost use Rattle.office_types.specs.declared.state.Office.{Office as Whole};
 ghost use Rattle.office_history.specs.History.{IsLegal};
-ghost use Rattle.store.specs.Calls.{HoldsOnOk, IsSettled, KeepsDoubt, OnHistory};
+ghost use Rattle.store.specs.Calls.{IsSettled, KeepsDoubt};
+ghost use Rattle.store.specs.Holding.{Holding};
 ghost use Rattle.store.specs.Looking.{IsShown, bytes_of};
 ghost use Rattle.store.specs.Opening.{HasNone};
-ghost use Rattle.canoffice_cli.specs.Databases.{HoldsIfOpen, OnBeginning, ShowsStatisticsIfOpen};
+ghost use Rattle.store.specs.OpensAs.{OnSomeForm};
+ghost use Rattle.canoffice_cli.specs.Databases.{HoldsIfOpen, HoldsInFormIfOpen, OnBeginning, OnOlder};
+ghost use Rattle.canoffice_cli.specs.Databases.{ShowsSameIfOpen, ShowsStatisticsIfOpen};
 ghost use Rattle.canoffice_cli.specs.Desks.{asked_outcome, no_answer, response_outcome};
 ghost use Rattle.canoffice_cli.specs.Looked.{IsLookOutcome, IsLookedAt, IsRequestsOutcome, IsShowOutcome};
 ghost use Rattle.canoffice_cli.specs.Looked.{shown_outcome};
@@ -28,7 +31,7 @@ use office_types::Look;
 use sqlite::{Alter, Connection};
 use std::alloc::{AllocError, Global};
 use store::Lost;
-use store_tables::{is_new, knows_schema};
+use store_tables::{is_new, knows_tables};
 
 /// The report that what is looked up isn't there.
 pub(crate) fn not_found(alloc: Global) -> Result<Report, AllocError>
@@ -53,8 +56,9 @@ pub(crate) fn shown_report(
     }
 }
 
-/// What the office on the connection, which is given back, shows for the look. Where the connection has no table,
-/// nothing is shown, and nothing is made.
+/// What the office on the connection, which is given back, shows for the look, in the form of this version or of an
+/// earlier one. Where the connection has no table, nothing is shown, and nothing is made. Under the first profile the
+/// look is lost, and the tables stay.
 pub fn look_on<S: Alter + Drop>(
     alloc: Global,
     conn: Connection<S>,
@@ -62,15 +66,19 @@ pub fn look_on<S: Alter + Drop>(
 ) -> (Result<Option<Vec<u8>>, Lost>, Connection<S>)
     requires { IsSettled S.Store conn }
     ensures clean { KeepsDoubt S.Store conn result.1 }
-    ensures shown { OnHistory S.Store conn result.1 (λ h. (office : Whole) → IsLegal h office
+    ensures shown { OnSomeForm S.Store conn result.1 (λ h. (office : Whole) → IsLegal h office
         → IfOk result.0 (λ text. IsShown h office look.now (bytes_of text))) }
     ensures held { HoldsIfOpen S.Store conn result.1 }
-    ensures kept { HoldsOnOk S.Store conn result.1 result.0 }
+    ensures kept { OnSomeForm S.Store conn result.1
+        (λ h. OnOk result.0 (Holding h (state S.Store result.1))) }
+    ensures left { HoldsInFormIfOpen S.Store conn result.1 }
+    ensures older { OnOlder S.Store conn result.1 (λ h. IsErr result.0
+        × ShowsSameIfOpen S.Store conn result.1) }
     ensures statistics { OnBeginning S.Store conn result.1 (λ h.
         ShowsStatisticsIfOpen S.Store conn result.1) }
     ensures none { HasNone (state S.Store conn) → (result.0 ≡ Ok None) × (result.1 ≡ conn) }
 {
-    knows_schema(&conn);
+    knows_tables(&conn);
     if is_new(&conn) {
         return (Ok(None), conn);
     }

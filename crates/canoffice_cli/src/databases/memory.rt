@@ -4,9 +4,9 @@ ghost use Rattle.sqlite.specs.Held.{state};
 ghost use Rattle.sqlite.specs.Steps.{over_memory};
 ghost use Rattle.office_history.specs.History.{Answered};
 ghost use Rattle.store.specs.Holding.{Holding};
-ghost use Rattle.store.specs.Opening.{HasNone, HoldingInSomeForm};
+ghost use Rattle.store.specs.Opening.{HasNone, HoldingInSomeForm, HoldingOlder};
 ghost use Rattle.store_tables.specs.Statements.{statistics_of};
-ghost use Rattle.canoffice_cli.specs.Databases.{Statistics, known_of};
+ghost use Rattle.canoffice_cli.specs.Databases.{HoldsInSomeForm, Statistics, known_of};
 
 use super::Databases;
 use crate::answering::{Answers, answer_on, nothing_answered};
@@ -21,7 +21,7 @@ use sqlite::{Connection, MemStore};
 use std::alloc::{AllocError, Global};
 use std::io::Write;
 use store::Lost;
-use store_tables::{is_new, knows_schema};
+use store_tables::{is_new, knows_tables};
 
 /// One database in memory, which is found under any path.
 #[derive(Drop)]
@@ -34,12 +34,12 @@ impl MemoryDatabase {
     /// Whether the connection shows no table.
     fn is_new(&self) -> bool
         ensures yes { (path : List ℕ) → (known_of self.now.conn).is_new path → IsTrue result }
-        ensures no { (path : List ℕ) (h : List Answered) → (known_of self.now.conn).holds path h
-            → IsFalse result }
+        ensures no { (path : List ℕ) (h : List Answered)
+            → HoldsInSomeForm (known_of self.now.conn) path h → IsFalse result }
     {
         match &self.conn {
             Some(conn) => {
-                knows_schema(conn);
+                knows_tables(conn);
                 is_new(conn)
             }
             None => false,
@@ -55,6 +55,9 @@ impl MemoryDatabase {
         ensures in_form { IfOk result (λ conn. (path : List ℕ) (h : List Answered)
             → (known_of self.old.conn).holds_in_form path h
             → HoldingInSomeForm h (state over_memory conn)) }
+        ensures older { IfOk result (λ conn. (path : List ℕ) (h : List Answered)
+            → (known_of self.old.conn).holds_older path h
+            → HoldingOlder h (state over_memory conn)) }
         ensures none { IfOk result (λ conn. (path : List ℕ) → (known_of self.old.conn).is_new path
             → HasNone (state over_memory conn)) }
         ensures statistics { IfOk result (λ conn. (path : List ℕ) (rows : Statistics)

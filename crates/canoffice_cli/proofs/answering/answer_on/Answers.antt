@@ -1,10 +1,12 @@
-use Rattle.std.proofs.Common.{◌≡◌, ◌∙◌, inl, subst, arith}
+use Rattle.std.proofs.Common.{◌≡◌, ◌∙◌, inl, inr, subst, arith}
+use Rattle.std.proofs.lemmas.Bool.{false≢true}
 use Rattle.sqlite.specs.Held.{state}
 use Rattle.sqlite.specs.State.{HasCleanDisk}
 use Rattle.store.specs.Holding.{Holding}
+use Rattle.store.proofs.TablesInForm.{in_form, office_in_form, older_in_form}
 use Rattle.office_history.specs.History.{IsLegalHistory}
-use Rattle.canoffice_cli.proofs.Reported.{begun_is_legal, history_at_first}
-use Rattle.canoffice_cli.proofs.Opened.{held_or_none}
+use Rattle.canoffice_cli.proofs.Reported.{begins_on, begun_is_legal, history_at_first}
+use Rattle.canoffice_cli.proofs.Opened.{held_or_none, none_answered}
 use Rattle.canoffice_cli.proofs.answering.answer_on.Goals as goal
 
 pub returns-in-Ok-clause-held : goal.returns-in-Ok-clause-held
@@ -13,7 +15,8 @@ returns-in-Ok-clause-held g c clean h holding is_open =
     let same : c.close.result ≡ c.answer_all-reported.new.office.conn = c.close.ensures.same in
     let clean_now : HasCleanDisk (state g.S.Store c.answer_all-reported.new.office.conn) = rw (← same) clean in
     let early : HasCleanDisk (state g.S.Store c.in-Ok.office.conn) = omega (arith, reported.clean, clean_now) in
-    rw same (reported.held clean_now h (c.in-Ok.ensures.begun early h (inl holding)) (rw (← same) is_open))
+    let begun = c.in-Ok.ensures.begun early h (inl (in_form h (state g.S.Store c.args.conn) holding)) in
+    rw same (reported.held clean_now h begun (rw (← same) is_open))
 
 pub returns-in-Ok-clause-begun : goal.returns-in-Ok-clause-begun
 returns-in-Ok-clause-begun g c clean h begins is_open =
@@ -23,6 +26,14 @@ returns-in-Ok-clause-begun g c clean h begins is_open =
     let early : HasCleanDisk (state g.S.Store c.in-Ok.office.conn) = omega (arith, reported.clean, clean_now) in
     rw same (held_or_none _ _ c.answer_all-reported.result
     (reported.held clean_now h (c.in-Ok.ensures.begun early h begins) (rw (← same) is_open)))
+
+pub returns-in-Ok-clause-older : goal.returns-in-Ok-clause-older
+returns-in-Ok-clause-older g c clean h holding =
+    let reported = c.answer_all-reported.ensures in
+    let same : c.close.result ≡ c.answer_all-reported.new.office.conn = c.close.ensures.same in
+    let clean_now : HasCleanDisk (state g.S.Store c.answer_all-reported.new.office.conn) = rw (← same) clean in
+    let early : HasCleanDisk (state g.S.Store c.in-Ok.office.conn) = omega (arith, reported.clean, clean_now) in
+    absurd (false≢true (c.in-Ok.ensures.older early h holding))
 
 pub returns-in-Ok-clause-legal : goal.returns-in-Ok-clause-legal
 returns-in-Ok-clause-legal g c clean h begins =
@@ -37,6 +48,20 @@ returns-in-Err-clause-held g c clean h holding is_open =
     subst (λ k. Holding k (state g.S.Store c.in-Err.conn))
     (history_at_first h c.args.arrivals.now _ c.nothing_answered.ensures.answers)
     (c.in-Err.ensures.held clean h holding is_open)
+
+pub returns-in-Err-clause-begun : goal.returns-in-Err-clause-begun
+returns-in-Err-clause-begun g c clean h begins is_open =
+    inr (
+      none_answered _ _ _ c.nothing_answered.ensures.lost c.nothing_answered.ensures.answers,
+      c.in-Err.ensures.back clean (begins_on h (state g.S.Store c.args.conn) begins) is_open,
+    )
+
+pub returns-in-Err-clause-older : goal.returns-in-Err-clause-older
+returns-in-Err-clause-older g c clean h holding =
+    let old = state g.S.Store c.args.conn in (
+      none_answered _ _ _ c.nothing_answered.ensures.lost c.nothing_answered.ensures.answers,
+      c.in-Err.ensures.back clean (inl (office_in_form h old (older_in_form h old holding))),
+    )
 
 pub returns-in-Err-clause-legal : goal.returns-in-Err-clause-legal
 returns-in-Err-clause-legal g c clean h begins =

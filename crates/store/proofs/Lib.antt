@@ -11,3 +11,4 @@ mod Examples
 pub mod DecidedOnPart
 pub mod CountedReleases
 pub mod OpenedSo
+mod OtherTables

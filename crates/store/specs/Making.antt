@@ -5,10 +5,11 @@ use Rattle.sqlite.specs.Effect.{Database}
 use Rattle.sqlite.specs.Held.{Held, state}
 use Rattle.sqlite.specs.Schema.{Schema}
 use Rattle.sqlite.specs.State.{HasCleanDisk, IsUnchanged, Survives}
+use Rattle.sqlite.specs.declared.transaction.Transaction.{Transaction}
 use Rattle.sqlite_trees.specs.declared.store.Store.{Ghosts}
 use Rattle.store_tables.specs.Schema.{IsCurrentSchema, IsOfficeSchema, analyzed_schema, no_schema, office_schema}
 use Rattle.store_tables.specs.Schema.{schema_13}
-use Rattle.store_tables.specs.Statements.{IsOfficeWith}
+use Rattle.store_tables.specs.Statements.{AddsNoCommit, IsOfficeWith, LeavesNothing}
 use Rattle.store_tables.specs.Tables.{tables_of}
 use Rattle.store_migrate.specs.FormSchema.{schema_of}
 use Rattle.store_migrate.specs.ProfileRows.{HasProfileRows}
@@ -18,7 +19,7 @@ use Rattle.store_migrate.specs.declared.profile_rows.ProfileRows.{ProfileRows}
 use Rattle.store_migrate.specs.declared.profile_rows.ProfileRows.TheVariants.{Newer, Second}
 use Rattle.store.specs.declared.lost.Lost.{Lost}
 use Rattle.store.specs.declared.lost.Lost.TheVariants.{NewerProfile, OlderProfile}
-use Rattle.store.specs.Calls.{OnOpen}
+use Rattle.store.specs.Calls.{OnOpen, ShowsSame}
 use Rattle.store.specs.Lost.{IsOfCall}
 use Rattle.store.specs.Opening.{AreTreesOf, HasCommitted, HasProfileRowsOf, HasOlderProfileRows, IsCarried, IsGrown}
 use Rattle.store.specs.Opening.{IsNew}
@@ -73,6 +74,27 @@ KeepsCommitOnErr g old new result = OnErr result ((state g new).committed ≡ (s
 abbrev pub ShowsCommitOnErr : {S X E : Type 0} → Ghosts S → Held S → Held S → Result X E → Type 0
 ShowsCommitOnErr g old new result =
     OnErr result (((state g new).now ≡ (state g old).committed) × ((state g new).committed ≡ (state g old).committed))
+
+-- ---- of what finds tables that are no office's
+
+-- it only asks, by one statement on whatever tables: inside a transaction nothing is committed, and a crash finds
+-- nothing more
+pub record OnlyAsks {S : Type 0} (g : Ghosts S) (old new : Transaction S) : Type 0 where
+  pub same_reference : new.conn.ghost_name ≡ old.conn.ghost_name
+  pub kept : IsTrue (state g old.conn.now).in_transaction → AddsNoCommit (state g old.conn.now) (state g new.conn.now)
+  pub survives : LeavesNothing (state g old.conn.now) (state g new.conn.now)
+
+-- all tables stay, whatever they are
+pub record StaysWhole {S : Type 0} (g : Ghosts S) (old new : Held S) : Type 0 where
+  -- if the connection is open after the call, it shows what it showed, and the same is committed
+  pub same : OnOpen g new (ShowsSame g old new)
+  -- a crash leaves nothing that it didn't leave before
+  pub survives : Survives (state g old) (state g new) (λ _. ⊥)
+
+-- where there is a table, index or view, and the tables aren't those of an office of some time, all stay
+abbrev pub KeepsOthers : {S : Type 0} → Ghosts S → Held S → Held S → Type 0
+KeepsOthers g old new = ¬ HasSchema g old no_schema → ¬ IsOfficeSchema (state g old).now.schema
+    → StaysWhole g old new
 
 -- ---- of what makes new tables, where there was none
 

@@ -7,7 +7,7 @@ ghost use Rattle.store_migrate.specs.FormSchema.{schema_of};
 ghost use Rattle.store_migrate.specs.InForm.{first_profile_rows};
 ghost use Rattle.store_migrate.specs.declared.forms.SchemaForm.{SchemaForm as FormOf};
 ghost use Rattle.store.specs.Calls.{IsSettled, KeepsDoubt};
-ghost use Rattle.store.specs.Making.{CommitsOnOk, HasSchema, KeepsCommitOnErr, LeavesNew};
+ghost use Rattle.store.specs.Making.{CommitsOnOk, HasSchema, KeepsCommitOnErr, KeepsOthers, LeavesNew};
 ghost use Rattle.store.specs.Making.{MakesCurrentOnOk, NotCurrentOnErr, OnForm};
 ghost use Rattle.store.specs.Opening.{IsCarried, MayCarry, MayMigrate};
 ghost use Rattle.store.specs.OpensAs.{LeavesInForm, Migrates, conn_of};
@@ -56,6 +56,7 @@ fn make_current<S: Alter, W: Watch>(
     ensures autocommit { IsSettled S.Store conn.new }
     ensures current { MakesCurrentOnOk S.Store conn.old conn.new result }
     ensures not_current { NotCurrentOnErr S.Store conn.old conn.new result }
+    ensures others { KeepsOthers S.Store conn.old conn.new }
     ensures new_survives { LeavesNew S.Store conn.old conn.new }
     ensures survives { IsOfficeSchema (state S.Store conn.old).now.schema
         → Survives (state S.Store conn.old) (state S.Store conn.new)
@@ -83,7 +84,7 @@ impl<S: Alter> StoredOffice<S> {
     /// Opens the office on the connection as [`StoredOffice::open`] does, and carries tables of the first profile over
     /// before: with the same history and every kept reply, in one transaction, so that a crash leaves the old tables or
     /// the new. Where it is lost, the tables are as before, and the connection is given back; [`Lost::NewerProfile`]
-    /// where they are of a profile that isn't known here.
+    /// where they are of a profile that isn't known here. Tables of something else stay, as there.
     pub fn migrate<W: Watch>(
         alloc: Global,
         conn: Connection<S>,
@@ -91,6 +92,7 @@ impl<S: Alter> StoredOffice<S> {
     ) -> Result<StoredOffice<S>, (Lost, Connection<S>)>
         requires { IsSettled S.Store conn }
         ensures opened { Migrates S.Store conn result }
+        ensures others { KeepsOthers S.Store conn (conn_of result) }
         ensures left { LeavesInForm S.Store conn (conn_of result) }
         ensures clean { KeepsDoubt S.Store conn (conn_of result) }
     {

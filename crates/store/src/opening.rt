@@ -8,16 +8,17 @@ ghost use Rattle.store_tables.specs.Statements.{IsOfficeWith};
 ghost use Rattle.store.specs.Calls.{IsSettled, KeepsDoubt, OnOpen};
 ghost use Rattle.store_tables.specs.Frames.{OnlyWrites};
 ghost use Rattle.store.specs.Lost.{IsOfCall};
-ghost use Rattle.store.specs.Making.{Completes, HasSchema, KeepsCommitOnErr, LeavesNew, MakesNew};
-ghost use Rattle.store.specs.Making.{MakesNoneOnErr, MakesParts, OnSchema, ReadiesOnOk, UnreadyOnErr};
+ghost use Rattle.store.specs.Making.{Completes, HasSchema, KeepsCommitOnErr, KeepsOthers, LeavesNew, MakesNew};
+ghost use Rattle.store.specs.Making.{MakesNoneOnErr, MakesParts, OnSchema, OnlyAsks, ReadiesOnOk, StaysWhole};
+ghost use Rattle.store.specs.Making.{UnreadyOnErr};
 ghost use Rattle.store.specs.Opening.{AreTreesOf, IsGrown, IsNew, MayComplete, MayGrow};
 ghost use Rattle.store.specs.OpensAs.{LeavesOpened, Opens, conn_of};
 
 use crate::lost::Lost;
 use crate::stored_office::StoredOffice;
-use sqlite::{Alter, Connection, Error, Transaction};
+use sqlite::{Alter, Connection, Error, Row, Transaction};
 use store_looks::Remembered;
-use store_migrate::{ProfileRows, SchemaForm, form_of, read_profile_rows};
+use store_migrate::{ProfileRows, SchemaForm, form_of, profile_rows_of, read_profile_rows};
 use store_statements::insert_profile;
 use store_tables::{create_part, is_new, knows_tables, make_tables};
 
@@ -122,15 +123,39 @@ pub(crate) fn is_office<S: Alter>(conn: &Connection<S>) -> bool
     }
 }
 
-/// Says why tables that are no office's aren't taken: their profile may be one that isn't known here.
+/// The rows of the profile, inside a transaction on whatever tables. The error is `sqlite`'s, as where there is no such
+/// table.
+fn profile_within<S: Alter>(tx: &mut Transaction<'_, S>) -> Result<Vec<Row>, Error>
+    ensures { OnlyAsks S.Store tx.old tx.new }
+{
+    tx.query_all("SELECT one, number FROM profile ORDER BY one", &[])
+}
+
+/// The same in a transaction that is rolled back: whatever tables there are, they stay.
+fn profile_of_others<S: Alter>(conn: &mut Connection<S>) -> Result<Vec<Row>, Error>
+    requires { IsSettled S.Store conn.old }
+    ensures autocommit { IsSettled S.Store conn.new }
+    ensures stays { StaysWhole S.Store conn.old conn.new }
+{
+    let _settled = conn.is_autocommit();
+    let mut tx = conn.transaction();
+    let rows = profile_within(&mut tx);
+    tx.rollback();
+    rows
+}
+
+/// Says why tables that are no office's aren't taken: their profile may be one that isn't known here. Whatever tables
+/// there are, they stay.
 pub(crate) fn refuse<S: Alter>(conn: &mut Connection<S>) -> Result<(), Lost>
     requires { IsSettled S.Store conn.old }
     ensures autocommit { IsSettled S.Store conn.new }
     ensures refused { OnOk result ⊥ }
     ensures never_older { IfErr result (λ lost. lost ≢ Lost.OlderProfile) }
+    ensures stays { StaysWhole S.Store conn.old conn.new }
     ensures clean { KeepsDoubt S.Store conn.old conn.new }
 {
-    if matches!(read_profile_rows(conn)?, ProfileRows::Newer) {
+    let rows = profile_of_others(conn)?;
+    if matches!(profile_rows_of(&rows), ProfileRows::Newer) {
         return Err(Lost::NewerProfile);
     }
     Err(Lost::Store)
@@ -143,6 +168,7 @@ fn make_ready<S: Alter>(conn: &mut Connection<S>) -> Result<(), Lost>
     ensures autocommit { IsSettled S.Store conn.new }
     ensures ready { ReadiesOnOk S.Store conn.old conn.new result }
     ensures unready { UnreadyOnErr S.Store conn.old conn.new result }
+    ensures others { KeepsOthers S.Store conn.old conn.new }
     ensures new_survives { LeavesNew S.Store conn.old conn.new }
     ensures survives { IsOfficeSchema (state S.Store conn.old).now.schema
         → Survives (state S.Store conn.old) (state S.Store conn.new)
@@ -170,11 +196,12 @@ impl<S: Alter> StoredOffice<S> {
     /// it is lost, the connection is given back: [`Lost::NewerProfile`] where the tables are of a
     /// profile that isn't known here, [`Lost::OlderProfile`] where they are of the first, which
     /// [`StoredOffice::migrate`] carries over; out of memory, or an error of the store, as on tables of something else.
-    /// Either the tables are as before then, or, where the disk failed, they may be new. Tables of the second profile
-    /// that lack the table of bundles' parts get it.
+    /// Either the tables are as before then, or, where the disk failed, they may be new. Tables of something else stay,
+    /// and a crash leaves them too. Tables of the second profile that lack the table of bundles' parts get it.
     pub fn open(conn: Connection<S>) -> Result<StoredOffice<S>, (Lost, Connection<S>)>
         requires { IsSettled S.Store conn }
         ensures opened { Opens S.Store conn result }
+        ensures others { KeepsOthers S.Store conn (conn_of result) }
         ensures left { LeavesOpened S.Store conn (conn_of result) }
         ensures clean { KeepsDoubt S.Store conn (conn_of result) }
     {

@@ -31,6 +31,7 @@ fn read_inside<S: Alter>(
         → IsReadOf holds.holds.office name.now releases read) }
     ensures frame { ReadsOnly S.Store tx.old tx.new result }
 {
+    histories_leave_offices();
     read_net_at(alloc, tx, name, releases)
 }
 
@@ -64,8 +65,9 @@ fn read_alone<S: Alter>(
 }
 
 impl<S: Alter> StoredOffice<S> {
-    /// Reads the network of the name, with its releases or without them, and the book: what there is to be read where a
-    /// command on it was refused. Nothing changes. The errors are those of [`StoredOffice::look`].
+    /// Reads the network of the name, with its releases or without them, or where it isn't there the names of all, and
+    /// the book: what there is to be read where a command on it was refused. Nothing changes. The errors are those of
+    /// [`StoredOffice::look`].
     pub fn see(&mut self, alloc: Global, name: &NetName, releases: bool) -> Result<ReadNet, Lost>
         ensures call { IsOfficeCall S.Store self.old self.new result }
         ensures shown { OnHistory S.Store self.old.conn self.new.conn (λ h.

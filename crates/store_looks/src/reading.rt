@@ -1,6 +1,6 @@
 //! A network, read to report why a command on it was refused.
 ghost use Rattle.std.specs.Prelude.{◌≡◌, option_map};
-ghost use Rattle.store_looks.specs.Read.{IsRead, read_so};
+ghost use Rattle.store_looks.specs.Read.{AreNamesRead, IsRead, read_so};
 ghost use Rattle.store_looks.specs.Seen.{OnNetAndBook};
 ghost use Rattle.store_net.specs.Reading.{OnNet};
 ghost use Rattle.store_tables.specs.Frames.{Asks, ReadsOnly};
@@ -14,7 +14,7 @@ use store_net::{book_of, names_of, net_at, unreleased_net_at};
 pub struct ReadNet {
     /// The network, `None` where it isn't there.
     pub net: Option<Net>,
-    /// The names of all networks where it isn't there, and else none.
+    /// The names of all networks, in their order, where it isn't there, and else none.
     pub names: Vec<NetName>,
     /// The suspect parameter numbers of the whole office.
     pub book: SpnBook,
@@ -48,8 +48,8 @@ fn net_so<S: Alter>(
     }
 }
 
-/// What there is of the network of the name, with its releases or without them. An error is out of memory, what
-/// `sqlite` answers, or `InvalidQuery` where the rows are no office's.
+/// What there is of the network of the name, with its releases or without them, and where it isn't there the names of
+/// all. An error is out of memory, what `sqlite` answers, or `InvalidQuery` where the rows are no office's.
 pub fn read_net_at<S: Alter>(
     alloc: Global,
     tx: &mut Transaction<'_, S>,
@@ -57,6 +57,7 @@ pub fn read_net_at<S: Alter>(
     releases: bool,
 ) -> Result<ReadNet, Error>
     ensures found { Asks S.Store tx.old tx.new result (OnNetAndBook name.now (IsRead releases)) }
+    ensures names { Asks S.Store tx.old tx.new result (AreNamesRead name.now) }
     ensures frame { ReadsOnly S.Store tx.old tx.new result }
 {
     let net = net_so(alloc, tx, name, releases)?;

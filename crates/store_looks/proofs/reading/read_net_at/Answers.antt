@@ -5,6 +5,8 @@ use Rattle.sqlite.specs.State.{HasCleanDisk}
 use Rattle.store_tables.specs.Tables.{IsOffice, tables_of}
 use Rattle.store_rows.specs.Rows.{IsBookIn}
 use Rattle.store_rows.proofs.Made.{reads_any, reads_then, while_open}
+use Rattle.store_net.specs.Nets.{AreKnownNets}
+use Rattle.store_looks.proofs.ReadWhole.{all_named, none_named}
 use Rattle.store_looks.proofs.reading.read_net_at.Goals as goal
 
 pub returns-then-is_some-clause-found : goal.returns-then-is_some-clause-found
@@ -36,6 +38,27 @@ returns-clause-found g c clean office net at book in_book =
       book = c.in_ok-book-2.ensures.found clean office2 book
           (subst (λ (d : Database). IsBookIn (tables_of d.trees) book) (sym now2) in_book);
     }
+
+pub returns-then-is_some-clause-names : goal.returns-then-is_some-clause-names
+returns-then-is_some-clause-names g c clean office held at nets are =
+    let clean1 : HasCleanDisk (state g.S.Store c.net_so.new.tx.conn.now) =
+    omega (arith, c.book_of.ensures.frame.survives.clean) in
+    none_named c.args.releases held c.in_ok-net.net nets c.new-names.result.items
+    (c.in_ok-net.ensures.found clean1 office held at) (sym c.is_some.ensures ∙ c.if-is_some.true)
+    c.new-names.ensures.items
+
+pub returns-clause-names : goal.returns-clause-names
+returns-clause-names g c clean office held at nets are =
+    let s0 = state g.S.Store c.args.tx.now.conn.now in
+    let s1 = state g.S.Store c.net_so.new.tx.conn.now in
+    let clean2 : HasCleanDisk (state g.S.Store c.names_of.new.tx.conn.now) =
+    omega (arith, c.book_of-2.ensures.frame.survives.clean) in
+    let clean1 : HasCleanDisk s1 = omega (arith, c.names_of.ensures.frame.survives.clean) in
+    let now1 : s1.now ≡ s0.now = (c.in_ok-net.ensures.frame.same clean1 office).0.now_is in
+    all_named c.args.releases held c.in_ok-net.net nets c.in_ok-names.names.items
+    (c.in_ok-net.ensures.found clean1 office held at) (sym c.is_some.ensures ∙ c.if-is_some.false)
+    (c.in_ok-names.ensures.found clean2 (subst IsOffice (sym now1) office) nets
+    (subst (λ (d : Database). AreKnownNets (tables_of d.trees) nets) (sym now1) are))
 
 pub returns-clause-frame : goal.returns-clause-frame
 returns-clause-frame g c =

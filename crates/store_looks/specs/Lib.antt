@@ -1,3 +1,4 @@
 pub mod Asked
 pub mod Seen
+pub mod Kept
 pub mod Read

@@ -13,7 +13,8 @@
 //!
 //! The definitions are of `office_seen`: `View.antt` (what is seen of a network), of `office_looks`: `Looks.antt` (the
 //! text) and `Requests.antt`, and of `office_page`: `Page.antt` (the page). Those in `specs/` say what is seen of the
-//! tables (`Seen.antt`) and read of them (`Read.antt`), and which requests are those of a team (`Asked.antt`).
+//! tables (`Seen.antt`) and read of them (`Read.antt`), what is known of what is kept (`Kept.antt`), and which requests
+//! are those of a team (`Asked.antt`).
 #![tactic(auto)]
 
 mod paged;

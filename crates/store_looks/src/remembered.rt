@@ -2,6 +2,7 @@
 ghost use Rattle.std.specs.Prelude.{◌≡◌, ◌≤◌, ◌⊎◌, None, Some, IfOk, IfSome, IsTrue};
 ghost use Rattle.std.specs.Option.{option_map};
 ghost use Rattle.store_bodies.specs.ReadText.{AreReadAs, remembered_limit, text_bytes};
+ghost use Rattle.store_looks.specs.Kept.{known_of};
 ghost use Rattle.store_looks.specs.Seen.{IsTextOn, IsTrueOf};
 ghost use Rattle.store_tables.specs.Tables.{Tables};
 
@@ -13,6 +14,7 @@ use office_seen::View;
 use office_types::{Look, NetName};
 use std::alloc::{AllocError, Global};
 use std::marker::Model;
+use std::mem::replace;
 use store_bodies::{REMEMBERED_LIMIT, ReadTexts, RememberedTexts};
 
 /// All that is seen of a network, with its name and the texts of its releases, which are few enough to be remembered.
@@ -73,22 +75,48 @@ fn are_within(texts: &[Items<u8>], limit: usize) -> bool
     true
 }
 
+/// What is kept of one network. So there are the texts of one at most.
+#[derive(Drop)]
+enum Kept {
+    /// Nothing.
+    Nothing,
+    /// All that was seen of the network.
+    Known(KnownNet),
+    /// The same, where something may have changed since: only its texts are known.
+    Outdated(KnownNet),
+    /// Texts of its releases alone.
+    Texts(RememberedTexts),
+}
+
+impl Kept {
+    /// The same, where something may have changed since. Takes no memory, and frees none.
+    fn outdated(self) -> Kept
+        ensures { known_of result ≡ None }
+    {
+        match self {
+            Kept::Nothing => Kept::Nothing,
+            Kept::Known(known) => Kept::Outdated(known),
+            Kept::Outdated(known) => Kept::Outdated(known),
+            Kept::Texts(texts) => Kept::Texts(texts),
+        }
+    }
+}
+
 /// What is remembered of the last network of which all was seen, or of which all releases were read: at most
 /// [`REMEMBERED_LIMIT`] bytes of the texts of releases, with the sheets that they read as, and beside them, until
 /// something changes, all else of the network. Contracts see the name and what is seen of a network that is remembered
 /// so.
 pub struct Remembered {
-    known: Option<KnownNet>,
-    outdated: Option<KnownNet>,
-    texts: Option<RememberedTexts>,
+    kept: Kept,
 }
 
 impl Model for Remembered {
+    ghost use Rattle.store_looks.specs.Kept.{known_of};
     ghost use Rattle.store_looks.specs.Seen.{Known};
 
     ghost Value = { Known };
 
-    ghost view = { λ remembered. remembered.known };
+    ghost view = { λ remembered. known_of remembered.kept };
 }
 
 impl Remembered {
@@ -97,9 +125,7 @@ impl Remembered {
         ensures { result ≡ None }
     {
         Remembered {
-            known: None,
-            outdated: None,
-            texts: None,
+            kept: Kept::Nothing,
         }
     }
 
@@ -107,17 +133,16 @@ impl Remembered {
     pub fn outdate(&mut self)
         ensures { self.new ≡ None }
     {
-        if let Some(known) = self.known.take() {
-            self.outdated = Some(known);
-        }
+        let kept = replace(&mut self.kept, Kept::Nothing);
+        self.kept = kept.outdated();
     }
 
     /// What is seen of the network of the name, if all of it is known.
     fn seen(&self, name: &NetName) -> Option<&View>
         ensures { IfSome result (λ seen. self.now ≡ Some (name.now, seen.now)) }
     {
-        match &self.known {
-            Some(known) if known.name == *name => Some(&known.seen),
+        match &self.kept {
+            Kept::Known(known) if known.name == *name => Some(&known.seen),
             _ => None,
         }
     }
@@ -149,13 +174,11 @@ impl Remembered {
     pub(crate) fn take_texts(&mut self, alloc: Global) -> ReadTexts
         ensures { self.new ≡ None }
     {
-        self.outdate();
-        if let Some(known) = self.outdated.take() {
-            return known.into_texts();
-        }
-        match self.texts.take() {
-            Some(texts) => texts.into_read(),
-            None => ReadTexts::none(alloc),
+        match replace(&mut self.kept, Kept::Nothing) {
+            Kept::Nothing => ReadTexts::none(alloc),
+            Kept::Known(known) => known.into_texts(),
+            Kept::Outdated(known) => known.into_texts(),
+            Kept::Texts(texts) => texts.into_read(),
         }
     }
 
@@ -172,20 +195,16 @@ impl Remembered {
         };
         *self = Remembered::nothing();
         if is_whole && are_within(texts.as_slice(), REMEMBERED_LIMIT) {
-            self.known = Some(KnownNet { name, seen, texts });
+            self.kept = Kept::Known(KnownNet { name, seen, texts });
             return;
         }
         let read = ReadTexts::of(texts, seen.into_releases());
-        self.texts = Some(RememberedTexts::of(read));
+        self.kept = Kept::Texts(RememberedTexts::of(read));
     }
 }
 
 impl Drop for Remembered {
     fn drop(self) {
-        let Remembered {
-            known: _known,
-            outdated: _outdated,
-            texts: _texts,
-        } = self;
+        let Remembered { kept: _kept } = self;
     }
 }

@@ -1,1 +1,2 @@
+pub mod FrontLemmas
 pub mod Printable

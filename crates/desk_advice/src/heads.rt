@@ -16,7 +16,6 @@ use std::alloc::{AllocError, Global};
 /// What a head has, and what it demands.
 #[derive(Clone, Copy)]
 pub(crate) struct HeadParts<'b> {
-    pub(crate) method: &'b [u8],
     pub(crate) target: &'b [u8],
     pub(crate) team: Header<'b>,
     pub(crate) key: Header<'b>,
@@ -37,7 +36,6 @@ fn parts_of<'b>(
     let demand = demand_at(routes, head, headers, spans);
     let fields = &headers[..spans.headers];
     HeadParts {
-        method: spans.method.of(head),
         target: spans.path.of(head),
         team: header_named(head, fields, spans.len, b"team"),
         key: header_named(head, fields, spans.len, b"request-key"),

@@ -1,14 +1,16 @@
 //! The line of a request that isn't answered by 200.
-ghost use Rattle.std.specs.Prelude.{IfOk, IfSome};
-ghost use Rattle.desk_advice.specs.Line.{IsLine};
+ghost use Rattle.std.specs.Prelude.{◌≡◌, ◌++◌, IfOk, IfSome, codes, is_some};
+ghost use Rattle.desk_advice.specs.Front.{is_reported};
+ghost use Rattle.desk_advice.specs.Line.{IsLine, IsLineOn, line_text};
 
 use crate::bodies::body_wrong;
+use crate::fronts::front_of;
 use crate::heads::{HeadParts, demand_wrong, head_of};
 use crate::looks::look_wrong;
-use crate::pieces::{as_line, shown, text_in, text_of};
+use crate::pieces::{as_line, text_of};
 use crate::reasons::{is_reported, refused_text};
 use crate::refused::{refused_of, status_of};
-use crate::senders::{key_bytes, key_wrong, team_bytes, team_wrong};
+use crate::senders::{key_wrong, team_wrong};
 use desk_call::{Exchange, OfficeRead};
 use desk_head::{Demand, Posting, Routes, first_parameter};
 use office_types::NetName;
@@ -108,27 +110,15 @@ fn reason(
     why(alloc, routes, &exchange.head, &exchange.body, is_there)
 }
 
-/// Bytes that have a form without blanks, or `-`.
-fn or_dash<'b>(bytes: Option<&'b [u8]>) -> &'b str {
-    match bytes {
-        Some(bytes) => text_in(bytes),
-        None => "-",
-    }
-}
-
-/// What comes before the reason: the method, the target, the status, the team and the key.
-fn front_of(alloc: Global, routes: &Routes, exchange: &Exchange) -> Result<String, AllocError> {
-    let status = text_in(status_of(&exchange.response));
-    match head_of(routes, &exchange.head) {
-        Ok(parts) => {
-            let method = shown(alloc, parts.method)?;
-            let target = shown(alloc, parts.target)?;
-            let team = or_dash(team_bytes(alloc, parts.team)?);
-            let key = or_dash(key_bytes(alloc, parts.key)?);
-            format!(in alloc; "{method} {target} {status} {team} {key}")
-        }
-        Err(_) => format!(in alloc; "- - {status} - -"),
-    }
+/// The line of a front and a reason.
+fn line_with(alloc: Global, front: Vec<u8>, reason: &str) -> Result<Vec<u8>, AllocError>
+    ensures { IfOk result
+        (λ line. line.items ≡ line_text (front.items ++ codes ": " ++ reason.now)) }
+{
+    let mut text = front;
+    text.extend_from_slice(b": ")?;
+    text.extend_from_slice(reason.as_bytes())?;
+    as_line(alloc, &text)
 }
 
 /// The line of an exchange, or `None` where nothing was answered, or by 200: `METHOD TARGET STATUS TEAM KEY: REASON`,
@@ -139,13 +129,17 @@ pub fn line_of(
     exchange: &Exchange,
     read: Option<OfficeRead<'_>>,
 ) -> Result<Option<Vec<u8>>, AllocError>
-    ensures { IfOk result (λ line. IfSome line (λ bytes. IsLine bytes.items)) }
+    ensures reported { IfOk result
+        (λ line. is_some line ≡ is_reported exchange.now.response.items) }
+    ensures line { IfOk result (λ line. IfSome line (λ bytes. IsLine bytes.items)) }
+    ensures on { IfOk result (λ line. IfSome line
+        (λ bytes. IsLineOn exchange.now.head.items exchange.now.response.items bytes.items)) }
 {
     if !is_reported(exchange) {
         return Ok(None);
     }
-    let front = front_of(alloc, routes, exchange)?;
+    let front = front_of(alloc, exchange)?;
     let reason = reason(alloc, routes, exchange, read)?;
-    let text = format!(in alloc; "{front}: {reason}")?;
-    Ok(Some(as_line(alloc, text.as_str())?))
+    let line = line_with(alloc, front, reason.as_str())?;
+    Ok(Some(line))
 }

@@ -1,6 +1,6 @@
 //! Why a target shows nothing.
 
-use crate::pieces::{shown, text_of};
+use crate::pieces::{shown, text_in, text_of};
 use base::whole_number;
 use dbc_words::is_name;
 use desk_head::{Showing, first_parameter, second_parameter, third_parameter};
@@ -151,7 +151,7 @@ fn net_wrong(
     }
     let net = shown(alloc, net)?;
     let part = shown(alloc, part)?;
-    absent_text(alloc, second, net.as_str(), part.as_str(), is_there)
+    absent_text(alloc, second, text_in(&net), text_in(&part), is_there)
 }
 
 /// Why the target, at which this is shown, shows nothing; whether its network is there, if that is known.

@@ -1,8 +1,10 @@
 //! What lines are made of.
-ghost use Rattle.std.specs.Prelude.{◌≡◌, IfOk, map};
+ghost use Rattle.std.specs.Prelude.{◌≡◌, ◌++◌, IfOk, OnOk, map};
 ghost use Rattle.dbc_advice.specs.Sentence.{visible};
-ghost use Rattle.desk_advice.specs.Line.{IsLine};
+ghost use Rattle.desk_advice.specs.Front.{all_shown, escape, is_plain, shown, shown_byte};
+ghost use Rattle.desk_advice.specs.Line.{line_text};
 
+use columns::{concat, filled};
 use std::alloc::{AllocError, Global};
 use std::str::from_utf8;
 
@@ -25,26 +27,57 @@ pub(crate) fn text_of(alloc: Global, text: &str) -> Result<String, AllocError> {
     String::from_str(alloc, text)
 }
 
+/// Whether a byte is shown as it is: printable ASCII, and no space.
+fn is_plain(byte: u8) -> bool
+    ensures { result ≡ is_plain byte }
+{
+    33 <= byte && byte <= 126
+}
+
+/// A byte by its two hexadecimal digits.
+fn escape(alloc: Global, byte: u8) -> Result<Vec<u8>, AllocError>
+    ensures { IfOk result (λ text. text.items ≡ escape byte) }
+{
+    let digits = format!(in alloc; "{byte:x}")?;
+    let padded = filled(alloc, b'0', 2, digits.as_bytes())?;
+    concat(alloc, &[b"\\x", &padded])
+}
+
 /// Adds a byte as it is shown: one that isn't printable ASCII by its hexadecimal digits.
-fn add_shown(text: &mut String, alloc: Global, byte: u8) -> Result<(), AllocError> {
-    if (33..=126).contains(&byte) {
-        text.push(char::from(byte))
+fn push_shown(alloc: Global, text: &mut Vec<u8>, byte: u8) -> Result<(), AllocError>
+    ensures { OnOk result (text.new.items ≡ text.old.items ++ shown_byte byte) }
+{
+    if is_plain(byte) {
+        text.push(byte)?;
     } else {
-        let shown = format!(in alloc; "\\x{byte:02x}")?;
-        text.push_str(shown.as_str())
+        let escape = escape(alloc, byte)?;
+        text.extend_from_slice(&escape)?;
     }
+    Ok(())
+}
+
+/// The bytes as they are shown.
+fn all_shown(alloc: Global, bytes: &[u8]) -> Result<Vec<u8>, AllocError>
+    ensures { IfOk result (λ text. text.items ≡ all_shown bytes.now) }
+{
+    let mut text = Vec::new(alloc);
+    for byte in bytes {
+        push_shown(alloc, &mut text, *byte)?;
+    }
+    Ok(text)
 }
 
 /// The bytes as they are shown, or the first of them.
-pub(crate) fn shown(alloc: Global, bytes: &[u8]) -> Result<String, AllocError> {
-    let mut text = String::new(alloc);
-    for byte in bytes.iter().take(SHOWN) {
-        add_shown(&mut text, alloc, *byte)?;
+pub(crate) fn shown(alloc: Global, bytes: &[u8]) -> Result<Vec<u8>, AllocError>
+    ensures { IfOk result (λ text. text.items ≡ shown bytes.now) }
+{
+    if bytes.len() <= SHOWN {
+        all_shown(alloc, bytes)
+    } else {
+        let mut text = all_shown(alloc, &bytes[..SHOWN])?;
+        text.extend_from_slice(b"..")?;
+        Ok(text)
     }
-    if bytes.len() > SHOWN {
-        text.push_str("..")?;
-    }
-    Ok(text)
 }
 
 /// Whether the name of a member may be shown: letters, digits and `_`, and not too many.
@@ -68,20 +101,16 @@ fn visible(byte: u8) -> u8
     }
 }
 
-/// The bytes of a text as a line has them.
-fn visible_bytes(alloc: Global, text: &str) -> Result<Vec<u8>, AllocError>
+/// The bytes as a line has them.
+fn visible_bytes(alloc: Global, text: &[u8]) -> Result<Vec<u8>, AllocError>
     ensures { IfOk result (λ bytes. bytes.items ≡ map visible text.now) }
 {
-    text.as_bytes()
-        .iter()
-        .map(|byte| visible(*byte))
-        .collect(alloc)
+    text.iter().map(|byte| visible(*byte)).collect(alloc)
 }
 
 /// The text as one line.
-#[tactic(auto, using(crate::proofs::Printable::visible_line))]
-pub(crate) fn as_line(alloc: Global, text: &str) -> Result<Vec<u8>, AllocError>
-    ensures { IfOk result (λ line. IsLine line.items) }
+pub(crate) fn as_line(alloc: Global, text: &[u8]) -> Result<Vec<u8>, AllocError>
+    ensures { IfOk result (λ line. line.items ≡ line_text text.now) }
 {
     let mut line = visible_bytes(alloc, text)?;
     line.push(b'\n')?;

@@ -1,8 +1,10 @@
 //! Why the office refuses a command, or shows nothing, by what is read of it.
+ghost use Rattle.std.specs.Prelude.{◌≡◌};
+ghost use Rattle.desk_advice.specs.Front.{is_reported};
 
 use crate::heads::call_in;
 use crate::pieces::text_in;
-use crate::refused::{Refused, label_of, refused_of, status_of};
+use crate::refused::{Refused, is_reported_response, label_of, refused_of, status_of};
 use base::Copying;
 use desk_call::{Call, Exchange, OfficeRead, WantedNet};
 use desk_head::Routes;
@@ -55,8 +57,10 @@ fn wanted_of(
 }
 
 /// Whether the exchange is reported: something was answered, and not by 200.
-pub(crate) fn is_reported(exchange: &Exchange) -> bool {
-    !exchange.response.is_empty() && status_of(&exchange.response) != b"200".as_slice()
+pub(crate) fn is_reported(exchange: &Exchange) -> bool
+    ensures { result ≡ is_reported exchange.now.response.items }
+{
+    is_reported_response(&exchange.response)
 }
 
 /// What the report on the exchange depends on of the office, if on anything: the network of a command that is refused,

@@ -1,4 +1,6 @@
 //! What a response says: its status, and what is refused.
+ghost use Rattle.std.specs.Prelude.{◌≡◌};
+ghost use Rattle.desk_advice.specs.Front.{is_reported, status_of};
 
 use crate::pieces::text_in;
 use office_types::{FileFault, Refusal};
@@ -15,11 +17,21 @@ pub(crate) enum Refused {
 }
 
 /// The digits of the status of a response.
-pub(crate) fn status_of(response: &[u8]) -> &[u8] {
-    match response.get(9..12) {
-        Some(digits) => digits,
-        None => b"-",
+pub(crate) fn status_of(response: &[u8]) -> &[u8]
+    ensures { result.now ≡ status_of response.now }
+{
+    if 12 <= response.len() {
+        &response[9..12]
+    } else {
+        b"-"
     }
+}
+
+/// Whether the response is reported: it is one, and not of status 200.
+pub(crate) fn is_reported_response(response: &[u8]) -> bool
+    ensures { result ≡ is_reported response.now }
+{
+    !response.is_empty() && status_of(response) != b"200".as_slice()
 }
 
 /// The JSON object of the response, which begins at the first brace: no line of its head has one.

@@ -1,10 +1,17 @@
 //! Who sends a request, and under which key.
+ghost use Rattle.std.specs.Prelude.{◌≡◌, ◌≤◌, All, IfOk, length, map};
+ghost use Rattle.httparse.specs.Spans.{IsHeaderWithin, header_bytes};
+ghost use Rattle.office_fields.specs.Reading.{ReadsField};
+ghost use Rattle.desk_call.specs.Call.{key_of};
+ghost use Rattle.desk_advice.specs.Front.{key_in, team_in};
 
 use crate::pieces::{text_in, text_of};
-use desk_head::Header;
+use desk_head::{Header, header_named};
+use httparse::spans::HeaderSpan;
 use office_advice::{Cause, meaning_of};
-use office_fields::team_of;
+use office_fields::{Unread, team_of};
 use office_history::Key;
+use office_types::Team;
 use std::alloc::{AllocError, Global};
 
 /// What a header has to be, for the sentences on it.
@@ -28,38 +35,83 @@ fn header_wrong(
     }
 }
 
-/// The bytes of the header's value, if it is a team.
-pub(crate) fn team_bytes<'b>(
-    alloc: Global,
-    team: Header<'b>,
-) -> Result<Option<&'b [u8]>, AllocError> {
+/// Whether the header's value is a team.
+fn is_team(alloc: Global, team: Header<'_>) -> Result<bool, AllocError> {
     let Header::Once(value) = team else {
-        return Ok(None);
+        return Ok(false);
     };
     match team_of(alloc, value) {
-        Ok(_team) => Ok(Some(value)),
-        Err(office_fields::Unread::Wrong) => Ok(None),
-        Err(office_fields::Unread::Memory) => Err(AllocError),
+        Ok(_team) => Ok(true),
+        Err(Unread::Wrong) => Ok(false),
+        Err(Unread::Memory) => Err(AllocError),
     }
 }
 
-/// The bytes of the header's value, if it is a key.
-pub(crate) fn key_bytes<'b>(
-    alloc: Global,
-    key: Header<'b>,
-) -> Result<Option<&'b [u8]>, AllocError> {
+/// Whether the header's value is a key.
+fn is_key(alloc: Global, key: Header<'_>) -> Result<bool, AllocError> {
     let Header::Once(value) = key else {
-        return Ok(None);
+        return Ok(false);
     };
     match Key::of(alloc, value)? {
-        Some(_key) => Ok(Some(value)),
-        None => Ok(None),
+        Some(_key) => Ok(true),
+        None => Ok(false),
+    }
+}
+
+/// The team that the header `Team` names, if it names one. The headers are in the first `len` bytes of the buffer.
+pub(crate) fn team_in(
+    alloc: Global,
+    buf: &[u8],
+    headers: &[HeaderSpan],
+    len: usize,
+) -> Result<Option<Team>, AllocError>
+    requires fits { len ≤ length buf.now }
+    requires within { All (IsHeaderWithin len) headers.now }
+    ensures { IfOk result (λ found. found ≡ team_in (map (header_bytes buf.now) headers.now)) }
+{
+    match header_named(buf, headers, len, b"team") {
+        Header::Absent => Ok(None),
+        Header::Once(value) => match team_of(alloc, value) {
+            Ok(team) => Ok(Some(team)),
+            Err(Unread::Wrong) => Ok(None),
+            Err(Unread::Memory) => Err(AllocError),
+        },
+        Header::Double => Ok(None),
+    }
+}
+
+/// The key that the bytes are, or `Wrong`.
+fn key_of(alloc: Global, bytes: &[u8]) -> Result<Key, Unread>
+    ensures { ReadsField (key_of bytes.now) result }
+{
+    Key::of(alloc, bytes)?.ok_or(Unread::Wrong)
+}
+
+/// The key that the header `Request-Key` gives, if it gives one.
+pub(crate) fn key_in(
+    alloc: Global,
+    buf: &[u8],
+    headers: &[HeaderSpan],
+    len: usize,
+) -> Result<Option<Key>, AllocError>
+    requires fits { len ≤ length buf.now }
+    requires within { All (IsHeaderWithin len) headers.now }
+    ensures { IfOk result (λ found. found ≡ key_in (map (header_bytes buf.now) headers.now)) }
+{
+    match header_named(buf, headers, len, b"request-key") {
+        Header::Absent => Ok(None),
+        Header::Once(value) => match key_of(alloc, value) {
+            Ok(key) => Ok(Some(key)),
+            Err(Unread::Wrong) => Ok(None),
+            Err(Unread::Memory) => Err(AllocError),
+        },
+        Header::Double => Ok(None),
     }
 }
 
 /// Why the header names no team, if it doesn't.
 pub(crate) fn team_wrong(alloc: Global, team: Header<'_>) -> Result<Option<String>, AllocError> {
-    if team_bytes(alloc, team)?.is_some() {
+    if is_team(alloc, team)? {
         return Ok(None);
     }
     let meaning = meaning_of(alloc, Cause::Team)?;
@@ -70,7 +122,7 @@ pub(crate) fn team_wrong(alloc: Global, team: Header<'_>) -> Result<Option<Strin
 
 /// Why the header gives no key, if it doesn't.
 pub(crate) fn key_wrong(alloc: Global, key: Header<'_>) -> Result<Option<String>, AllocError> {
-    if key_bytes(alloc, key)?.is_some() {
+    if is_key(alloc, key)? {
         return Ok(None);
     }
     let wanted = Wanted {

@@ -46,7 +46,7 @@ IsAskedFor earlier later port look o =
     (asked : Asked) × earlier.asked port (target_of look) asked
     × Takes earlier later (turn port (request_bytes (target_of look)) asked ∷ []) × (o ≡ asked_outcome port asked)
 
--- the office at the place looks, and what it shows is printed; no desk is asked for one in a database
+-- what the office at the place shows for the look is printed; a database is read without asking any desk
 abbrev pub IsLookedAt : Desks → Desks → Databases → Databases → Place → Look → Outcome → Type 0
 IsLookedAt earlier later before after (Database path) look o =
     (shown : Result (Option (List ℕ)) Lost) × IsLookedUp before after path.now look shown × TakesNone earlier later

@@ -56,9 +56,9 @@ abbrev pub GoesOn : Bool → List Turn → Type 0 → Asked → Result Answer Se
 GoesOn true later Next came r = Next
 GoesOn false later Next came r = (later ≡ []) × EndsWith came r
 
--- In so many tries of a request at a port just these turns are taken, and this comes of it in the end. Each is of
--- exactly its bytes at that port. Where it is to be sent again, the next ones are in the tries that are left; else it
--- was the last one. Where no try is left, there is none, and no reply.
+-- A request is sent to a port in at most so many tries: just these turns are taken, and this is the result. Each turn
+-- sends exactly the bytes of the request to exactly this port. After a turn the tries that are left follow if the request
+-- is to be sent again, and no turn if not. With no try left no turn is taken, and there is no reply.
 abbrev pub Comes : Desks → ℕ → List ℕ → ℕ → List Turn → Result Answer SendFault → Type 0
 Comes desks port request zero turns r = (turns ≡ []) × (r ≡ Err NoReply)
 Comes desks port request (suc tries) turns r =

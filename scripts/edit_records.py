@@ -2,9 +2,10 @@
 
     SUM CRATE/EDIT FUNCTION CLAUSE
 
-with the function and the clause that refused it, and the SHA-256 of all that this stands on: the edit, the sources,
-specs and proofs of its crate and of those below, their lines of crates.txt, and the prover's logic. The sum is the same
-on each machine, and a document, a case or a script doesn't change it. scripts/edits reads and writes these lines.
+with the function and the clause that refused it, and the SHA-256 of all that this stands on: the edit with its control,
+the sources, specs and proofs of its crate and of those below, their lines of crates.txt, and the prover's logic. The
+sum is the same on each machine, and a document, a case or a script doesn't change it. scripts/edits reads and writes
+these lines.
 """
 import functools
 import glob
@@ -109,9 +110,11 @@ def write_records(records):
 # What refused an edit.
 
 PLACE = re.compile(r"(?:note: )?(?:\./)?((?:src|proofs)/\S+?):(\d+):\d+: (.*)")
+# What the prover writes of a proof that names what is gone with the edit. It shows nothing of a clause.
+GONE = re.compile(r"has no field|is not in scope|has no `|was not admitted")
 
 
-def function_at(crate, path, number):
+def function_at(path, number, text):
     """The function that has the line of a source, or that a proof file is of; with its type, if it is a method."""
     names = path.split("/")
     if names[0] == "proofs":
@@ -119,8 +122,7 @@ def function_at(crate, path, number):
             return path
         names = [name for name in names[1:-1] if name[0].isupper()] + [names[-2]]
         return "::".join(names[-2:])
-    with open(f"{TOP}/crates/{crate}/{path}") as file:
-        lines = file.read().splitlines()
+    lines = text.splitlines()
     end = int(number)
     while lines[end - 1].lstrip().startswith("#["):
         end += 1
@@ -136,7 +138,8 @@ def function_at(crate, path, number):
 
 
 def clause_of(text):
-    """The clause that a goal is of: its name, or `ensures` where it has none. Another goal is of no clause."""
+    """The clause that a goal is of: its name, or `ensures` where it has none, or is the only one and the goal doesn't say
+    its name. Another goal is of no clause."""
     goal = re.search(r"`([\w.-]+)`", text)
     goal = goal[1] if goal else ""
     named = re.search(r"-clause-(\w+)$", goal)
@@ -146,16 +149,17 @@ def clause_of(text):
         return named[1]
     if re.match(r"returns\b", goal):
         return "ensures"
-    # An operation isn't safe, or a loop's invariant doesn't hold.
     if "`loop-" in text:
-        return "no clause: the invariant of the loop holds"
+        return "the invariant of the loop"
+    # An operation isn't safe.
     return "no clause: " + re.sub(r".*it is not proved that | \(.*", "", text)
 
 
-def refused_by(edit, said):
-    """The function and the clause of the line with which the prover refused the edit: where it stopped first."""
-    place = PLACE.match(said)
-    if not place:
-        return "?", f"no clause: {said or 'the prover says nothing'}"
-    path, number, text = place.groups()
-    return function_at(edit.split("/")[0], path, number), clause_of(text)
+def open_goals(lines, text_of):
+    """The function and the clause of each goal that the prover lists as not proved, in its order, each once. `text_of`
+    gives the text of a file that was checked."""
+    found = []
+    for place in map(PLACE.match, lines):
+        if place and (place[3].startswith("error: ") or "it is not proved that" in place[3]) and not GONE.search(place[3]):
+            found.append((function_at(place[1], place[2], text_of(place[1])), clause_of(place[3])))
+    return list(dict.fromkeys(found))

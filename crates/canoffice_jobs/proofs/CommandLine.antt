@@ -1,7 +1,7 @@
 -- What clap's matches and errors say of the job and of the fault.
 use Rattle.std.proofs.Common.{◌≡◌, ◌∷◌, map, ◌⊎◌, inl, inr, ap, Bool, List, Option, Some, None, codes, option_map, refl}
-use Rattle.std.proofs.Common.{subst, true, false, sym, ◌∙◌}
-use Rattle.std.specs.Prelude.{find}
+use Rattle.std.proofs.Common.{subst, true, false, true≢false, sym, ◌∙◌}
+use Rattle.std.specs.Prelude.{◌≢◌, find}
 use Rattle.std.specs.Borrow.{Bor}
 use Rattle.std.specs.Option.{IsSome, option_map_or}
 use Rattle.std.specs.Str.{bytes_eq}
@@ -16,12 +16,12 @@ use Rattle.clap.specs.Words.{App, subcommand_name_of, subcommand_rows_of, IsAmon
 use Rattle.clap.specs.Words.{raw_values, first_value, fault_of, first_of, is_simple_and_free, rows_of}
 use Rattle.clap.specs.declared.error.kind.ErrorKind.{ErrorKind}
 use Rattle.clap.specs.declared.error.kind.ErrorKind.TheVariants.{OutOfMemory, ValueValidation}
-use Rattle.canoffice_jobs.specs.CommandLine.{ComparesInput, HasSome, HasUnknownRemark, HasWrongNumber, IsEntered}
-use Rattle.canoffice_jobs.specs.CommandLine.{IsFaultOfKind}
-use Rattle.canoffice_jobs.specs.CommandLine.{IsJobFault, IsWhole}
-use Rattle.canoffice_jobs.specs.CommandLine.{LooksWrongly, are_absent, are_files, canoffice_app, is_set, line_faults}
+use Rattle.canoffice_jobs.specs.CommandLine.{HasSome, HasValueFault, IsEntered, IsFaultOfKind, IsJobFault, IsWhole}
+use Rattle.canoffice_jobs.specs.CommandLine.{are_absent, are_files, canoffice_app, is_set, line_faults}
 use Rattle.canoffice_jobs.specs.declared.job.JobFault.{JobFault}
 use Rattle.canoffice_jobs.specs.declared.job.JobFault.TheVariants.{Help, Usage, Memory}
+use Rattle.canoffice_jobs.specs.declared.job.ValueFault.{ValueFault}
+use Rattle.canoffice_jobs.specs.declared.job.ValueFault.TheVariants as value
 use Rattle.clap.specs.declared.parser.matches.Found.{Found}
 use Rattle.clap.proofs.WalkLemmas.{first_value-rows, raw_values-rows}
 
@@ -82,37 +82,22 @@ line_fault_of words kind (Usage text) (inl memory) is = absurd (is.2 memory)
 line_fault_of words kind (Usage text) (inr among) is = inl (kind, is.0, is.1, among)
 line_fault_of words kind Memory has is = tt
 
--- a wrong number of the subcommand that was entered is one that the words have
-pub wrong_number_of : (words : List Text) (word : Text) (fault : JobFault) → HasWrongNumber words word
-    → IsFaultOfKind ValueValidation fault → IsJobFault words fault
-wrong_number_of words word (Help text) has (inl help) = cc
-wrong_number_of words word (Help text) has (inr version) = cc
-wrong_number_of words word (Usage text) has is = inr (inl (word, has))
-wrong_number_of words word Memory has is = tt
+abbrev pub is_memory : ValueFault → Bool
+is_memory (value.WrongNumber number word) = false
+is_memory (value.WrongPlace command fault) = false
+is_memory (value.WrongWhat fault) = false
+is_memory (value.UnknownRemark word) = false
+is_memory value.InputTwice = false
+is_memory value.Memory = true
 
--- and so is what looks wrongly in it
-pub wrong_look_of : (words : List Text) (fault : JobFault) → LooksWrongly words → IsFaultOfKind ValueValidation fault
-    → IsJobFault words fault
-wrong_look_of words (Help text) has (inl help) = cc
-wrong_look_of words (Help text) has (inr version) = cc
-wrong_look_of words (Usage text) has is = inr (inr (inl has))
-wrong_look_of words Memory has is = tt
-
--- and so is the first name that no kind of remark has
-pub unknown_remark_of : (words : List Text) (word : Text) (fault : JobFault) → HasUnknownRemark words word
-    → IsFaultOfKind ValueValidation fault → IsJobFault words fault
-unknown_remark_of words word (Help text) has (inl help) = cc
-unknown_remark_of words word (Help text) has (inr version) = cc
-unknown_remark_of words word (Usage text) has is = inr (inr (inr (inl (word, has))))
-unknown_remark_of words word Memory has is = tt
-
--- and so is that it reads standard input twice
-pub input_twice_of : (words : List Text) (fault : JobFault) → ComparesInput words → IsFaultOfKind ValueValidation fault
-    → IsJobFault words fault
-input_twice_of words (Help text) has (inl help) = cc
-input_twice_of words (Help text) has (inr version) = cc
-input_twice_of words (Usage text) has is = inr (inr (inr (inr has)))
-input_twice_of words Memory has is = tt
+-- a fault of the values of the subcommand that was entered is one that the words have
+pub value_fault_of : (words : List Text) (found : ValueFault) (fault : JobFault) → HasValueFault words found
+    → is_memory found ≡ false → IsFaultOfKind ValueValidation fault → IsJobFault words fault
+value_fault_of words found (Help text) has other (inl help) = cc
+value_fault_of words found (Help text) has other (inr version) = cc
+value_fault_of words found (Usage text) has other is =
+    inr (found, (λ same. absurd (true≢false (sym (ap is_memory same) ∙ other))), has)
+value_fault_of words found Memory has other is = tt
 
 is_simple_line : is_simple_and_free canoffice_app ≡ true
 is_simple_line = refl

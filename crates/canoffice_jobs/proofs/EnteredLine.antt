@@ -7,12 +7,11 @@ use Rattle.std.proofs.lemmas.Slice.Eq.{bytes_eq-Decides}
 use Rattle.clap.specs.Faults.{fault_of, is_simple_and_free}
 use Rattle.clap.specs.declared.parser.matches.ArgMatches.{ArgMatches}
 use Rattle.clap.specs.Walk.{Text, answers_to, rows_after}
-use Rattle.clap.specs.Words.{Row}
 use Rattle.clap.specs.Simple.{App, HasMatchesOf, Shape, subcommand_rows_of, built, label_of, subcommand_of}
-use Rattle.canoffice_jobs.specs.CommandLine.{ComparesInput, HasSome, HasUnknownRemark, HasWrongNumber, IsEntered, IsJob}
-use Rattle.canoffice_jobs.specs.CommandLine.{IsJobIn, IsUnknownRemark, IsWrongLook, IsWrongNumber, LooksWrongly}
-use Rattle.canoffice_jobs.specs.CommandLine.{ReadsTwice, canoffice_app, line_faults}
+use Rattle.canoffice_jobs.specs.CommandLine.{HasSome, HasValueFault, IsEntered, IsJob, IsJobIn, IsValueFaultIn}
+use Rattle.canoffice_jobs.specs.CommandLine.{canoffice_app, line_faults}
 use Rattle.canoffice_jobs.specs.declared.job.Job.{Job}
+use Rattle.canoffice_jobs.specs.declared.job.ValueFault.{ValueFault}
 use Rattle.canoffice_jobs.proofs.NoFault.{Among}
 use Rattle.canoffice_jobs.proofs.FilledWalk.{IsNoHelp}
 use Rattle.canoffice_jobs.proofs.GivenValues.{Passes, leaf_required, needs_value}
@@ -178,26 +177,8 @@ pub job_of_read : (words : List Text) (m : ArgMatches) (job : Job) → IsLineRea
     → IsJobIn (subcommand_rows_of m) job → IsJob words job
 job_of_read words m job read is = (read.faultless, subst (λ found. IsJobIn found job) read.same is)
 
--- a wrong number that is in such matches is one that the words have
-pub wrong_number_read : (words : List Text) (m : ArgMatches) (word : Text) → IsLineRead words m
-    → ((name : Text) × (rows : List Row) × (subcommand_rows_of m ≡ Some (name, rows)) × IsWrongNumber name rows word)
-    → HasWrongNumber words word
-wrong_number_read words m word read w = (read.faultless, w.0, w.1, sym read.same ∙ w.2, w.3)
-
--- and so is the first name that no kind of remark has
-pub unknown_remark_read : (words : List Text) (m : ArgMatches) (word : Text) → IsLineRead words m
-    → ((name : Text) × (rows : List Row) × (subcommand_rows_of m ≡ Some (name, rows)) × IsUnknownRemark name rows word)
-    → HasUnknownRemark words word
-unknown_remark_read words m word read w = (read.faultless, w.0, w.1, sym read.same ∙ w.2, w.3)
-
--- and so is that they read standard input twice
-pub input_twice_read : (words : List Text) (m : ArgMatches) → IsLineRead words m
-    → ((name : Text) × (rows : List Row) × (subcommand_rows_of m ≡ Some (name, rows)) × ReadsTwice name rows)
-    → ComparesInput words
-input_twice_read words m read w = (read.faultless, w.0, w.1, sym read.same ∙ w.2, w.3)
-
--- and so is what looks wrongly in such matches
-pub wrong_look_read : (words : List Text) (m : ArgMatches) → IsLineRead words m
-    → ((name : Text) × (rows : List Row) × (subcommand_rows_of m ≡ Some (name, rows)) × IsWrongLook name rows)
-    → LooksWrongly words
-wrong_look_read words m read w = (read.faultless, w.0, w.1, sym read.same ∙ w.2, w.3)
+-- a fault of the values in such matches is one that the words have
+pub value_fault_read : (words : List Text) (m : ArgMatches) (fault : ValueFault) → IsLineRead words m
+    → IsValueFaultIn (subcommand_rows_of m) fault → HasValueFault words fault
+value_fault_read words m fault read is =
+    (read.faultless, subst (λ found. IsValueFaultIn found fault) read.same is)

@@ -19,10 +19,19 @@ use Rattle.canoffice_jobs.specs.declared.job.JobFault.TheVariants.{Help, Usage, 
 use Rattle.canoffice_jobs.specs.declared.job.ValueFault.{ValueFault}
 use Rattle.canoffice_jobs.specs.declared.job.ValueFault.TheVariants as value
 use Rattle.canoffice_jobs.specs.declared.manner.Manner.{Manner}
+use Rattle.canoffice_jobs.specs.declared.numbers.Number.{Number}
+use Rattle.canoffice_jobs.specs.declared.numbers.Number.TheVariants as number
+use Rattle.canoffice_jobs.specs.declared.place.LookCommand.{LookCommand}
+use Rattle.canoffice_jobs.specs.declared.place.LookCommand.TheVariants as look
 use Rattle.canoffice_jobs.specs.declared.place.Place.{Place}
+use Rattle.canoffice_jobs.specs.declared.place.PlaceFault.{PlaceFault}
+use Rattle.canoffice_jobs.specs.declared.place.PlaceFault.TheVariants.{NoRelease}
+use Rattle.canoffice_jobs.specs.declared.what.WhatFault.{WhatFault}
 use Rattle.canoffice_jobs.specs.Numbers.{count_given, page_number, port_given, release_number, tries_given}
-use Rattle.canoffice_jobs.specs.Place.{IsNoPlace, IsPlace}
+use Rattle.canoffice_jobs.specs.Place.{IsPlace}
+use Rattle.canoffice_jobs.specs.PlaceFault.{IsPlaceFault}
 use Rattle.canoffice_jobs.specs.What.{shown_by}
+use Rattle.canoffice_jobs.specs.WhatFault.{IsWhatFault}
 use Rattle.dbc_lint.specs.Kind.{first_unknown}
 
 -- ---- the description for clap
@@ -321,36 +330,61 @@ IsFaultOfKind kind (Help text) = (kind ≡ DisplayHelp) ⊎ (kind ≡ DisplayVer
 IsFaultOfKind kind (Usage text) = (kind ≢ DisplayHelp) × (kind ≢ DisplayVersion) × (kind ≢ OutOfMemory)
 IsFaultOfKind kind Memory = Unit {0}
 
--- of the subcommand with these arguments, the word for a number gives none in its range; the older release is looked at
--- before the newer one, and the port before the count and before the tries
-abbrev pub IsWrongNumber : Text → List Row → Text → Type 0
-IsWrongNumber name rows word =
-    ((name ≡ codes "chart") × HasValue rows (codes "LENGTH") word × (length_of word ≡ None))
-    ⊎ ((name ≡ codes "compare") × (are_files rows ≡ false) × HasValue rows (codes "B") word
-    × (release_number word ≡ None))
-    ⊎ ((name ≡ codes "compare") × HasValue rows (codes "N") word × (release_number word ≡ None)
-    × (old : ℕ) × (option_and_then release_number (first_of (codes "B") rows) ≡ Some old))
-    ⊎ ((name ≡ codes "export") × HasValue rows (codes "N") word × (release_number word ≡ None))
-    ⊎ ((name ≡ codes "send") × HasValue rows (codes "port") word × (port_given (Some word) ≡ None))
-    ⊎ ((name ≡ codes "send") × HasValue rows (codes "tries") word × (tries_given (Some word) ≡ None)
-    × (port : ℕ) × (port_given (first_of (codes "port") rows) ≡ Some port))
-    ⊎ ((name ≡ codes "serve") × HasValue rows (codes "port") word × (port_given (Some word) ≡ None))
-    ⊎ ((name ≡ codes "serve") × HasValue rows (codes "count") word × (count_given (Some word) ≡ None)
-    × (port : ℕ) × (port_given (first_of (codes "port") rows) ≡ Some port))
-    ⊎ ((name ≡ codes "page") × (are_files rows ≡ false) × HasValue rows (codes "N") word
-    × (release_number word ≡ None))
+-- the values of `--db` and `--port` name some place
+abbrev pub HasPlace : List Row → Type 0
+HasPlace rows = (place : Place) × IsPlaceIn place rows
 
--- the subcommand with these arguments looks at an office, but the values of `--db` and `--port` name no place, or there
--- is no second release to compare, or nothing is shown by the words
-abbrev pub IsWrongLook : Text → List Row → Type 0
-IsWrongLook name rows =
-    (((name ≡ codes "requests") ⊎ (name ≡ codes "show"))
-    × IsNoPlace (first_of (codes "db") rows) (first_of (codes "port") rows))
-    ⊎ ((name ≡ codes "compare") × (are_files rows ≡ false)
-    × (IsNoPlace (first_of (codes "db") rows) (first_of (codes "port") rows) ⊎ (first_of (codes "N") rows ≡ None)))
-    ⊎ ((name ≡ codes "page") × (are_files rows ≡ false)
-    × IsNoPlace (first_of (codes "db") rows) (first_of (codes "port") rows))
-    ⊎ ((name ≡ codes "show") × (shown_by (first_of (codes "WHAT") rows) (first_of (codes "NAME") rows) ≡ None))
+-- of the subcommand with these arguments, this word for this number gives none in its range. The place is looked at
+-- before a number, the older release before the newer one, and the port before the count and before the tries.
+abbrev pub IsWrongNumber : Text → List Row → Number → Text → Type 0
+IsWrongNumber name rows number.Length word =
+    (name ≡ codes "chart") × HasValue rows (codes "LENGTH") word × (length_of word ≡ None)
+IsWrongNumber name rows number.Release word =
+    (name ≡ codes "export") × HasValue rows (codes "N") word × (release_number word ≡ None)
+IsWrongNumber name rows number.OlderRelease word =
+    (name ≡ codes "compare") × (are_files rows ≡ false) × HasPlace rows × HasValue rows (codes "B") word
+    × (release_number word ≡ None) × (newer : Text) × HasValue rows (codes "N") newer
+IsWrongNumber name rows number.NewerRelease word =
+    (name ≡ codes "compare") × (are_files rows ≡ false) × HasPlace rows × HasValue rows (codes "N") word
+    × (release_number word ≡ None) × (old : ℕ) × (option_and_then release_number (first_of (codes "B") rows) ≡ Some old)
+IsWrongNumber name rows number.PageRelease word =
+    (name ≡ codes "page") × (are_files rows ≡ false) × HasPlace rows × HasValue rows (codes "N") word
+    × (release_number word ≡ None)
+IsWrongNumber name rows number.Port word =
+    (name ≡ codes "serve") × HasValue rows (codes "port") word × (port_given (Some word) ≡ None)
+IsWrongNumber name rows number.SendPort word =
+    (name ≡ codes "send") × HasValue rows (codes "port") word × (port_given (Some word) ≡ None)
+IsWrongNumber name rows number.Count word =
+    (name ≡ codes "serve") × HasValue rows (codes "count") word × (count_given (Some word) ≡ None)
+    × (port : ℕ) × (port_given (first_of (codes "port") rows) ≡ Some port)
+IsWrongNumber name rows number.Tries word =
+    (name ≡ codes "send") × HasValue rows (codes "tries") word × (tries_given (Some word) ≡ None)
+    × (port : ℕ) × (port_given (first_of (codes "port") rows) ≡ Some port)
+
+-- why the values of `--db` and `--port` name no place
+abbrev pub IsPlaceFaultIn : List Row → PlaceFault → Type 0
+IsPlaceFaultIn rows fault = IsPlaceFault (first_of (codes "db") rows) (first_of (codes "port") rows) fault
+
+-- a place is named, but no second release to compare with
+abbrev pub LacksRelease : List Row → PlaceFault → Type 0
+LacksRelease rows fault = (fault ≡ NoRelease) × HasPlace rows × (first_of (codes "N") rows ≡ None)
+
+-- the subcommand with these arguments, which is this one, looks at an office, but for this reason there is no place, or
+-- no second release
+abbrev pub IsWrongPlace : Text → List Row → LookCommand → PlaceFault → Type 0
+IsWrongPlace name rows look.Compare fault =
+    (name ≡ codes "compare") × (are_files rows ≡ false) × (IsPlaceFaultIn rows fault ⊎ LacksRelease rows fault)
+IsWrongPlace name rows look.Page fault =
+    (name ≡ codes "page") × (are_files rows ≡ false) × IsPlaceFaultIn rows fault
+IsWrongPlace name rows look.Show fault = (name ≡ codes "show") × IsPlaceFaultIn rows fault
+IsWrongPlace name rows look.Requests fault = (name ≡ codes "requests") × IsPlaceFaultIn rows fault
+
+-- the subcommand with these arguments is to show something of an office at a place, but for this reason there is nothing
+-- to show
+abbrev pub IsWrongWhat : Text → List Row → WhatFault → Type 0
+IsWrongWhat name rows fault =
+    (name ≡ codes "show") × HasPlace rows
+    × IsWhatFault (first_of (codes "WHAT") rows) (first_of (codes "NAME") rows) fault
 
 -- the subcommand with these arguments is to print remarks, but this is the first of their names that no kind has
 abbrev pub IsUnknownRemark : Text → List Row → Text → Type 0
@@ -363,52 +397,36 @@ ReadsTwice name rows =
     (name ≡ codes "compare") × (are_files rows ≡ true) × (old : Text) × (new : Text) × HasValue rows (codes "A") old
     × HasValue rows (codes "B") new × (are_input old new ≡ true)
 
--- the subcommand with these arguments makes no job: a word is a wrong number, or it looks wrongly, or it names no kind
--- of remark, or it reads standard input twice, or there was no memory for a chart's signals
+-- the subcommand with these arguments is to draw a chart of a right length, whose signals take memory
+abbrev pub TakesMemory : Text → List Row → Type 0
+TakesMemory name rows =
+    (name ≡ codes "chart") × (length : ℕ) × (option_and_then length_of (first_of (codes "LENGTH") rows) ≡ Some length)
+
+-- why the subcommand with these arguments makes no job: this word is a wrong number, or it looks wrongly, or it names
+-- no kind of remark, or it reads standard input twice, or there was no memory for a chart's signals
 abbrev pub IsValueFault : Text → List Row → ValueFault → Type 0
-IsValueFault name rows (value.WrongNumber number word) = IsWrongNumber name rows word.now
-IsValueFault name rows (value.WrongPlace command fault) = IsWrongLook name rows
-IsValueFault name rows (value.WrongWhat fault) = IsWrongLook name rows
+IsValueFault name rows (value.WrongNumber number word) = IsWrongNumber name rows number word.now
+IsValueFault name rows (value.WrongPlace command fault) = IsWrongPlace name rows command fault
+IsValueFault name rows (value.WrongWhat fault) = IsWrongWhat name rows fault
 IsValueFault name rows (value.UnknownRemark word) = IsUnknownRemark name rows word.now
 IsValueFault name rows value.InputTwice = ReadsTwice name rows
-IsValueFault name rows value.Memory = name ≡ codes "chart"
+IsValueFault name rows value.Memory = TakesMemory name rows
 
 abbrev pub IsValueFaultIn : Option (Text × List Row) → ValueFault → Type 0
 IsValueFaultIn found fault = (name : Text) × (rows : List Row) × (found ≡ Some (name, rows))
     × IsValueFault name rows fault
 
--- clap finds no fault in the words, but this word of them is a wrong number
-abbrev pub HasWrongNumber : List Text → Text → Type 0
-HasWrongNumber words word =
-    (line_faults words ≡ []) × (name : Text) × (rows : List Row)
-    × (subcommand_of canoffice_app words ≡ Some (name, rows)) × IsWrongNumber name rows word
+-- clap finds no fault in the words, but their values have this one
+abbrev pub HasValueFault : List Text → ValueFault → Type 0
+HasValueFault words fault = (line_faults words ≡ []) × IsValueFaultIn (subcommand_of canoffice_app words) fault
 
--- clap finds no fault in the words, but they look wrongly
-abbrev pub LooksWrongly : List Text → Type 0
-LooksWrongly words =
-    (line_faults words ≡ []) × (name : Text) × (rows : List Row)
-    × (subcommand_of canoffice_app words ≡ Some (name, rows)) × IsWrongLook name rows
-
--- clap finds no fault in the words, but this is the first of the names of remarks that no kind has
-abbrev pub HasUnknownRemark : List Text → Text → Type 0
-HasUnknownRemark words word =
-    (line_faults words ≡ []) × (name : Text) × (rows : List Row)
-    × (subcommand_of canoffice_app words ≡ Some (name, rows)) × IsUnknownRemark name rows word
-
--- clap finds no fault in the words, but they compare two files that are both standard input
-abbrev pub ComparesInput : List Text → Type 0
-ComparesInput words =
-    (line_faults words ≡ []) × (name : Text) × (rows : List Row)
-    × (subcommand_of canoffice_app words ≡ Some (name, rows)) × ReadsTwice name rows
-
--- the words request help, or the version; or they have a fault of another kind, or a wrong number, or look wrongly, or
--- name no kind of remark, or compare standard input with itself; or memory ran out
+-- the words request help, or the version; or they have a fault of another kind, or their values have one, which isn't
+-- that memory ran out; or memory ran out
 abbrev pub IsJobFault : List Text → JobFault → Type 0
 IsJobFault words (Help text) = IsAmong DisplayHelp (line_faults words) ⊎ IsAmong DisplayVersion (line_faults words)
 IsJobFault words (Usage text) =
     ((kind : ErrorKind) × (kind ≢ DisplayHelp) × (kind ≢ DisplayVersion) × IsAmong kind (line_faults words))
-    ⊎ ((word : Text) × HasWrongNumber words word) ⊎ LooksWrongly words
-    ⊎ ((word : Text) × HasUnknownRemark words word) ⊎ ComparesInput words
+    ⊎ ((fault : ValueFault) × (fault ≢ value.Memory) × HasValueFault words fault)
 IsJobFault words Memory = Unit {0}
 
 -- the words request a job, or have a fault

@@ -1,5 +1,6 @@
 pub mod Numbers
 pub mod Place
+pub mod PlaceFault
 pub mod CommandLine
 pub mod Meant
 pub mod Built

@@ -2,6 +2,7 @@
 ghost use Rattle.std.specs.Prelude.{IfErr, IfOk};
 ghost use Rattle.std.specs.Option.{option_map};
 ghost use Rattle.canoffice_jobs.specs.Place.{IsNoPlace, IsPlace};
+ghost use Rattle.canoffice_jobs.specs.PlaceFault.{IsPlaceFault};
 
 use crate::command_line::{compare_command, page_command, requests_command, show_command};
 use crate::numbers::{Number, port_number};
@@ -73,7 +74,8 @@ impl PlaceFault<'_> {
     }
 }
 
-/// The place that the values of `--db` and `--port` name, of which exactly one is given.
+/// The place that the values of `--db` and `--port` name, of which exactly one is given. The error is why they name
+/// none.
 pub(crate) fn place_given<'a>(
     database: Option<&'a str>,
     port: Option<&'a str>,
@@ -84,6 +86,9 @@ pub(crate) fn place_given<'a>(
     ensures wrong { IfErr result
         (λ fault. IsNoPlace (option_map (λ w. w.now) database.entry)
         (option_map (λ w. w.now) port.entry)) }
+    ensures why { IfErr result
+        (λ fault. IsPlaceFault (option_map (λ w. w.now) database.entry)
+        (option_map (λ w. w.now) port.entry) fault) }
 {
     match (database, port) {
         (Some(path), None) => Ok(Place::Database(path)),

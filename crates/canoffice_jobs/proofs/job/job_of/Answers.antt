@@ -1,9 +1,9 @@
-use Rattle.std.proofs.Common.{map}
+use Rattle.std.proofs.Common.{map, refl}
 use Rattle.clap.specs.Words.{app_of, kind_of}
-use Rattle.canoffice_jobs.proofs.CommandLine.{input_twice_of, line_fault_by, unknown_remark_of, wrong_look_of}
-use Rattle.canoffice_jobs.proofs.CommandLine.{wrong_number_of}
-use Rattle.canoffice_jobs.proofs.EnteredLine.{input_twice_read, job_of_read, line_is_read, unknown_remark_read}
-use Rattle.canoffice_jobs.proofs.EnteredLine.{wrong_look_read, wrong_number_read}
+use Rattle.canoffice_jobs.specs.declared.job.ValueFault.{ValueFault}
+use Rattle.canoffice_jobs.specs.declared.job.ValueFault.TheVariants as value
+use Rattle.canoffice_jobs.proofs.CommandLine.{line_fault_by, value_fault_of}
+use Rattle.canoffice_jobs.proofs.EnteredLine.{job_of_read, line_is_read, value_fault_read}
 use Rattle.canoffice_jobs.proofs.job.job_of.Goals as goal
 
 pub job_in-requires : goal.job_in-requires
@@ -26,10 +26,10 @@ returns-in-Err-WrongNumber-clause-fault c =
     let words = map (λ s. s.now) c.args.words.now in
     let read = line_is_read (app_of c.in-Ok.command) words found.matches c.in-Ok.ensures.app found.ensures.kinds
     found.ensures.matches in
-    let word = c.in-Err-WrongNumber.word.now in
-    wrong_number_of words word c.wrong_number.result
-    (wrong_number_read words found.matches word read
-    (rw c.in-Err-WrongNumber.field-0-is at c.in-Err-WrongNumber.ensures.fault)) c.wrong_number.ensures
+    let fault : ValueFault = (value.WrongNumber c.in-Err-WrongNumber.number c.in-Err-WrongNumber.word) in
+    value_fault_of words fault c.wrong_number.result
+    (value_fault_read words found.matches fault read
+    (rw c.in-Err-WrongNumber.field-0-is at c.in-Err-WrongNumber.ensures.fault)) refl c.wrong_number.ensures
 
 pub returns-in-Err-WrongPlace-clause-fault : goal.returns-in-Err-WrongPlace-clause-fault
 returns-in-Err-WrongPlace-clause-fault c =
@@ -37,9 +37,10 @@ returns-in-Err-WrongPlace-clause-fault c =
     let words = map (λ s. s.now) c.args.words.now in
     let read = line_is_read (app_of c.in-Ok.command) words found.matches c.in-Ok.ensures.app found.ensures.kinds
     found.ensures.matches in
-    wrong_look_of words c.wrong_place.result
-    (wrong_look_read words found.matches read
-    (rw c.in-Err-WrongPlace.field-0-is at c.in-Err-WrongPlace.ensures.fault)) c.wrong_place.ensures
+    let fault : ValueFault = (value.WrongPlace c.in-Err-WrongPlace.command c.in-Err-WrongPlace.fault) in
+    value_fault_of words fault c.wrong_place.result
+    (value_fault_read words found.matches fault read
+    (rw c.in-Err-WrongPlace.field-0-is at c.in-Err-WrongPlace.ensures.fault)) refl c.wrong_place.ensures
 
 pub returns-in-Err-WrongWhat-clause-fault : goal.returns-in-Err-WrongWhat-clause-fault
 returns-in-Err-WrongWhat-clause-fault c =
@@ -47,9 +48,10 @@ returns-in-Err-WrongWhat-clause-fault c =
     let words = map (λ s. s.now) c.args.words.now in
     let read = line_is_read (app_of c.in-Ok.command) words found.matches c.in-Ok.ensures.app found.ensures.kinds
     found.ensures.matches in
-    wrong_look_of words c.wrong_what.result
-    (wrong_look_read words found.matches read
-    (rw c.in-Err-WrongWhat.field-0-is at c.in-Err-WrongWhat.ensures.fault)) c.wrong_what.ensures
+    let fault : ValueFault = (value.WrongWhat c.in-Err-WrongWhat.fault) in
+    value_fault_of words fault c.wrong_what.result
+    (value_fault_read words found.matches fault read
+    (rw c.in-Err-WrongWhat.field-0-is at c.in-Err-WrongWhat.ensures.fault)) refl c.wrong_what.ensures
 
 pub returns-in-Err-UnknownRemark-clause-fault : goal.returns-in-Err-UnknownRemark-clause-fault
 returns-in-Err-UnknownRemark-clause-fault c =
@@ -57,10 +59,10 @@ returns-in-Err-UnknownRemark-clause-fault c =
     let words = map (λ s. s.now) c.args.words.now in
     let read = line_is_read (app_of c.in-Ok.command) words found.matches c.in-Ok.ensures.app found.ensures.kinds
     found.ensures.matches in
-    let word = c.in-Err-UnknownRemark.word.now in
-    unknown_remark_of words word c.unknown_remark.result
-    (unknown_remark_read words found.matches word read
-    (rw c.in-Err-UnknownRemark.field-0-is at c.in-Err-UnknownRemark.ensures.fault)) c.unknown_remark.ensures
+    let fault : ValueFault = (value.UnknownRemark c.in-Err-UnknownRemark.word) in
+    value_fault_of words fault c.unknown_remark.result
+    (value_fault_read words found.matches fault read
+    (rw c.in-Err-UnknownRemark.field-0-is at c.in-Err-UnknownRemark.ensures.fault)) refl c.unknown_remark.ensures
 
 pub returns-in-Err-InputTwice-clause-fault : goal.returns-in-Err-InputTwice-clause-fault
 returns-in-Err-InputTwice-clause-fault c =
@@ -68,9 +70,10 @@ returns-in-Err-InputTwice-clause-fault c =
     let words = map (λ s. s.now) c.args.words.now in
     let read = line_is_read (app_of c.in-Ok.command) words found.matches c.in-Ok.ensures.app found.ensures.kinds
     found.ensures.matches in
-    input_twice_of words c.input_twice.result
-    (input_twice_read words found.matches read
-    (rw c.in-Err-InputTwice.field-0-is at c.in-Err-InputTwice.ensures.fault)) c.input_twice.ensures
+    let fault : ValueFault = value.InputTwice in
+    value_fault_of words fault c.input_twice.result
+    (value_fault_read words found.matches fault read
+    (rw c.in-Err-InputTwice.field-0-is at c.in-Err-InputTwice.ensures.fault)) refl c.input_twice.ensures
 
 pub returns-clause-fault : goal.returns-clause-fault
 returns-clause-fault c =

@@ -5,6 +5,7 @@ pub mod FileJobs
 pub mod StatedMore
 pub mod ReasonLines
 pub mod StillOffice
+pub mod Told
 mod Stopping
 mod KeptTexts
 mod CompletedTexts

@@ -16,6 +16,7 @@ use Rattle.store_tables.specs.Schema.{no_schema}
 use Rattle.store_tables.specs.Statements.{statistics_of}
 use Rattle.store_migrate.specs.FormSchema.{schema_of}
 use Rattle.store.specs.declared.lost.Lost.{Lost}
+use Rattle.store.specs.declared.lost.Lost.TheVariants.{Memory}
 use Rattle.office_types.specs.declared.look.Look.{Look}
 use Rattle.store.specs.Holding.{Holding}
 use Rattle.store.specs.Looking.{IsShown}
@@ -44,6 +45,14 @@ ok_of P r x is h = subst (λ q. IfOk q P) is h
 
 pub on_ok : {A E : Type 0} (X : Type 0) (r : Result A E) (x : A) → r ≡ Ok x → OnOk r X → X
 on_ok X r x is h = subst (λ q. OnOk q X) is h
+
+-- what holds where a result is an error
+pub if_err : {A E : Type 0} (X : Type 0) (r : Result A E) → ((e : E) → r ≡ Err e → X) → OnErr r X
+if_err X (Ok x) at = tt
+if_err X (Err e) at = at e refl
+
+pub err_of : {A E : Type 0} (X : Type 0) (r : Result A E) (e : E) → r ≡ Err e → OnErr r X → X
+err_of X r e is h = subst (λ q. OnErr q X) is h
 
 -- what holds of each value that a result may have
 pub if_ok : {A E : Type 0} (P : A → Type 0) (r : Result A E) → ((x : A) → r ≡ Ok x → P x) → IfOk r P
@@ -204,6 +213,21 @@ module _ (before after : Databases) (path : List ℕ) (begin end : State) (opene
         ];
     statistics = rows_stay same;
   }
+
+  -- memory ran out for the answers: nothing was answered
+  pub unanswered_in : (HasCleanDisk end → (h : List Answered) → Begins h begin → Holding h end)
+      → (HasCleanDisk end → (h : List Answered) → HoldingOlder h begin → IsTrue end.is_open
+      → (end.now ≡ begin.now) × (end.committed ≡ begin.committed))
+      → (HasCleanDisk end → (h : List Answered) → Begins h begin → IsTrue end.is_open
+      → statistics_of end.now ≡ statistics_of begin.now) → InDatabase before after path [] (Some Memory)
+  unanswered_in held older same =
+      let more : (h : List Answered) → Holding h end → Holding (h ++ []) end =
+      λ h holding. subst (λ k. Holding k end) (sym (append-nil h)) holding in
+      reported_in [] (Some Memory)
+      (λ clean h holding is_open. more h (held clean h (inl (in_form h begin holding))))
+      (λ clean h begins is_open. inl (more h (held clean h begins)))
+      (λ clean h holding is_open. ((refl, refl), (older clean h holding is_open).0))
+      same
 
   -- this was shown, or the call was lost, of a database that has tables
   pub looked : {A : Type 0} (text_of : A → Option (List ℕ)) (look : Look) (shown : Result A Lost)

@@ -1,17 +1,40 @@
 -- Why commands of a script were refused, after what is stated of it.
 use Rattle.std.proofs.Common.{◌≡◌, ◌⊎◌, ◌++◌, ℕ, Bool, true, false, List, [], inl, inr, refl, sym, ap, ◌∙◌}
-use Rattle.std.proofs.Common.{append_assoc, append-nil}
+use Rattle.std.proofs.Common.{append_assoc, append-nil, subst}
 use Rattle.std.specs.Prelude.{if◌then◌else◌}
+use Rattle.std.specs.List.{flat_map}
+use Rattle.office_history.specs.declared.arrival.Answer.{Answer}
 use Rattle.office_script.specs.Files.{Files}
 use Rattle.canoffice_cli.specs.Explaining.{Explains, IsExplanation, IsStated}
 use Rattle.canoffice_cli.specs.Outcome.{Outcome, and_errors}
-use Rattle.canoffice_cli.specs.Reasons.{AreReasons, HasReasons}
+use Rattle.canoffice_cli.specs.Numbers.{script_numbers}
+use Rattle.canoffice_cli.specs.Reasons.{AreReasons, HasReasons, TellsOf, reason_line, refused_lines}
+use Rattle.canoffice_cli.proofs.Told.{none_of}
+use Rattle.canoffice_cli.specs.declared.reasons.Reasons.{Reasons}
+use Rattle.canoffice_cli.specs.declared.refused_line.RefusedLine.{RefusedLine}
 use Rattle.canoffice_cli.specs.declared.file_jobs.FileTask.{FileTask}
 use Rattle.canoffice_cli.specs.declared.file_jobs.FileTask.TheVariants as task
 
 -- none are
-pub no_reasons : (script stated : List ℕ) → HasReasons script stated stated
-no_reasons script stated = ([], ([], refl), sym (append-nil stated))
+none_are : (name script : List ℕ) (answers : List Answer) → AreReasons name script answers []
+none_are name script answers =
+    record { lines = []; some = none_of (refused_lines answers (script_numbers script)); is = refl }
+
+no_reasons : (name script stated : List ℕ) (answers : List Answer) → HasReasons name script stated answers stated
+no_reasons name script stated answers = ([], none_are name script answers, sym (append-nil stated))
+
+-- those that were added to none, or none
+pub reasons_are : (name script advice : List ℕ) (answers : List Answer) (first last : Reasons)
+    → first.lines.items ≡ [] → TellsOf script answers first last
+    → (advice ≡ flat_map (reason_line name) last.lines.items) ⊎ (advice ≡ [])
+    → AreReasons name script answers advice
+reasons_are name script advice answers first last empty told (inl same) = record {
+  lines = told.added;
+  some = told.some;
+  is = same ∙ ap (flat_map (reason_line name)) (told.after ∙ ap (λ (l : List RefusedLine). l ++ told.added) empty);
+}
+reasons_are name script advice answers first last empty told (inr none) =
+    subst (AreReasons name script answers) (sym none) (none_are name script answers)
 
 pub errors_added : (o : Outcome) (a b : List ℕ) → and_errors (and_errors o a) b ≡ and_errors o (a ++ b)
 errors_added o a b = ap (λ (errors : List ℕ). record o { errors = errors }) (append_assoc o.errors a b)
@@ -24,22 +47,24 @@ maybe_added o advice errors true is = inl (ap (λ (e : List ℕ). record o { err
 maybe_added o advice errors false is = inr (ap (λ (e : List ℕ). record o { errors = e }) is)
 
 -- the reasons come after what is stated, or are left out
-pub with_reasons : (script stated advice : List ℕ) (plain first last : Outcome) → AreReasons script advice
+pub with_reasons : (name script stated advice : List ℕ) (answers : List Answer) (plain first last : Outcome)
+    → AreReasons name script answers advice
     → first ≡ and_errors plain stated → (last ≡ and_errors first advice) ⊎ (last ≡ first)
-    → Explains (HasReasons script stated) plain last
-with_reasons script stated advice plain first last are whole (inl more) = record {
+    → Explains (HasReasons name script stated answers) plain last
+with_reasons name script stated advice answers plain first last are whole (inl more) = record {
   stated = stated ++ advice;
   is = (advice, are, refl);
   whole = more ∙ ap (λ o. and_errors o advice) whole ∙ errors_added plain stated advice;
 }
-with_reasons script stated advice plain first last are whole (inr same) =
-    record { stated = stated; is = no_reasons script stated; whole = same ∙ whole }
+with_reasons name script stated advice answers plain first last are whole (inr same) =
+    record { stated = stated; is = no_reasons name script stated answers; whole = same ∙ whole }
 
 -- what is stated before is an explanation, of a script that has no reasons
 pub of_stated : (files : Files) (t : FileTask) (name bytes stated : List ℕ)
-    → IsStated files t name bytes stated → IsExplanation files t name bytes stated
-of_stated files (task.Apply database manner) name bytes stated is = (stated, is, no_reasons name stated)
-of_stated files (task.Check lint) name bytes stated is = is
-of_stated files (task.Format keep) name bytes stated is = is
-of_stated files (task.Page path) name bytes stated is = is
-of_stated files task.Table name bytes stated is = is
+    → IsStated files t name bytes stated → (answers : List Answer) → IsExplanation files t name bytes answers stated
+of_stated files (task.Apply database manner) name bytes stated is answers =
+    (stated, is, no_reasons name bytes stated answers)
+of_stated files (task.Check lint) name bytes stated is answers = is
+of_stated files (task.Format keep) name bytes stated is answers = is
+of_stated files (task.Page path) name bytes stated is answers = is
+of_stated files task.Table name bytes stated is answers = is

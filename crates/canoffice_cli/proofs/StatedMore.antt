@@ -16,30 +16,33 @@ use Rattle.canoffice_cli.specs.Explaining.{
   MayBeStatedBy,
   MayState,
 }
+use Rattle.office_history.specs.declared.arrival.Answer.{Answer}
 use Rattle.canoffice_cli.specs.Outcome.{Outcome, and_errors, outcome_of}
 use Rattle.canoffice_cli.specs.declared.explaining.Advice.{Advice}
 use Rattle.canoffice_cli.specs.declared.explaining.Advice.TheVariants.{Everything, Nothing, WrongLine}
 use Rattle.canoffice_cli.specs.declared.report.Report.{Report}
 
 -- with something after the errors
-module _ (IsOf : Outcome → Type 0) (IsStated : List ℕ → Type 0) where
+module _ (IsOf : Outcome → List Answer → Type 0) (IsStated : List Answer → List ℕ → Type 0) where
   pub with_more : (r : Result Report AllocError) (report : Report) (stated : List ℕ)
-      → IsOf (outcome_of report) → IsStated stated
+      → (answers : List Answer) × IsOf (outcome_of report) answers
+      → ((answers : List Answer) → IsStated answers stated)
       → IfOk r (λ more. outcome_of more ≡ and_errors (outcome_of report) stated)
       → IfOk r (λ more. IsExplainedBy IsOf IsStated (outcome_of more))
   with_more (Err lost) report stated is is_stated whole = tt
   with_more (Ok more) report stated is is_stated whole =
-      (outcome_of report, is, record { stated = stated; is = is_stated; whole = whole })
+      (outcome_of report, is.0, is.1, record { stated = stated; is = is_stated is.0; whole = whole })
 
-  pub more_by : (IsMore : List ℕ → Type 0) (r : Result Report AllocError)
-      → ((stated : List ℕ) → IsStated stated → IsMore stated)
+  pub more_by : (IsMore : List Answer → List ℕ → Type 0) (r : Result Report AllocError)
+      → ((answers : List Answer) (stated : List ℕ) → IsStated answers stated → IsMore answers stated)
       → IfOk r (λ report. IsExplainedBy IsOf IsStated (outcome_of report))
       → IfOk r (λ report. IsExplainedBy IsOf IsMore (outcome_of report))
   more_by IsMore (Err lost) more is = tt
   more_by IsMore (Ok report) more is = (
     is.0,
     is.1,
-    record { stated = is.2.stated; is = more is.2.stated is.2.is; whole = is.2.whole },
+    is.2,
+    record { stated = is.3.stated; is = more is.1 is.3.stated is.3.is; whole = is.3.whole },
   )
 
 -- a text that is added to errors, or isn't
@@ -49,33 +52,45 @@ may_state IsStated plain o stated is (inl more) = inr (record { stated = stated;
 may_state IsStated plain o stated is (inr same) = inl same
 
 -- by how much is stated
-module _ (advice : Advice) (IsOf : Outcome → Type 0) (IsStated IsWhole : List ℕ → Type 0) where
-  pub everything : (r : Result Report AllocError) → advice ≡ Everything
-      → IfOk r (λ report. IsExplainedBy IsOf IsWhole (outcome_of report))
-      → IfOk r (λ report. (plain : Outcome) × IsOf plain
-      × IsWithAdvice advice IsStated IsWhole plain (outcome_of report))
-  everything (Err lost) requested is = tt
-  everything (Ok report) requested is =
-      (is.0, is.1, subst (λ a. IsWithAdvice a IsStated IsWhole is.0 (outcome_of report)) (sym requested) is.2)
+module _ (advice : Advice) (IsOf : Outcome → List Answer → Type 0) (IsStated : List ℕ → Type 0)
+    (IsWhole : List Answer → List ℕ → Type 0)
+  where
+    pub everything : (r : Result Report AllocError) → advice ≡ Everything
+        → IfOk r (λ report. IsExplainedBy IsOf IsWhole (outcome_of report))
+        → IfOk r (λ report. (plain : Outcome) × (answers : List Answer) × IsOf plain answers
+        × IsWithAdvice advice IsStated (IsWhole answers) plain (outcome_of report))
+    everything (Err lost) requested is = tt
+    everything (Ok report) requested is = (
+      is.0,
+      is.1,
+      is.2,
+      subst (λ a. IsWithAdvice a IsStated (IsWhole is.1) is.0 (outcome_of report)) (sym requested) is.3,
+    )
 
-  pub wrong_line : (r : Result Report AllocError) → advice ≡ WrongLine
-      → IfOk r (λ report. MayBeStatedBy IsOf IsStated (outcome_of report))
-      → IfOk r (λ report. (plain : Outcome) × IsOf plain
-      × IsWithAdvice advice IsStated IsWhole plain (outcome_of report))
-  wrong_line (Err lost) requested is = tt
-  wrong_line (Ok report) requested is =
-      (is.0, is.1, subst (λ a. IsWithAdvice a IsStated IsWhole is.0 (outcome_of report)) (sym requested) is.2)
+    pub wrong_line : (r : Result Report AllocError) → advice ≡ WrongLine
+        → IfOk r (λ report. MayBeStatedBy IsOf IsStated (outcome_of report))
+        → IfOk r (λ report. (plain : Outcome) × (answers : List Answer) × IsOf plain answers
+        × IsWithAdvice advice IsStated (IsWhole answers) plain (outcome_of report))
+    wrong_line (Err lost) requested is = tt
+    wrong_line (Ok report) requested is = (
+      is.0,
+      is.1,
+      is.2,
+      subst (λ a. IsWithAdvice a IsStated (IsWhole is.1) is.0 (outcome_of report)) (sym requested) is.3,
+    )
 
-  pub nothing : (r : Result Report AllocError) → advice ≡ Nothing → IfOk r (λ report. IsOf (outcome_of report))
-      → IfOk r (λ report. (plain : Outcome) × IsOf plain
-      × IsWithAdvice advice IsStated IsWhole plain (outcome_of report))
-  nothing (Err lost) requested is = tt
-  nothing (Ok report) requested is = (
-    outcome_of report,
-    is,
-    subst (λ a. IsWithAdvice a IsStated IsWhole (outcome_of report) (outcome_of report))
-        (sym requested) refl,
-  )
+    pub nothing : (r : Result Report AllocError) → advice ≡ Nothing
+        → IfOk r (λ report. (answers : List Answer) × IsOf (outcome_of report) answers)
+        → IfOk r (λ report. (plain : Outcome) × (answers : List Answer) × IsOf plain answers
+        × IsWithAdvice advice IsStated (IsWhole answers) plain (outcome_of report))
+    nothing (Err lost) requested is = tt
+    nothing (Ok report) requested is = (
+      outcome_of report,
+      is.0,
+      is.1,
+      subst (λ a. IsWithAdvice a IsStated (IsWhole is.0) (outcome_of report) (outcome_of report))
+          (sym requested) refl,
+    )
 
 -- what is stated of a text whose canonical text is printed: of one that reads, and of one that reads as no sheet
 module _ {A E : Type 0} (items : A → List ℕ) (keep : Bool) (name bytes : List ℕ) where

@@ -65,8 +65,7 @@ pub record IsFarEnough (strict : Bool) (arrivals : List Arrival) (answers : List
 -- The arrivals were answered in turn, as far as is due, and the answers are printed, and then why the next one was
 -- lost. What was answered goes on with the history as `GoesOn` says.
 pub record AreAnswered (manner : Manner) (GoesOn : List Answered → Option Lost → Type 0) (arrivals : List Arrival)
-    (o : Outcome) : Type 0 where
-  pub answers : List Answer
+    (o : Outcome) (answers : List Answer) : Type 0 where
   pub lost : Option Lost
   pub far : IsFarEnough manner.strict arrivals answers lost
   pub outcome : o ≡ answers_outcome manner arrivals answers lost

@@ -8,6 +8,7 @@ use Rattle.dbc_advice.specs.LeftOut.{left_out}
 use Rattle.dbc_read.specs.Passed.{start_and_keyword}
 use Rattle.dbc_read.specs.Reading.{ReadsAsNothing}
 use Rattle.dbc_read.specs.declared.passed.Passed.{Passed}
+use Rattle.office_history.specs.declared.arrival.Answer.{Answer}
 use Rattle.office_script.specs.Files.{Files}
 use Rattle.office_script.specs.Lines.{lines_of}
 use Rattle.office_script.specs.declared.keys.Dash.{Dash}
@@ -48,14 +49,15 @@ IsStated files (task.Format keep) name bytes stated = IsStatedOfFormat keep name
 IsStated files (task.Page path) name bytes stated = stated ≡ []
 IsStated files task.Table name bytes stated = stated ≡ []
 
--- the whole of what is stated: of a script also why its commands were refused
-abbrev pub IsExplanation : Files → FileTask → List ℕ → List ℕ → List ℕ → Type 0
-IsExplanation files (task.Apply database manner) name bytes text =
-    (stated : List ℕ) × IsStated files (task.Apply database manner) name bytes stated × HasReasons name stated text
-IsExplanation files (task.Check lint) name bytes text = IsStated files (task.Check lint) name bytes text
-IsExplanation files (task.Format keep) name bytes text = IsStated files (task.Format keep) name bytes text
-IsExplanation files (task.Page path) name bytes text = IsStated files (task.Page path) name bytes text
-IsExplanation files task.Table name bytes text = IsStated files task.Table name bytes text
+-- the whole of what is stated: of a script also why its commands were refused that have these answers
+abbrev pub IsExplanation : Files → FileTask → List ℕ → List ℕ → List Answer → List ℕ → Type 0
+IsExplanation files (task.Apply database manner) name bytes answers text =
+    (stated : List ℕ) × IsStated files (task.Apply database manner) name bytes stated
+    × HasReasons name bytes stated answers text
+IsExplanation files (task.Check lint) name bytes answers text = IsStated files (task.Check lint) name bytes text
+IsExplanation files (task.Format keep) name bytes answers text = IsStated files (task.Format keep) name bytes text
+IsExplanation files (task.Page path) name bytes answers text = IsStated files (task.Page path) name bytes text
+IsExplanation files task.Table name bytes answers text = IsStated files task.Table name bytes text
 
 -- the output and the status are the plain ones, and something is printed after the plain errors
 pub record Explains (IsStated : List ℕ → Type 0) (plain o : Outcome) : Type 0 where
@@ -63,17 +65,19 @@ pub record Explains (IsStated : List ℕ → Type 0) (plain o : Outcome) : Type 
   pub is : IsStated stated
   pub whole : o ≡ and_errors plain stated
 
--- the outcome is one of these, with something printed after its errors
-abbrev pub IsExplainedBy : (Outcome → Type 0) → (List ℕ → Type 0) → Outcome → Type 0
-IsExplainedBy IsPlain IsStated o = (plain : Outcome) × IsPlain plain × Explains IsStated plain o
+-- the outcome is one of these, with something printed after its errors that goes by its answers
+abbrev pub IsExplainedBy : (Outcome → List Answer → Type 0) → (List Answer → List ℕ → Type 0) → Outcome → Type 0
+IsExplainedBy IsPlain IsStated o =
+    (plain : Outcome) × (answers : List Answer) × IsPlain plain answers × Explains (IsStated answers) plain o
 
 -- the outcome stays, or something is printed after its errors
 abbrev pub MayState : (List ℕ → Type 0) → Outcome → Outcome → Type 0
 MayState IsStated plain o = (o ≡ plain) ⊎ Explains IsStated plain o
 
 -- the outcome is one of these, or it is with something printed after its errors
-abbrev pub MayBeStatedBy : (Outcome → Type 0) → (List ℕ → Type 0) → Outcome → Type 0
-MayBeStatedBy IsPlain IsStated o = (plain : Outcome) × IsPlain plain × MayState IsStated plain o
+abbrev pub MayBeStatedBy : (Outcome → List Answer → Type 0) → (List ℕ → Type 0) → Outcome → Type 0
+MayBeStatedBy IsPlain IsStated o =
+    (plain : Outcome) × (answers : List Answer) × IsPlain plain answers × MayState IsStated plain o
 
 -- ---- how much is stated
 

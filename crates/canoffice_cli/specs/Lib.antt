@@ -3,6 +3,8 @@ pub mod Holding
 pub mod Databases
 pub mod Answered
 pub mod LongestLines
+pub mod Numbers
+pub mod Reasons
 pub mod Applied
 pub mod Desks
 pub mod Unprinted
@@ -19,7 +21,6 @@ pub mod Formatted
 pub mod Compared
 pub mod Tabled
 pub mod Paged
-pub mod Reasons
 pub mod Explaining
 pub mod Delivery
 pub mod Performance

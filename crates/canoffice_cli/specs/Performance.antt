@@ -4,6 +4,7 @@ use Rattle.std.specs.Prelude.{string_bytes}
 use Rattle.std.specs.Borrow.{Bor}
 use Rattle.canoffice_desks.specs.Desks.{Desks, TakesNone}
 use Rattle.dbc_advice.specs.ShownPath.{shown_path}
+use Rattle.office_history.specs.declared.arrival.Answer.{Answer}
 use Rattle.office_script.specs.Files.{Files, Holding, unknown, absent, holding}
 use Rattle.canoffice_jobs.specs.CommandLine.{IsLine, entered}
 use Rattle.canoffice_cli.specs.Explaining.{IsExplanation, IsStated, IsWithAdvice, of_script, requested}
@@ -49,22 +50,23 @@ IsOfTwoFiles IsOf files input path other o =
     IsOfFile ⊤ (λ bytes. IsOfFile ⊤ (IsOf bytes) other (source_at files input other)) path
     (source_at files input path) o
 
--- the outcome of the bytes of a file, by what is done with them; a script may name further files
-abbrev pub IsTaskOutcome : Files → Databases → Databases → FileTask → List ℕ → Outcome → Type 0
-IsTaskOutcome files before after (task.Apply database manner) bytes o =
-    IsApplyOutcome files (option_map (λ path. path.now) database) manner before after bytes o
-IsTaskOutcome files before after (task.Check lint) bytes o =
+-- the outcome of the bytes of a file, by what is done with them; a script may name further files, and has answers
+abbrev pub IsTaskOutcome : Files → Databases → Databases → FileTask → List ℕ → Outcome → List Answer → Type 0
+IsTaskOutcome files before after (task.Apply database manner) bytes o answers =
+    IsApplyOutcome files (option_map (λ path. path.now) database) manner before after bytes o answers
+IsTaskOutcome files before after (task.Check lint) bytes o answers =
     IsCheckedOutcome (option_map (λ names. names.now) lint) bytes o × AreKept before after
-IsTaskOutcome files before after (task.Format keep) bytes o = IsFormatted keep bytes o × AreKept before after
-IsTaskOutcome files before after (task.Page path) bytes o = IsFilePageOutcome path.now bytes o × AreKept before after
-IsTaskOutcome files before after task.Table bytes o = IsTableOutcome bytes o × AreKept before after
+IsTaskOutcome files before after (task.Format keep) bytes o answers = IsFormatted keep bytes o × AreKept before after
+IsTaskOutcome files before after (task.Page path) bytes o answers =
+    IsFilePageOutcome path.now bytes o × AreKept before after
+IsTaskOutcome files before after task.Table bytes o answers = IsTableOutcome bytes o × AreKept before after
 
 -- the same for a job, of whose file something may be stated
 abbrev pub IsOfBytes : Files → Databases → Databases → FileJob → List ℕ → Outcome → Type 0
 IsOfBytes files before after job bytes o =
-    (plain : Outcome) × IsTaskOutcome files before after job.task bytes plain
+    (plain : Outcome) × (answers : List Answer) × IsTaskOutcome files before after job.task bytes plain answers
     × IsWithAdvice job.advice (IsStated files job.task (shown_path job.path.now) bytes)
-    (IsExplanation files job.task (shown_path job.path.now) bytes) plain o
+    (IsExplanation files job.task (shown_path job.path.now) bytes answers) plain o
 
 abbrev pub IsFileOutcome : Files → Holding → Databases → Databases → FileJob → Outcome → Type 0
 IsFileOutcome files input before after job o =

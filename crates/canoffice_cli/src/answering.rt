@@ -15,7 +15,9 @@ ghost use Rattle.canoffice_cli.specs.Answered.{InMemory, IsFarEnough, NoneAnswer
 ghost use Rattle.canoffice_cli.specs.Answered.{answers_outcome, lost_outcome, printed, status_of};
 ghost use Rattle.canoffice_cli.specs.Databases.{OnBeginning, OnOlder, ShowsSameIfOpen};
 ghost use Rattle.canoffice_cli.specs.Databases.{ShowsStatisticsIfOpen};
+ghost use Rattle.canoffice_cli.specs.Numbers.{HaveLines};
 ghost use Rattle.canoffice_cli.specs.Outcome.{outcome_of};
+ghost use Rattle.canoffice_cli.specs.Reasons.{TellsOf};
 
 use crate::lines::{PrintedLine, add_lines};
 use crate::progress::{Progress, RequestLines};
@@ -110,6 +112,8 @@ fn answer_all<S: Alter, W: Write>(
     ensures statistics { OnHistory S.Store office.old.conn office.new.conn (λ h.
         ShowsStatisticsIfOpen S.Store office.old.conn office.new.conn) }
     ensures err { OnErr result (office.new ≡ office.old) }
+    ensures told { HaveLines script.now arrivals.now → IfOk result
+        (λ reported. TellsOf script.now reported.answers.items reasons.old reasons.new) }
 {
     let mut answers = Vec::with_capacity(alloc, arrivals.len())?;
     let mut lines = RequestLines::of(script);
@@ -185,6 +189,10 @@ pub fn answer_on<S: Alter + Drop, W: Write>(
         (h ++ answered_with arrivals.now reported.answers.items))) }
     ensures statistics { OnBeginning S.Store conn result.1 (λ h.
         ShowsStatisticsIfOpen S.Store conn result.1) }
+    ensures err { OnBeginning S.Store conn result.1 (λ h.
+        OnErr result.0 (Holding h (state S.Store result.1))) }
+    ensures told { HaveLines script.now arrivals.now → IfOk result.0
+        (λ reported. TellsOf script.now reported.answers.items reasons.old reasons.new) }
 {
     histories_grow();
     match office_on(conn) {
@@ -219,6 +227,8 @@ pub(crate) fn answer_in_memory<W: Write>(
         (λ reported. IsFarEnough strict arrivals.now reported.answers.items reported.lost) }
     ensures goes_on { IfOk result (λ reported. InMemory
         (answered_with arrivals.now reported.answers.items) reported.lost) }
+    ensures told { HaveLines script.now arrivals.now → IfOk result
+        (λ reported. TellsOf script.now reported.answers.items reasons.old reasons.new) }
 {
     let mut answers = Vec::with_capacity(alloc, arrivals.len())?;
     let mut office = KeyedOffice::new(alloc);

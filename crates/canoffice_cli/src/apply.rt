@@ -1,9 +1,10 @@
 //! Applying a script.
-ghost use Rattle.std.specs.Prelude.{IfOk, option_map, ⊤};
+ghost use Rattle.std.specs.Prelude.{IfOk, OnErr, option_map, ⊤};
 ghost use Rattle.canoffice_cli.specs.Answered.{InDatabase, InMemory};
-ghost use Rattle.canoffice_cli.specs.Applied.{IsApplyOutcome, IsScriptOutcome, Reports};
+ghost use Rattle.canoffice_cli.specs.Applied.{AreTold, IsApplyOutcome, IsScriptOutcome, Reports};
 ghost use Rattle.canoffice_cli.specs.Databases.{AreKept};
 ghost use Rattle.canoffice_cli.specs.Outcome.{outcome_of};
+ghost use Rattle.canoffice_cli.specs.Unprinted.{IsUnprintedIn};
 
 use crate::answering::answer_in_memory;
 use crate::databases::Databases;
@@ -37,8 +38,8 @@ fn apply_in_memory<F: FileSource, W: Write>(
     reasons: &mut Reasons,
     progress: &mut Progress<W>,
 ) -> Result<Report, AllocError>
-    ensures { IfOk result (λ report. IsScriptOutcome (F.held files.now) Dash.LineNumber manner
-        InMemory ⊤ script.now (outcome_of report)) }
+    ensures { IfOk result (λ report. AreTold (IsScriptOutcome (F.held files.now) Dash.LineNumber
+        manner InMemory ⊤ script.now (outcome_of report)) script.now reasons.old reasons.new) }
 {
     match arrivals_of(alloc, script, Dash::LineNumber, files) {
         Ok(arrivals) => {
@@ -64,9 +65,14 @@ fn apply_in_database<F: FileSource, D: Databases, W: Write>(
     reasons: &mut Reasons,
     progress: &mut Progress<W>,
 ) -> Result<Report, AllocError>
-    ensures { IfOk result (λ report. IsScriptOutcome (F.held files.now) Dash.Wrong manner
-        (InDatabase (D.known databases.old) (D.known databases.new) path.now)
-        (AreKept (D.known databases.old) (D.known databases.new)) script.now (outcome_of report)) }
+    ensures done { IfOk result (λ report. AreTold (IsScriptOutcome (F.held files.now) Dash.Wrong
+        manner (InDatabase (D.known databases.old) (D.known databases.new) path.now)
+        (AreKept (D.known databases.old) (D.known databases.new)) script.now (outcome_of report))
+        script.now reasons.old reasons.new) }
+    ensures lost { OnErr result (IsUnprintedIn (D.known databases.old) (D.known databases.new)
+        (IsScriptOutcome (F.held files.now) Dash.Wrong
+        manner (InDatabase (D.known databases.old) (D.known databases.new) path.now)
+        (AreKept (D.known databases.old) (D.known databases.new)) script.now)) }
 {
     match arrivals_of(alloc, script, Dash::Wrong, files) {
         Ok(arrivals) => {
@@ -107,9 +113,13 @@ pub fn apply_script<F: FileSource, D: Databases, W: Write>(
     reasons: &mut Reasons,
     progress: &mut Progress<W>,
 ) -> Result<Report, AllocError>
-    ensures { IfOk result (λ report. IsApplyOutcome (F.held files.now)
+    ensures done { IfOk result (λ report. AreTold (IsApplyOutcome (F.held files.now)
         (option_map (λ path. path.now) database.entry) manner
-        (D.known databases.old) (D.known databases.new) script.now (outcome_of report)) }
+        (D.known databases.old) (D.known databases.new) script.now (outcome_of report))
+        script.now reasons.old reasons.new) }
+    ensures lost { OnErr result (IsUnprintedIn (D.known databases.old) (D.known databases.new)
+        (IsApplyOutcome (F.held files.now) (option_map (λ path. path.now) database.entry) manner
+        (D.known databases.old) (D.known databases.new) script.now)) }
 {
     match database {
         None => apply_in_memory(alloc, script, files, manner, reasons, progress),

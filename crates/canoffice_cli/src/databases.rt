@@ -1,11 +1,13 @@
 //! Databases by their paths.
-ghost use Rattle.std.specs.Prelude.{IfOk};
+ghost use Rattle.std.specs.Prelude.{[], IfOk, OnErr, Some};
 ghost use Rattle.std.specs.Option.{option_map};
 ghost use Rattle.std.specs.Result.{result_map_both};
 ghost use Rattle.canoffice_cli.specs.Answered.{InDatabase, IsFarEnough, answered_with};
 ghost use Rattle.canoffice_cli.specs.Databases.{Databases as Known};
 ghost use Rattle.canoffice_cli.specs.Looked.{IsLookedUp};
 ghost use Rattle.canoffice_cli.specs.Migrated.{IsMigrated};
+ghost use Rattle.canoffice_cli.specs.Numbers.{HaveLines};
+ghost use Rattle.canoffice_cli.specs.Reasons.{TellsOf};
 ghost use Rattle.canoffice_cli.specs.Served.{IsServed};
 
 mod memory;
@@ -45,7 +47,11 @@ pub trait Databases {
             (λ reported. IsFarEnough strict arrivals.now reported.answers.items reported.lost) }
         ensures goes_on { IfOk result
             (λ reported. InDatabase (known self.old) (known self.new) path.now
-            (answered_with arrivals.now reported.answers.items) reported.lost) };
+            (answered_with arrivals.now reported.answers.items) reported.lost) }
+        ensures err { OnErr result
+            (InDatabase (known self.old) (known self.new) path.now [] (Some Lost.Memory)) }
+        ensures told { HaveLines script.now arrivals.now → IfOk result
+            (λ reported. TellsOf script.now reported.answers.items reasons.old reasons.new) };
 
     /// What the office in the database at the path shows for the look; nothing where the database is absent. The error
     /// is why that was lost.

@@ -1,5 +1,6 @@
 //! Jobs on the bytes of one file, or of standard input.
-ghost use Rattle.std.specs.Prelude.{◌≡◌, IfOk, option_map};
+ghost use Rattle.std.specs.Prelude.{◌≡◌, List, IfOk, option_map};
+ghost use Rattle.office_history.specs.declared.arrival.Answer.{Answer as AnAnswer};
 ghost use Rattle.office_script.specs.declared.files.PathFault.TheVariants.{Unreadable};
 ghost use Rattle.canoffice_cli.specs.Applied.{IsApplyOutcome};
 ghost use Rattle.canoffice_cli.specs.Explaining.{IsExplainedBy, IsExplanation, IsStated, MayBeStatedBy, MayState};
@@ -107,7 +108,7 @@ fn script_report<F: FileSource, D: Databases, W: Write>(
     ensures { IfOk result (λ report. IsExplainedBy
         (IsApplyOutcome (F.held files.now) (option_map (λ path. path.now) database.entry) manner
         (D.known databases.old) (D.known databases.new) source.entry.text.now)
-        (HasReasons source.entry.name.now stated.now) (outcome_of report)) }
+        (HasReasons source.entry.name.now source.entry.text.now stated.now) (outcome_of report)) }
 {
     let mut reasons = Reasons::new(alloc, true);
     let report = apply_script(
@@ -273,8 +274,9 @@ fn task_report<F: FileSource, D: Databases, W: Write>(
     databases: &mut D,
     progress: &mut Progress<W>,
 ) -> Result<Report, AllocError>
-    ensures { IfOk result (λ report. IsTaskOutcome (F.held files.now) (D.known databases.old)
-        (D.known databases.new) task.entry bytes.now (outcome_of report)) }
+    ensures { IfOk result (λ report. (answers : List AnAnswer)
+        × IsTaskOutcome (F.held files.now) (D.known databases.old)
+        (D.known databases.new) task.entry bytes.now (outcome_of report) answers) }
 {
     match task {
         FileTask::Apply(database, manner) => {

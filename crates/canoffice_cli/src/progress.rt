@@ -1,4 +1,6 @@
 //! How far a script is, or a database that is carried over, for whoever waits for it.
+ghost use Rattle.std.specs.Prelude.{◌≡◌};
+ghost use Rattle.canoffice_cli.specs.Numbers.{TakesNext};
 
 use dbc_words::Name;
 use office_script::{first_line, says_nothing};
@@ -21,7 +23,9 @@ pub(crate) struct RequestLines<'a> {
 
 impl<'a> RequestLines<'a> {
     /// Before the first one.
-    pub(crate) fn of(script: &'a [u8]) -> RequestLines<'a> {
+    pub(crate) fn of(script: &'a [u8]) -> RequestLines<'a>
+        ensures { result ≡ record { rest = script.entry; number = 0 } }
+    {
         RequestLines {
             rest: script,
             number: 0,
@@ -29,7 +33,9 @@ impl<'a> RequestLines<'a> {
     }
 
     /// The number of the next one, from 1.
-    pub(crate) fn next_number(&mut self) -> usize {
+    pub(crate) fn next_number(&mut self) -> usize
+        ensures { TakesNext self.old self.new result }
+    {
         while let Some(first) = first_line(self.rest) {
             self.number = self.number.saturating_add(1);
             self.rest = first.rest;

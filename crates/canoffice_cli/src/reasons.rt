@@ -1,9 +1,10 @@
 //! Why commands of a script are refused, where `--explain` requests it.
-ghost use Rattle.std.specs.Prelude.{◌≡◌, ◌++◌, IfOk, IfSome, OnOk, find, map, string_bytes};
+ghost use Rattle.std.specs.Prelude.{◌≡◌, ◌⊎◌, ◌++◌, ◌∷◌, [], IfOk, IfSome, OnOk, find, map, string_bytes};
 ghost use Rattle.std.specs.List.{flat_map};
 ghost use Rattle.std.specs.Option.{option_copied};
 ghost use Rattle.office_reasons.specs.Pieces.{IsSentence};
-ghost use Rattle.canoffice_cli.specs.Reasons.{AreReasons, StaysAnOffice, has_net_name, reason_line, refused_label};
+ghost use Rattle.canoffice_cli.specs.Reasons.{StaysAnOffice, Tells, has_net_name, reason_line, refusal_of};
+ghost use Rattle.canoffice_cli.specs.Reasons.{refused_label, refused_line};
 
 use crate::refused_line::RefusedLine;
 use base::Copying;
@@ -124,7 +125,9 @@ impl RefusedLine {
 
 impl Reasons {
     /// No reasons yet. None are added where they aren't wanted.
-    pub fn new(alloc: Global, wanted: bool) -> Reasons {
+    pub fn new(alloc: Global, wanted: bool) -> Reasons
+        ensures { result.lines.items ≡ [] }
+    {
         Reasons {
             wanted,
             lines: Vec::new(alloc),
@@ -134,6 +137,7 @@ impl Reasons {
     /// Adds this sentence of the line of this number, unless memory runs out.
     fn add(&mut self, number: usize, refusal: Option<Refusal>, sentence: Vec<u8>)
         requires { IsSentence sentence.items }
+        ensures { Tells ((number, refusal) ∷ []) self.old self.new }
     {
         let line = RefusedLine {
             number,
@@ -145,6 +149,7 @@ impl Reasons {
     }
 
     /// Adds why the arrival of the line of this number was answered so by the office in memory, if it was refused.
+    #[tactic(auto, using(crate::proofs::Told::tells_nothing))]
     pub(crate) fn add_in_memory(
         &mut self,
         alloc: Global,
@@ -152,7 +157,9 @@ impl Reasons {
         number: usize,
         arrival: &Arrival,
         answer: &Answer,
-    ) {
+    )
+        ensures { Tells (refused_line number (refusal_of answer.now)) self.old self.new }
+    {
         if !self.wanted {
             return;
         }
@@ -173,7 +180,7 @@ impl Reasons {
 
     /// Adds why the arrival of the line of this number was answered so by the office in the tables, if it was refused.
     /// What is read of it may be lost, as any look.
-    #[tactic(auto, using(crate::proofs::StillOffice::untouched))]
+    #[tactic(auto, using(crate::proofs::StillOffice::untouched, crate::proofs::Told::tells_nothing))]
     pub(crate) fn add_in_tables<S: Alter>(
         &mut self,
         alloc: Global,
@@ -182,7 +189,8 @@ impl Reasons {
         arrival: &Arrival,
         answer: &Answer,
     )
-        ensures { StaysAnOffice S.Store office.old office.new }
+        ensures office { StaysAnOffice S.Store office.old office.new }
+        ensures told { Tells (refused_line number (refusal_of answer.now)) self.old self.new }
     {
         if !self.wanted {
             return;
@@ -217,7 +225,8 @@ impl Reasons {
 
     /// The same, or nothing where memory runs out.
     pub(crate) fn advice(&self, alloc: Global, script: &[u8]) -> Vec<u8>
-        ensures { AreReasons script.now result.items }
+        ensures { (result.items ≡ flat_map (reason_line script.now) self.now.lines.items)
+            ⊎ (result.items ≡ []) }
     {
         match self.text(alloc, script) {
             Ok(text) => text,

@@ -96,35 +96,43 @@ fn end_of(served: Result<(), ServeFault>, failed: bool) -> Result<(), ServeEnd>
 
 /// Answers arrivals.
 struct Answering<'a, W: Write> {
+    reasons: &'a mut Reasons,
     alloc: Global,
     script: &'a [u8],
     arrivals: &'a [Arrival],
     strict: bool,
-    reasons: &'a mut Reasons,
     progress: &'a mut Progress<W>,
 }
 
 impl<W: Write> Drop for Answering<'_, W> {
-    fn drop(self) {
+    fn drop(self)
+        ensures { self.exit.0.now ≡ self.entry.reasons.now }
+    {
         let Answering {
+            reasons: _reasons,
             alloc: _alloc,
             script: _script,
             arrivals: _arrivals,
             strict: _strict,
-            reasons: _reasons,
             progress: _progress,
         } = self;
     }
 }
 
 impl<W: Write> Work for Answering<'_, W> {
-    ghost use Rattle.std.specs.Prelude.{IfOk};
+    ghost use Rattle.std.specs.Prelude.{◌≡◌, IfOk};
     ghost use Rattle.canoffice_cli.specs.Answered.{IsFarEnough};
+    ghost use Rattle.canoffice_cli.specs.Numbers.{HaveLines};
+    ghost use Rattle.canoffice_cli.specs.Reasons.{TellsOf};
 
     type Done = Result<Answers, AllocError>;
 
-    ghost promised = { λ it done. IfOk done
-        (λ reported. IsFarEnough it.strict it.arrivals.now reported.answers.items reported.lost) };
+    ghost promised = { λ before after done.
+        (after.reasons.ghost_name ≡ before.reasons.ghost_name)
+        × IfOk done (λ reported. IsFarEnough before.strict before.arrivals.now
+        reported.answers.items reported.lost)
+        × (HaveLines before.script.now before.arrivals.now → IfOk done (λ reported.
+        TellsOf before.script.now reported.answers.items before.reasons.now after.reasons.now)) };
 
     fn run<S: Alter + Drop>(&mut self, conn: Connection<S>) -> (Self::Done, Connection<S>) {
         answer_on(
@@ -151,7 +159,7 @@ impl Work for Looking<'_> {
 
     type Done = Result<Option<Vec<u8>>, Lost>;
 
-    ghost promised = { λ it done. ⊤ };
+    ghost promised = { λ before after done. ⊤ };
 
     fn run<S: Alter + Drop>(&mut self, conn: Connection<S>) -> (Self::Done, Connection<S>) {
         look_on(self.alloc, conn, self.look)
@@ -178,7 +186,7 @@ impl<W: Write> Work for Migrating<'_, W> {
 
     type Done = Result<(), Lost>;
 
-    ghost promised = { λ it done. ⊤ };
+    ghost promised = { λ before after done. ⊤ };
 
     fn run<S: Alter + Drop>(&mut self, conn: Connection<S>) -> (Self::Done, Connection<S>) {
         migrate_on(self.alloc, conn, self.progress)
@@ -197,7 +205,7 @@ impl Work for OnPort<'_> {
 
     type Done = Result<(), ServeEnd>;
 
-    ghost promised = { λ it done. ⊤ };
+    ghost promised = { λ before after done. ⊤ };
 
     fn run<S: Alter + Drop>(&mut self, conn: Connection<S>) -> (Self::Done, Connection<S>) {
         let Ok(routes) = Routes::new(self.rt.alloc()) else {

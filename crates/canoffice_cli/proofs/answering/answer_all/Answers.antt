@@ -12,6 +12,9 @@ use Rattle.store.proofs.Same.{held_tables}
 use Rattle.store.specs.declared.lost.Lost.TheVariants.{Store}
 use Rattle.office_history.specs.History.{Answered, IsLegalHistory}
 use Rattle.canoffice_cli.specs.Answered.{answered_with}
+use Rattle.canoffice_cli.specs.Numbers.{numbers_left}
+use Rattle.canoffice_cli.specs.declared.progress.RequestLines.{RequestLines}
+use Rattle.canoffice_cli.proofs.Told.{left_after, tells_nothing, told_next}
 use Rattle.canoffice_cli.proofs.Reported.{held_is_legal, history_at_first, history_so_far, reported_next}
 use Rattle.canoffice_cli.proofs.answering.answer_all.Goals as goal
 
@@ -34,6 +37,10 @@ loop-arrival-init g c =
       held_open = λ clean h holding opened. held h holding;
       legal = λ clean h holding. held_is_legal _ _ (held h holding);
       statistics = λ clean h holding opened. refl;
+      short = let all = ap (λ (r : RequestLines). r.number + length r.rest.now) c.of-lines.ensures in
+          omega (arith, all);
+      left = ap numbers_left c.of-lines.ensures;
+      told = λ have. tells_nothing _ c.args.reasons.now;
     }
 
 pub push_reserved-requires : goal.push_reserved-requires
@@ -52,7 +59,7 @@ loop-arrival-preserved g c =
     let answered = state g.S.Store c.arrive.new.self.conn in
     let now = state g.S.Store c.add_in_tables.new.office.conn in
     let arrive = c.in-Ok.ensures in
-    let add = c.add_in_tables.ensures in
+    let add = c.add_in_tables.ensures.office in
     let worked : IsFalse c.loop-arrival.office.failed = sym c.is_failed.ensures ∙ c.if-is_failed.false in
     let within : at < length arrivals = c.loop-arrival-test.true in
     let next : take (at + 1) arrivals ≡ take at arrivals ++ item ∷ [] =
@@ -61,6 +68,8 @@ loop-arrival-preserved g c =
     let one = length-append items (c.in-Ok.answer ∷ []) in
     let after : HasCleanDisk now → HasCleanDisk answered = λ clean. omega (arith, add.clean, clean) in
     let before : HasCleanDisk now → HasCleanDisk mid = λ clean. omega (arith, arrive.call.clean, add.clean, clean) in
+    let short = i.short in
+    let next_one = c.next_number-number.ensures.next (omega (arith, short)) in
     record {
       within = omega (arith, within);
       len = let len = i.len in let more = c.push_reserved.ensures.len in omega (arith, len, more);
@@ -87,6 +96,13 @@ loop-arrival-preserved g c =
           (add.statistics clean (held_tables _ answered next_held) opened).statistics
           ∙ (arrive.statistics (after clean) (held_tables _ mid held) next_held.is_open).statistics
           ∙ i.statistics (before clean) h holding held.is_open;
+      short = let early = i.short in let fewer = c.next_number-number.ensures.room in omega (arith, early, fewer);
+      left = left_after _ at c.next_number-number.result c.loop-arrival.lines c.next_number-number.new.self i.left
+          next_one;
+      told = told_next c.args.script.now arrivals at c.next_number-number.result items _ c.in-Ok.answer
+          c.loop-arrival.lines c.next_number-number.new.self c.args.reasons.now c.loop-arrival.reasons
+          c.add_in_tables.new.self within i.each c.push_reserved.ensures.items i.left next_one i.told
+          c.add_in_tables.ensures.told;
     }
 
 pub returns-then-is_failed-clause-far : goal.returns-then-is_failed-clause-far
@@ -160,7 +176,7 @@ returns-then-stops-clause-held g c clean h holding is_open =
     let all = c.push_reserved.new.self.items in
     let now = state g.S.Store c.add_in_tables.new.office.conn in
     let arrive = c.in-Ok.ensures in
-    let add = c.add_in_tables.ensures in
+    let add = c.add_in_tables.ensures.office in
     let worked : IsFalse c.loop-arrival.office.failed = sym c.is_failed.ensures ∙ c.if-is_failed.false in
     let within : at < length arrivals = c.loop-arrival-test.true in
     let next : take (at + 1) arrivals ≡ take at arrivals ++ item ∷ [] =
@@ -184,7 +200,7 @@ returns-then-stops-clause-legal g c clean h holding =
     let items = c.loop-arrival.answers.items in
     let all = c.push_reserved.new.self.items in
     let arrive = c.in-Ok.ensures in
-    let add = c.add_in_tables.ensures in
+    let add = c.add_in_tables.ensures.office in
     let worked : IsFalse c.loop-arrival.office.failed = sym c.is_failed.ensures ∙ c.if-is_failed.false in
     let within : at < length arrivals = c.loop-arrival-test.true in
     let next : take (at + 1) arrivals ≡ take at arrivals ++ item ∷ [] =
@@ -222,7 +238,7 @@ pub returns-then-stops-clause-statistics : goal.returns-then-stops-clause-statis
 returns-then-stops-clause-statistics g c clean h holding is_open =
     let i = c.loop-arrival.invariant in
     let arrive = c.in-Ok.ensures in
-    let add = c.add_in_tables.ensures in
+    let add = c.add_in_tables.ensures.office in
     let mid = state g.S.Store c.loop-arrival.office.conn in
     let answered = state g.S.Store c.arrive.new.self.conn in
     let worked : IsFalse c.loop-arrival.office.failed = sym c.is_failed.ensures ∙ c.if-is_failed.false in
@@ -233,3 +249,14 @@ returns-then-stops-clause-statistics g c clean h holding is_open =
     (add.statistics clean (held_tables _ answered next_held) is_open).statistics
     ∙ (arrive.statistics after (held_tables _ mid held) next_held.is_open).statistics
     ∙ i.statistics early h holding held.is_open
+
+pub returns-then-stops-clause-told : goal.returns-then-stops-clause-told
+returns-then-stops-clause-told g c =
+    let i = c.loop-arrival.invariant in
+    let short = i.short in
+    told_next c.args.script.now c.args.arrivals.now c.loop-arrival.arrival-index c.next_number-number.result
+    c.loop-arrival.answers.items c.push_reserved.new.self.items c.in-Ok.answer c.loop-arrival.lines
+    c.next_number-number.new.self c.args.reasons.now c.loop-arrival.reasons c.add_in_tables.new.self
+    c.loop-arrival-test.true
+    i.each c.push_reserved.ensures.items i.left (c.next_number-number.ensures.next (omega (arith, short))) i.told
+    c.add_in_tables.ensures.told

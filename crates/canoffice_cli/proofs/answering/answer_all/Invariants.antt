@@ -1,4 +1,4 @@
-use Rattle.std.proofs.Common.{◌≡◌, ◌≤◌, ◌++◌, List, length, take}
+use Rattle.std.proofs.Common.{◌≡◌, ◌≤◌, ◌+◌, ◌++◌, List, length, take, drop}
 use Rattle.std.specs.Vec.{vec_capacity, vec_len}
 use Rattle.sqlite.specs.Held.{state}
 use Rattle.sqlite.specs.State.{HasCleanDisk}
@@ -8,10 +8,12 @@ use Rattle.office_history.specs.History.{Answered, IsLegalHistory}
 use Rattle.store.specs.Holding.{Holding}
 use Rattle.std.specs.Prelude.{IsFalse, IsTrue}
 use Rattle.canoffice_cli.specs.Answered.{NoneRefused, answered_with}
+use Rattle.canoffice_cli.specs.Numbers.{HaveLines, numbers_left, script_numbers}
+use Rattle.canoffice_cli.specs.Reasons.{TellsOf}
 use Rattle.canoffice_cli.proofs.answering.answer_all.Given as goal
 
 -- The arrivals so far have answers, and the tables hold the history with them, unless the office has failed and its
--- connection is closed. In any case that is a legal history.
+-- connection is closed. In any case that is a legal history, and reasons were added of the answers that are refusals.
 abbrev pub invariant-loop-arrival : goal.invariant-loop-arrival
 invariant-loop-arrival g l =
     let old = state g.S.Store l.fn.office.conn in
@@ -31,4 +33,7 @@ invariant-loop-arrival g l =
           → IsLegalHistory (h ++ answered_with (take l.arrival-index l.arrivals) l.answers.items);
       statistics : HasCleanDisk now → (h : List Answered) → Holding h old → IsTrue now.is_open
           → statistics_of now.now ≡ statistics_of old.now;
+      short : l.lines.number + length l.lines.rest.now ≤ length l.script;
+      left : numbers_left l.lines ≡ drop l.arrival-index (script_numbers l.script);
+      told : HaveLines l.script l.arrivals → TellsOf l.script l.answers.items l.fn.reasons l.reasons;
     }

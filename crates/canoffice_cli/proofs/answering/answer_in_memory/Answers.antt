@@ -5,6 +5,9 @@ use Rattle.office_script.specs.Echoes.{is_refused}
 use Rattle.canoffice_cli.proofs.Stopping.{far_at_refusal, ends_here, still_none}
 use Rattle.office.specs.Keyed.{HoldsHistory}
 use Rattle.office_history.specs.History.{IsLegalHistory}
+use Rattle.canoffice_cli.specs.Numbers.{numbers_left}
+use Rattle.canoffice_cli.specs.declared.progress.RequestLines.{RequestLines}
+use Rattle.canoffice_cli.proofs.Told.{left_after, tells_nothing, told_next}
 use Rattle.canoffice_cli.proofs.Reported.{history_at_first, history_so_far, reported_next}
 use Rattle.canoffice_cli.proofs.answering.answer_in_memory.Goals as goal
 
@@ -18,6 +21,10 @@ loop-arrival-init g c = record {
   held = subst (λ k. HoldsHistory k c.new-office.result)
       (history_at_first [] (take 0 c.args.arrivals.now) c.in_ok-answers.answers.items c.in_ok-answers.ensures.items)
       c.new-office.ensures;
+  short = let all = ap (λ (r : RequestLines). r.number + length r.rest.now) c.of-lines.ensures in
+      omega (arith, all);
+  left = ap numbers_left c.of-lines.ensures;
+  told = λ have. tells_nothing _ c.args.reasons.now;
 }
 
 pub push_reserved-requires : goal.push_reserved-requires
@@ -36,6 +43,8 @@ loop-arrival-preserved g c =
     let within : at < length arrivals = c.loop-arrival-test.true in
     let next : take (at + 1) arrivals ≡ take at arrivals ++ item ∷ [] =
     rw (take_more arrivals at item within, ← c.arrival-item.is) in
+    let short = i.short in
+    let next_one = c.next_number-number.ensures.next (omega (arith, short)) in
     record {
       within = omega (arith, within);
       len = let len = i.len in let more = c.push_reserved.ensures.len in omega (arith, len, more);
@@ -46,6 +55,13 @@ loop-arrival-preserved g c =
           c.stops_at-stops.ensures c.if-stops.false c.push_reserved.ensures.items;
       held = reported_next (λ k. HoldsHistory k now) [] arrivals at items _ item c.in-Ok.answer within next i.each
           c.push_reserved.ensures.items (c.in-Ok.ensures.held _ i.held);
+      short = let early = i.short in let fewer = c.next_number-number.ensures.room in omega (arith, early, fewer);
+      left = left_after _ at c.next_number-number.result c.loop-arrival.lines c.next_number-number.new.self i.left
+          next_one;
+      told = told_next c.args.script.now arrivals at c.next_number-number.result items _ c.in-Ok.answer
+          c.loop-arrival.lines c.next_number-number.new.self c.args.reasons.now c.loop-arrival.reasons
+          c.add_in_memory.new.self within i.each c.push_reserved.ensures.items i.left next_one i.told
+          c.add_in_memory.ensures;
     }
 
 pub returns-in-Err-clause-goes_on : goal.returns-in-Err-clause-goes_on
@@ -89,3 +105,14 @@ returns-then-stops-clause-goes_on g c =
     let held = reported_next (λ k. HoldsHistory k now) [] arrivals at items all item c.in-Ok.answer within next i.each
     c.push_reserved.ensures.items (c.in-Ok.ensures.held _ i.held) in
     subst IsLegalHistory (history_so_far [] arrivals all (at + 1) each) (now.office, held.legal)
+
+pub returns-then-stops-clause-told : goal.returns-then-stops-clause-told
+returns-then-stops-clause-told g c =
+    let i = c.loop-arrival.invariant in
+    let short = i.short in
+    told_next c.args.script.now c.args.arrivals.now c.loop-arrival.arrival-index c.next_number-number.result
+    c.loop-arrival.answers.items c.push_reserved.new.self.items c.in-Ok.answer c.loop-arrival.lines
+    c.next_number-number.new.self c.args.reasons.now c.loop-arrival.reasons c.add_in_memory.new.self
+    c.loop-arrival-test.true
+    i.each c.push_reserved.ensures.items i.left (c.next_number-number.ensures.next (omega (arith, short))) i.told
+    c.add_in_memory.ensures

@@ -1,11 +1,13 @@
-use Rattle.std.proofs.Common.{◌≡◌, ◌≤◌, length, take}
+use Rattle.std.proofs.Common.{◌≡◌, ◌≤◌, ◌+◌, length, take, drop}
 use Rattle.std.specs.Vec.{vec_capacity, vec_len}
 use Rattle.office.specs.Keyed.{HoldsHistory}
 use Rattle.std.specs.Prelude.{IsTrue}
 use Rattle.canoffice_cli.specs.Answered.{NoneRefused, answered_with}
+use Rattle.canoffice_cli.specs.Numbers.{HaveLines, numbers_left, script_numbers}
+use Rattle.canoffice_cli.specs.Reasons.{TellsOf}
 use Rattle.canoffice_cli.proofs.answering.answer_in_memory.Given as goal
 
--- the arrivals so far have answers, and the office holds them
+-- the arrivals so far have answers, the office holds them, and reasons were added of those that are refusals
 abbrev pub invariant-loop-arrival : goal.invariant-loop-arrival
 invariant-loop-arrival g l = record {
   within : l.arrival-index ≤ length l.arrivals;
@@ -14,4 +16,7 @@ invariant-loop-arrival g l = record {
   each : length l.answers.items ≡ l.arrival-index;
   none : IsTrue l.strict → NoneRefused l.answers.items;
   held : HoldsHistory (answered_with (take l.arrival-index l.arrivals) l.answers.items) l.office;
+  short : l.lines.number + length l.lines.rest.now ≤ length l.script;
+  left : numbers_left l.lines ≡ drop l.arrival-index (script_numbers l.script);
+  told : HaveLines l.script l.arrivals → TellsOf l.script l.answers.items l.fn.reasons l.reasons;
 }

@@ -1,4 +1,4 @@
-use Rattle.std.proofs.Common.{◌≡◌, ◌∙◌, inl, inr, subst, arith}
+use Rattle.std.proofs.Common.{◌≡◌, ◌∙◌, inl, inr, subst, sym, arith}
 use Rattle.std.proofs.lemmas.Bool.{false≢true}
 use Rattle.sqlite.specs.Held.{state}
 use Rattle.sqlite.specs.State.{HasCleanDisk}
@@ -6,7 +6,9 @@ use Rattle.store.specs.Holding.{Holding}
 use Rattle.store.proofs.TablesInForm.{in_form, office_in_form, older_in_form}
 use Rattle.office_history.specs.History.{IsLegalHistory}
 use Rattle.canoffice_cli.proofs.Reported.{begins_on, begun_is_legal, history_at_first}
+use Rattle.std.proofs.lemmas.Result.{on_err_weaker}
 use Rattle.canoffice_cli.proofs.Opened.{held_or_none, none_answered}
+use Rattle.canoffice_cli.proofs.Told.{tells_nothing}
 use Rattle.canoffice_cli.proofs.answering.answer_on.Goals as goal
 
 pub returns-in-Ok-clause-held : goal.returns-in-Ok-clause-held
@@ -77,3 +79,19 @@ returns-in-Ok-clause-statistics g c clean h begins is_open =
     let begun = c.in-Ok.ensures.begun early h begins in
     rw same (reported.statistics clean_now h begun (rw (← same) is_open)
     ∙ c.in-Ok.ensures.statistics early h begins begun.is_open)
+
+-- nothing was answered, so the office is as it was opened
+pub returns-in-Ok-clause-err : goal.returns-in-Ok-clause-err
+returns-in-Ok-clause-err g c clean h begins =
+    let reported = c.answer_all-reported.ensures in
+    let same : c.close.result ≡ c.answer_all-reported.new.office.conn = c.close.ensures.same in
+    let clean_now : HasCleanDisk (state g.S.Store c.answer_all-reported.new.office.conn) = rw (← same) clean in
+    let early : HasCleanDisk (state g.S.Store c.in-Ok.office.conn) = omega (arith, reported.clean, clean_now) in
+    let held = c.in-Ok.ensures.begun early h begins in
+    on_err_weaker c.answer_all-reported.result
+    (λ (stays : c.answer_all-reported.new.office ≡ c.in-Ok.office).
+    rw same (subst (λ o. Holding h (state g.S.Store o.conn)) (sym stays) held))
+    reported.err
+
+pub returns-in-Err-clause-told : goal.returns-in-Err-clause-told
+returns-in-Err-clause-told g c have = tells_nothing _ c.args.reasons.now

@@ -1,6 +1,5 @@
 use Rattle.std.proofs.Common.{subst, sym}
 use Rattle.std.specs.Prelude.{IfOk}
-use Rattle.canoffice_cli.specs.Applied.{IsApplyOutcome}
 use Rattle.canoffice_cli.specs.Explaining.{IsExplainedBy, IsExplanation, IsStated}
 use Rattle.canoffice_cli.specs.Outcome.{outcome_of}
 use Rattle.canoffice_cli.specs.Performance.{IsTaskOutcome}
@@ -20,7 +19,8 @@ returns-in-Apply g c =
     subst (λ t. IsStated files t source.name.now source.text.now stated
     → IfOk c.script_report.result (λ report. IsExplainedBy (IsTaskOutcome files before after t source.text.now)
     (IsExplanation files t source.name.now source.text.now) (outcome_of report))) (sym c.in-Apply.is)
-    (λ is. more_by _ (HasReasons source.name.now stated) _ c.script_report.result (λ text has. (stated, is, has))
+    (λ is. more_by _ (HasReasons source.name.now source.text.now stated) _ c.script_report.result
+    (λ answers text has. (stated, is, has))
     (rw c.deref.ensures.value at c.script_report.ensures)) is
 
 pub returns : goal.returns

@@ -1,4 +1,5 @@
+use Rattle.std.proofs.Common.{inl}
 use Rattle.canoffice_cli.proofs.reasons.Reasons.advice.Goals as goal
 
 pub returns-in-Ok : goal.returns-in-Ok
-returns-in-Ok c = (c.args.self.now.lines.items, c.in-Ok.ensures)
+returns-in-Ok c = inl c.in-Ok.ensures

@@ -2,10 +2,10 @@
 //! streams, given to the program's library.
 #![tactic(auto)]
 
-use canoffice_cli::{
-    HostFiles, JobFault, Progress, Status, deliver, fault_report, not_utf8_fault, perform,
+use canoffice_host::{
+    HostDatabases, HostDesks, HostFiles, JobFault, Progress, Status, deliver, fault_report,
+    not_utf8_fault, perform,
 };
-use canoffice_host::{HostDatabases, HostDesks};
 use std::alloc::AllocError;
 use std::env;
 use std::io::{ErrorKind, IsTerminal};

@@ -70,4 +70,5 @@ pub use report::{LOST_MEMORY, Report, Status, bad_line, bad_word, cannot_read, h
 pub use room::answers_fit;
 pub use sending::send_report;
 pub use serving::{ServeEnd, serve_report};
+pub use store::{Arrival, Look, Lost, StoredOffice};
 pub use tabling::table_report;

@@ -3,17 +3,15 @@ ghost use Rattle.std.specs.Prelude.{◌≡◌, Err, IsFalse, IsOk, IsTrue};
 
 use crate::files::{Work, on_file};
 use canoffice_cli::{
-    Answers, Databases, Progress, Reasons, ServeEnd, answer_on, answers_when_closed, look_on,
-    migrate_on, nothing_answered,
+    Answers, Arrival, Databases, Look, Lost, Progress, Reasons, ServeEnd, StoredOffice, answer_on,
+    answers_when_closed, look_on, migrate_on, nothing_answered,
 };
 use desk::{Routes, ServeFault, listen, serve};
 use desk_advice::NoteLines;
-use office_history::Arrival;
 use sqlite::{Alter, Connection};
 use std::alloc::{AllocError, Global};
 use std::io::{ErrorKind, Write};
 use std::rt::Files;
-use store::{Look, Lost, StoredOffice};
 
 /// The machine's database files, as SQLite has them. Nothing is known of them, since no contract speaks of the
 /// machine's disk.

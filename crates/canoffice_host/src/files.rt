@@ -4,8 +4,8 @@
 //! `on_file` alone goes from a path to a connection and back, with one such call, and all else is over any store.
 ghost use Rattle.std.specs.Prelude.{◌≡◌, IfNone, IfOk, IfSome, OnErr};
 
+use canoffice_cli::Lost;
 use sqlite::{Alter, Connection};
-use store::Lost;
 
 /// What is done on a connection.
 pub trait Work {

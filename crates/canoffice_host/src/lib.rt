@@ -5,5 +5,8 @@ mod databases;
 mod desks;
 mod files;
 
+pub use canoffice_cli::{
+    HostFiles, JobFault, Progress, Status, deliver, fault_report, not_utf8_fault, perform,
+};
 pub use databases::HostDatabases;
 pub use desks::HostDesks;

@@ -60,6 +60,66 @@ count_more ms i reported m reasons lt item are few before =
     ap length (clashes_more ms i m lt item) in
     omega (arith, here, both, whole, before)
 
+-- where there is no room for all reasons of a message: those before, the first ones of its own, and then others
+module _ (ms : List Message) (i reported room : ℕ) (m : Message) (reasons : List Reason) (lt : i < length ms)
+    (item : m ≡ get_or ms i m) (are : AreReasons m.length (places_of m.signals) reasons)
+    (count : length (clashes_of (take i ms)) ≡ reported) (few : reported ≤ clashes_reported)
+    (room_is : room ≡ clashes_reported - reported) (full : room < length reasons) where
+  abbrev others : List Reason
+  others = reasons_from m.length (places_of m.signals) are.looked_at
+
+  abbrev left : List Reason
+  left = drop room reasons ++ others
+
+  abbrev shown : List Clashing
+  shown = clashes_of (take i ms) ++ map (λ (r : Reason). (m, r)) (take room reasons)
+
+  abbrev tail : List Clashing
+  tail = map (λ (r : Reason). (m, r)) left ++ clashes_of (drop (i + 1) ms)
+
+  whole : clashes_of ms ≡ shown ++ tail
+  whole =
+      let f : Reason → Clashing = λ r. (m, r) in
+      let C : List Clashing = clashes_of (take i ms) in
+      let D : List Clashing = clashes_of (drop (i + 1) ms) in
+      let here : List Clashing = map f (take room reasons) in
+      let parts : message_clashes m ≡ here ++ map f left =
+      ap (λ rs. map f rs) (sym are.are ∙ ap (λ rs. rs ++ others) (sym (take-append-drop room reasons))
+      ∙ append_assoc (take room reasons) (drop room reasons) others)
+      ∙ map-append f (take room reasons) left in
+      clashes_split ms i m lt item ∙ ap (λ cs. C ++ (cs ++ D)) parts
+      ∙ ap (λ cs. C ++ cs) (append_assoc here (map f left) D) ∙ sym (append_assoc C here tail)
+
+  shown_count : length shown ≡ clashes_reported
+  shown_count =
+      let f : Reason → Clashing = λ r. (m, r) in
+      let C : List Clashing = clashes_of (take i ms) in
+      let here : List Clashing = map f (take room reasons) in
+      let n1 : length (take room reasons) ≡ room = length-take-le room reasons (omega (arith, full)) in
+      let n2 : length here ≡ length (take room reasons) = length-map (take room reasons) f in
+      let n3 : length shown ≡ length C + length here = length-append C here in
+      omega (arith, n1, n2, n3, count, few, room_is)
+
+  -- the first of all reasons are those
+  pub cut_clashes : take clashes_reported (clashes_of ms) ≡ shown
+  cut_clashes =
+      ap (λ cs. take clashes_reported cs) whole
+      ∙ take-append-le clashes_reported shown tail (omega (arith, shown_count))
+      ∙ take_all clashes_reported shown (omega (arith, shown_count))
+
+  -- and there are more
+  pub more_clashes : clashes_reported < length (clashes_of ms)
+  more_clashes =
+      let f : Reason → Clashing = λ r. (m, r) in
+      let D : List Clashing = clashes_of (drop (i + 1) ms) in
+      let d1 : length (drop room reasons) ≡ length reasons - room = length-drop room reasons in
+      let d2 : length left ≡ length (drop room reasons) + length others = length-append (drop room reasons) others in
+      let d3 : length (map f left) ≡ length left = length-map left f in
+      let d4 : length tail ≡ length (map f left) + length D = length-append (map f left) D in
+      let d5 : length (clashes_of ms) ≡ length (shown ++ tail) = ap length whole in
+      let d6 : length (shown ++ tail) ≡ length shown + length tail = length-append shown tail in
+      omega (arith, shown_count, d1, d2, d3, d4, d5, d6, full)
+
 module _ (file text : List ℕ) where
   -- all reasons of one more message
   pub message_more : (ms : List Message) (i : ℕ) (old lines new : List ℕ) (m : Message) (reasons : List Reason)
@@ -114,33 +174,11 @@ module _ (file text : List ℕ) where
       e =
       let f : Reason → Clashing = λ r. (m, r) in
       let C : List Clashing = clashes_of (take i ms) in
-      let D : List Clashing = clashes_of (drop (i + 1) ms) in
-      let others : List Reason = reasons_from m.length (places_of m.signals) are.looked_at in
-      let left : List Reason = drop room reasons ++ others in
       let here : List Clashing = map f (take room reasons) in
-      let shown : List Clashing = C ++ here in
-      let tail : List Clashing = map f left ++ D in
-      let parts : message_clashes m ≡ here ++ map f left =
-      ap (λ rs. map f rs) (sym are.are ∙ ap (λ rs. rs ++ others) (sym (take-append-drop room reasons))
-      ∙ append_assoc (take room reasons) (drop room reasons) others)
-      ∙ map-append f (take room reasons) left in
-      let all : clashes_of ms ≡ shown ++ tail =
-      clashes_split ms i m lt item ∙ ap (λ cs. C ++ (cs ++ D)) parts
-      ∙ ap (λ cs. C ++ cs) (append_assoc here (map f left) D) ∙ sym (append_assoc C here tail) in
-      let n1 : length (take room reasons) ≡ room = length-take-le room reasons (omega (arith, full)) in
-      let n2 : length here ≡ length (take room reasons) = length-map (take room reasons) f in
-      let n3 : length shown ≡ length C + length here = length-append C here in
-      let n : length shown ≡ clashes_reported = omega (arith, n1, n2, n3, count, few, room_is) in
-      let d1 : length (drop room reasons) ≡ length reasons - room = length-drop room reasons in
-      let d2 : length left ≡ length (drop room reasons) + length others = length-append (drop room reasons) others in
-      let d3 : length (map f left) ≡ length left = length-map left f in
-      let d4 : length tail ≡ length (map f left) + length D = length-append (map f left) D in
-      let d5 : length (clashes_of ms) ≡ length (shown ++ tail) = ap length all in
-      let d6 : length (shown ++ tail) ≡ length shown + length tail = length-append shown tail in
-      let more : clashes_reported < length (clashes_of ms) = omega (arith, n, d1, d2, d3, d4, d5, d6, full) in
-      let same : take clashes_reported (clashes_of ms) ≡ shown =
-      ap (λ cs. take clashes_reported cs) all ∙ take-append-le clashes_reported shown tail (omega (arith, n))
-      ∙ take_all clashes_reported shown (omega (arith, n)) in
+      let same : take clashes_reported (clashes_of ms) ≡ C ++ here =
+      cut_clashes ms i reported room m reasons lt item are count few room_is full in
+      let more : clashes_reported < length (clashes_of ms) =
+      more_clashes ms i reported room m reasons lt item are count few room_is full in
       let lines : AreLinesOf (IsClashLine file text) here cut.lines =
       lines_map (IsClashLine file text) f (take room reasons) cut.lines
       (subst (λ rs. AreLinesOf (λ (r : Reason). IsClashLine file text (m, r)) rs cut.lines) first_is cut.are) in

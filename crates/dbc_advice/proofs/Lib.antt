@@ -1,6 +1,7 @@
 pub mod ReportedMore
 pub mod ReportedLines
 pub mod ClashLines
+pub mod ClashSentences
 pub mod ClearReasons
 pub mod FirstClash
 pub mod NamesFound

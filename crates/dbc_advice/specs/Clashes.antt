@@ -1,5 +1,6 @@
 -- What is reported of messages that aren't clear: a line for each of the first reasons.
-use Rattle.std.specs.Prelude.{◌≡◌, ◌≤◌, ℕ, List, ◌++◌, map, take, length, codes}
+use Rattle.std.specs.Prelude.{◌≡◌, ◌≤◌, ℕ, List, ◌++◌, map, take, length, codes, Vec}
+use Rattle.std.specs.declared.alloc.Global.{Global}
 use Rattle.std.specs.List.{flat_map}
 use Rattle.bitlayout.specs.declared.clash.Clash.{Clash}
 use Rattle.dbc_words.specs.Fault.{clash_code, code_name, code_number}
@@ -26,6 +27,13 @@ clashes_of messages = flat_map message_clashes messages
 -- the code of a clash, and its name
 abbrev pub clash_label : Clash → List ℕ
 clash_label clash = code_label (code_number (clash_code clash)) (code_name (clash_code clash))
+
+abbrev pub bytes_of : Vec ℕ Global → List ℕ
+bytes_of v = v.items
+
+-- the name of the code, and what is stated of the reason
+abbrev pub clash_sentence : Clashing → List ℕ
+clash_sentence c = code_name (clash_code c.1.clash) ++ (codes ": " ++ reason_text c.0 c.1)
 
 -- the line of a reason, at an offset in the file
 pub record IsClashLine (file text : List ℕ) (c : Clashing) (line : List ℕ) : Type 0 where

@@ -1,9 +1,11 @@
 //! What is reported of messages that aren't clear.
-ghost use Rattle.std.specs.Prelude.{◌≡◌, ◌≤◌, IfOk, length};
+ghost use Rattle.std.specs.Prelude.{◌≡◌, ◌≤◌, ◌++◌, IfOk, OnOk, length, map, take};
 ghost use Rattle.bitlayout.specs.Clash.{faulty_index};
 ghost use Rattle.dbc_sheet.specs.Signals.{places_of};
-ghost use Rattle.dbc_advice.specs.Clashes.{AreClashLines, AreCutLines, IsClashLine, clash_label, clashes_of};
+ghost use Rattle.dbc_advice.specs.Clashes.{AreClashLines, AreCutLines, IsClashLine, bytes_of, clash_label, clash_sentence};
+ghost use Rattle.dbc_advice.specs.Clashes.{clashes_of};
 ghost use Rattle.dbc_advice.specs.First.{IsFirstClash, IsStatedClash};
+ghost use Rattle.dbc_advice.specs.Limits.{clashes_reported};
 ghost use Rattle.dbc_advice.specs.Reasons.{AreReasons};
 ghost use Rattle.dbc_advice.specs.ReportedLine.{AreLinesOf};
 
@@ -15,6 +17,7 @@ use crate::reasons::{Reason, reasons_of};
 use crate::sentences::{code_label, more_line, reported_line};
 use crate::unclear::reason_text;
 use bitlayout::{Clash, first_clash};
+use columns::concat;
 use dbc_sheet::{Message, Sheet};
 use dbc_words::SheetCode;
 use std::alloc::{AllocError, Global};
@@ -158,6 +161,51 @@ pub(crate) fn first_unclear(
         }
     }
     Ok(None)
+}
+
+/// The name of the code of a reason, and what is stated of it.
+fn clash_sentence(alloc: Global, message: &Message, reason: Reason) -> Result<Vec<u8>, AllocError>
+    ensures { IfOk result (λ text. text.items ≡ clash_sentence (message.now, reason)) }
+{
+    let words = reason_text(alloc, message, reason)?;
+    let name = SheetCode::from(reason.clash).name();
+    concat(alloc, &[name.as_bytes(), b": ", &words])
+}
+
+/// Adds the sentences of these reasons why the message isn't clear, in order.
+fn add_sentences(
+    alloc: Global,
+    sentences: &mut Vec<Vec<u8>>,
+    message: &Message,
+    reasons: &[Reason],
+) -> Result<(), AllocError>
+    ensures { OnOk result (map bytes_of sentences.new.items ≡ map bytes_of sentences.old.items
+        ++ map (λ r. clash_sentence (message.now, r)) reasons.now) }
+{
+    for reason in reasons {
+        let sentence = clash_sentence(alloc, message, *reason)?;
+        sentences.push(sentence)?;
+    }
+    Ok(())
+}
+
+/// Why messages of the sheet aren't clear: the sentences of the first [`CLASHES_REPORTED`] reasons, each after the name
+/// of its code. The error is out of memory.
+pub fn clash_sentences(alloc: Global, sheet: &Sheet) -> Result<Vec<Vec<u8>>, AllocError>
+    ensures { IfOk result (λ found. map bytes_of found.items
+        ≡ map clash_sentence (take clashes_reported (clashes_of sheet.now.messages))) }
+{
+    let mut sentences = Vec::new(alloc);
+    for message in sheet.messages() {
+        let reasons = message_reasons(alloc, message)?;
+        let room = CLASHES_REPORTED - sentences.len();
+        if reasons.len() > room {
+            add_sentences(alloc, &mut sentences, message, &reasons[..room])?;
+            return Ok(sentences);
+        }
+        add_sentences(alloc, &mut sentences, message, &reasons)?;
+    }
+    Ok(sentences)
 }
 
 /// Why messages of the sheet aren't clear: a line for each of the first [`CLASHES_REPORTED`] reasons, and a last one if

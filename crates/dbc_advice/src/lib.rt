@@ -26,7 +26,7 @@ mod sentences;
 mod unclear;
 mod wanted;
 
-pub use clashes::CLASHES_REPORTED;
+pub use clashes::{CLASHES_REPORTED, clash_sentences};
 pub use explaining::explained;
 pub use findings::{BYTES_READ_AGAIN, FAULTS_REPORTED};
 pub use first::{Stated, first_stated};

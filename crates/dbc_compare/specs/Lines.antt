@@ -41,12 +41,17 @@ name_text (place.Message old new) name = message_name new.name name
 name_text here None = codes "-"
 name_text here (Some n) = n
 
--- `added`, or a field with what it had and what it has
+-- `added`, or the word of a field
+abbrev pub change_word : Change → List ℕ
+change_word change.Added = codes "added"
+change_word change.Removed = codes "removed"
+change_word change.Reordered = codes "reordered"
+change_word (change.Changed f old new) = field_word f
+
+-- the word, and of a field what it had and what it has
 abbrev pub change_text : Change → List ℕ
-change_text change.Added = codes "added"
-change_text change.Removed = codes "removed"
-change_text change.Reordered = codes "reordered"
 change_text (change.Changed f old new) = field_word f ++ (codes " " ++ (old ++ (codes " -> " ++ new)))
+change_text c = change_word c
 
 -- whether it breaks a receiver of what was there: a message or a signal that is gone, or a field that it goes by
 abbrev pub is_breaking : Place → Change → Bool

@@ -27,6 +27,22 @@ pub enum Change {
     },
 }
 
+impl Change {
+    ghost use Rattle.dbc_compare.specs.Lines.{change_word};
+
+    /// The word that its text begins with.
+    pub fn word(&self) -> &'static [u8]
+        ensures { result.now ≡ change_word self.now }
+    {
+        match self {
+            Change::Added => b"added",
+            Change::Removed => b"removed",
+            Change::Reordered => b"reordered",
+            Change::Changed { field, .. } => field.word(),
+        }
+    }
+}
+
 /// A difference of two sheets.
 pub struct Difference {
     /// Where it is.

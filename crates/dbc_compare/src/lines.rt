@@ -66,17 +66,13 @@ fn name_text(alloc: Global, place: &Place, name: &Option<Name>) -> Result<Vec<u8
 fn change_text(alloc: Global, change: &Change) -> Result<Vec<u8>, AllocError>
     ensures { IfOk result (λ text. text.items ≡ change_text change.now) }
 {
+    let word = Vec::from_slice(alloc, change.word())?;
     match change {
-        Change::Added => Vec::from_slice(alloc, b"added"),
-        Change::Removed => Vec::from_slice(alloc, b"removed"),
-        Change::Reordered => Vec::from_slice(alloc, b"reordered"),
-        Change::Changed { field, old, new } => {
-            let word = Vec::from_slice(alloc, field.word())?;
-            concat(
-                alloc,
-                &[&word, b" ", old.as_slice(), b" -> ", new.as_slice()],
-            )
-        }
+        Change::Changed { field: _, old, new } => concat(
+            alloc,
+            &[&word, b" ", old.as_slice(), b" -> ", new.as_slice()],
+        ),
+        _ => Ok(word),
     }
 }
 

@@ -29,6 +29,12 @@ chosen_line text names r = if is_chosen names r.kind then line_of text r else []
 abbrev pub lines_of : List ℕ → List ℕ → List Remark → List ℕ
 lines_of text names remarks = flat_map (chosen_line text names) remarks
 
+-- the remarks on the sheet that the text reads as
+pub record AreRemarks (text : List ℕ) (sheet : Sheet) (remarks : List Remark) : Type 0 where
+  pub statements : List Statement
+  pub divided : IsDivided text statements
+  pub are : remarks ≡ of_statements text sheet statements
+
 -- the lines of the remarks on the sheet that the text reads as
 pub record IsLinted (text : List ℕ) (sheet : Sheet) (names out : List ℕ) : Type 0 where
   pub statements : List Statement

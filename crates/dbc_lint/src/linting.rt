@@ -3,7 +3,7 @@ ghost use Rattle.std.specs.Prelude.{◌≡◌, IfErr, IfOk};
 ghost use Rattle.dbc_lex.specs.Fault.{UnlessMemory};
 ghost use Rattle.dbc_statements.specs.Division.{HasNoDivision};
 ghost use Rattle.dbc_statements.specs.Statement.{statements_of};
-ghost use Rattle.dbc_lint.specs.Lines.{IsLinted};
+ghost use Rattle.dbc_lint.specs.Lines.{AreRemarks, IsLinted};
 ghost use Rattle.dbc_lint.specs.OfFile.{of_statements};
 
 use crate::lines::lines_of;
@@ -32,6 +32,20 @@ fn remarks_of(
     Ok(remarks)
 }
 
+/// The remarks on a sheet, in the order of the text that reads as the sheet; at one place in ascending order of the
+/// numbers of their kinds.
+///
+/// The fault is out of memory, if the text reads as a sheet.
+pub fn remarks_on(alloc: Global, text: &[u8], sheet: &Sheet) -> Result<Vec<Remark>, ReadFault>
+    ensures ok { IfOk result (λ remarks. AreRemarks text.now sheet.now remarks.items) }
+    ensures err { IfErr result (λ fault. UnlessMemory fault.code (HasNoDivision text.now)) }
+{
+    let statements = statements_of(alloc, text)?;
+    let whole = Whole::of(alloc, sheet)?;
+    let remarks = remarks_of(alloc, text, &whole, &statements)?;
+    Ok(remarks)
+}
+
 /// A line for each remark on a sheet whose kind the names choose, `remark LINE:COLUMN NAME WORDS`, at its place in the
 /// text that reads as the sheet and in the order of that text; at one place in ascending order of the numbers of the
 /// kinds. The names have commas between them, and where there are none, all kinds are chosen.
@@ -41,9 +55,7 @@ pub fn lint(alloc: Global, text: &[u8], sheet: &Sheet, names: &str) -> Result<Ve
     ensures ok { IfOk result (λ lines. IsLinted text.now sheet.now names.now lines.items) }
     ensures err { IfErr result (λ fault. UnlessMemory fault.code (HasNoDivision text.now)) }
 {
-    let statements = statements_of(alloc, text)?;
-    let whole = Whole::of(alloc, sheet)?;
-    let remarks = remarks_of(alloc, text, &whole, &statements)?;
+    let remarks = remarks_on(alloc, text, sheet)?;
     let lines = lines_of(alloc, text, names, &remarks)?;
     Ok(lines)
 }

@@ -8,7 +8,7 @@ use columns::concat;
 use std::alloc::{AllocError, Global};
 
 /// A remark.
-pub(crate) struct Remark {
+pub struct Remark {
     /// Its kind.
     pub kind: Kind,
     /// The offset in the file.

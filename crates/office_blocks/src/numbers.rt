@@ -47,7 +47,7 @@ fn sorted(numbers: Vec<u32>) -> Result<Vec<u32>, AllocError>
 
 impl Ascending {
     /// The numbers of the list. The error is out of memory.
-    fn of(numbers: Vec<u32>) -> Result<Ascending, AllocError>
+    pub fn of(numbers: Vec<u32>) -> Result<Ascending, AllocError>
         ensures { IfOk result (λ ascending. HaveSame ascending numbers.items) }
     {
         let numbers = sorted(numbers)?;

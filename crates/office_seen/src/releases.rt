@@ -47,8 +47,8 @@ pub fn since(before: &Sheet, sheet: &Sheet, message: &Message) -> &'static [u8]
     since_word(partner(before, sheet, message), message)
 }
 
-/// The numbers of the releases, from 1, that have a message of the DBC number.
-fn releases_with(
+/// The numbers of the releases, from 1, that have a message of the DBC number. The error is out of memory.
+pub fn releases_with(
     alloc: Global,
     releases: &FrozenSheets,
     number: u32,

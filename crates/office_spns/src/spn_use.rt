@@ -2,7 +2,7 @@
 
 /// What has become of a suspect parameter number on a network.
 #[derive(Clone, Copy, PartialEq, Eq)]
-pub(crate) enum SpnUse {
+pub enum SpnUse {
     /// A live signal has it.
     Live,
     /// A signal of a release has it, and no live one.

@@ -36,7 +36,7 @@ fn is_released(view: &SpnView, number: u32) -> bool
 }
 
 /// What has become of the number.
-fn use_of(view: &SpnView, number: u32) -> SpnUse
+pub fn use_of(view: &SpnView, number: u32) -> SpnUse
     ensures { result ≡ use_of number view.now }
 {
     if view.live().has(number) {
@@ -69,7 +69,7 @@ fn released_places<'v, 'a>(view: &'v SpnView<'a>, number: u32) -> &'v [SpnPlace<
 }
 
 /// Where the number is shown: at its live places, else at those of the last release that has it.
-fn shown_places<'v, 'a>(view: &'v SpnView<'a>, number: u32) -> &'v [SpnPlace<'a>]
+pub fn shown_places<'v, 'a>(view: &'v SpnView<'a>, number: u32) -> &'v [SpnPlace<'a>]
     ensures { result.now ≡ shown_places number view.now }
 {
     let live = view.live().places(number);
@@ -81,7 +81,7 @@ fn shown_places<'v, 'a>(view: &'v SpnView<'a>, number: u32) -> &'v [SpnPlace<'a>
 }
 
 /// The numbers of the releases, from 1, in which a signal has the number.
-fn releases_with(alloc: Global, view: &SpnView, number: u32) -> Result<Vec<u32>, AllocError>
+pub fn releases_with(alloc: Global, view: &SpnView, number: u32) -> Result<Vec<u32>, AllocError>
     ensures { IfOk result
         (λ releases. releases.items ≡ releases_where (has_spn number) view.now.releases) }
 {

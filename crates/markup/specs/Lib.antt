@@ -1,0 +1,3 @@
+pub mod Reader
+pub mod Html
+pub mod Writing

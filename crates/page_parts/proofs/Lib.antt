@@ -1,0 +1,5 @@
+pub mod Found
+pub mod Classes
+pub mod Lettering
+pub mod Once
+pub mod Hexadecimal

@@ -1,0 +1,20 @@
+use Rattle.std.proofs.Common.{append_assoc}
+use Rattle.markup.proofs.Changes.{back}
+use Rattle.page_parts.proofs.words.put_bad.Goals as goal
+
+pub returns : goal.returns
+returns c = λ kept.
+    let k4 = back c.close.ensures kept in
+    let k3 = back c.text-3.ensures k4 in
+    let k2 = back c.text-2.ensures k3 in
+    let k1 = back c.number.ensures k2 in
+    let k0 = back c.text.ensures k1 in
+    simp (
+      c.close.ensures kept,
+      c.text-3.ensures k4,
+      c.text-2.ensures k3,
+      c.number.ensures k2,
+      c.text.ensures k1,
+      c.open.ensures k0,
+      append_assoc,
+    )

@@ -1,0 +1,10 @@
+pub mod Colours
+pub mod Decimals
+pub mod Found
+pub mod Frames
+pub mod Letters
+pub mod Marks
+pub mod Names
+pub mod Numbers
+pub mod Subjects
+pub mod Words

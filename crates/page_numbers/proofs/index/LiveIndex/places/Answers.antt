@@ -1,0 +1,28 @@
+use Rattle.std.proofs.Common.{◌≡◌, ℕ, ◌+◌, ◌-◌, ◌≤◌, List, length, take, drop, map, ap, sym, ◌∙◌, subst, arith}
+use Rattle.std.proofs.Math.Seq.{take-length}
+use Rattle.std.proofs.lemmas.List.{length-drop}
+use Rattle.page_numbers.specs.Index.{AreBelow, Indexed, Numbered, live_at, message_at}
+use Rattle.page_numbers.proofs.Places.{between}
+use Rattle.page_numbers.proofs.index.LiveIndex.places.Goals as goal
+
+pub returns : goal.returns
+returns c =
+    let n = c.args.number in
+    let all : List Numbered = c.self.inside.places.items in
+    let i = c.count_below-first.result in
+    let rest : List Numbered = take (length c.deref-2.result.now - i) (drop i c.deref-2.result.now) in
+    let same : c.deref.result.now ≡ all = c.deref.ensures.value in
+    let again : c.deref-2.result.now ≡ all = c.deref-2.ensures.value in
+    let whole : take (length all - i) (drop i all) ≡ drop i all =
+    ap (λ k. take k (drop i all)) (sym (length-drop i all)) ∙ take-length (drop i all) in
+    let is : rest ≡ drop i all = ap (λ (v : List Numbered). take (length v - i) (drop i v)) again ∙ whole in
+    let short : i ≤ length all = omega (arith, ap length same) in
+    let first : AreBelow n all i =
+    subst (λ (v : List Numbered). AreBelow n v i) same
+    (subst (λ (m : ℕ). AreBelow m c.deref.result.now i) c.from.ensures c.count_below-first.ensures.below) in
+    let last : AreBelow (n + 1) rest c.count_below-count.result =
+    subst (λ (m : ℕ). AreBelow (m + 1) rest c.count_below-count.result) c.from-2.ensures
+    c.count_below-count.ensures.below in
+    ap (map message_at)
+    (between n all rest i c.count_below-count.result short is first last c.count_below-count.ensures.bound)
+    ∙ c.self.invariant.of_number n ∙ ap (λ (x : Indexed). live_at x.messages x.form n) c.self.view_is

@@ -1,12 +1,35 @@
 -- Sums and lists over the items that pass a test, item by item.
 use Rattle.std.proofs.Common.{◌≡◌, ◌+◌, ◌<◌, ◌++◌, ℕ, Bool, true, false, List, [], ◌∷◌, length, take, filter, get_or}
-use Rattle.std.proofs.Common.{map, sum}
+use Rattle.std.proofs.Common.{cond, map, sum}
 use Rattle.std.proofs.Common.{sym, ap, ◌∙◌, append-nil}
 use Rattle.std.specs.List.{flat_map, sum_by}
 use Rattle.std.proofs.lemmas.List.{take_more}
 use Rattle.std.proofs.lemmas.List.Concat.{flat_map-append}
 use Rattle.std.proofs.lemmas.List.Sums.{sum-map, sum_by_push}
-use Rattle.html.proofs.Pushing.{filter_failed, filter_passed}
+use Rattle.std.proofs.lemmas.List.Elements.{filter-append}
+
+-- ---- the items that pass a test, with one item more
+
+passing : {X : Type 0} (w : X → Bool) (x : X) → w x ≡ true → filter w (x ∷ []) ≡ x ∷ []
+passing w x e = ap (λ b. cond b (x ∷ []) []) e
+
+failing : {X : Type 0} (w : X → Bool) (x : X) → w x ≡ false → filter w (x ∷ []) ≡ []
+failing w x e = ap (λ b. cond b (x ∷ []) []) e
+
+filter_passed : {X : Type 0} (w : X → Bool) (xs : List X) (i : ℕ) (x : X) → i < length xs → x ≡ get_or xs i x
+    → w x ≡ true → filter w (take (i + 1) xs) ≡ filter w (take i xs) ++ x ∷ []
+filter_passed w xs i x within is e =
+    ap (filter w) (take_more xs i x within ∙ ap (λ y. take i xs ++ y ∷ []) (sym is))
+    ∙ filter-append w (take i xs) (x ∷ []) ∙ ap (λ v. filter w (take i xs) ++ v) (passing w x e)
+
+filter_failed : {X : Type 0} (w : X → Bool) (xs : List X) (i : ℕ) (x : X) → i < length xs → x ≡ get_or xs i x
+    → w x ≡ false → filter w (take (i + 1) xs) ≡ filter w (take i xs)
+filter_failed w xs i x within is e =
+    ap (filter w) (take_more xs i x within ∙ ap (λ y. take i xs ++ y ∷ []) (sym is))
+    ∙ filter-append w (take i xs) (x ∷ []) ∙ ap (λ v. filter w (take i xs) ++ v) (failing w x e)
+    ∙ append-nil (filter w (take i xs))
+
+-- ---- sums and lists
 
 module _ {X : Type 0} (p : X → Bool) (xs : List X) (i : ℕ) (x : X) (below : i < length xs) (is : x
     ≡ get_or xs i x) where
@@ -34,11 +57,3 @@ module _ {X : Type 0} (p : X → Bool) (xs : List X) (i : ℕ) (x : X) (below : 
   pub list_passed : {A : Type 0} (f : X → List A) (before : List A) → p x ≡ false
       → before ≡ flat_map f (filter p (take i xs)) → before ≡ flat_map f (filter p (take (i + 1) xs))
   list_passed f before e so = so ∙ ap (flat_map f) (sym (filter_failed p xs i x below is e))
-
--- of one item more
-pub list_more : {X A : Type 0} (f : X → List A) (xs : List X) (i : ℕ) (x : X) (before after : List A) → i < length xs
-    → x ≡ get_or xs i x → before ≡ flat_map f (take i xs) → after ≡ before ++ f x → after ≡ flat_map f (take (i + 1) xs)
-list_more f xs i x before after within is so more =
-    more ∙ ap (λ v. v ++ f x) so
-    ∙ sym (flat_map-append f (take i xs) (x ∷ []) ∙ ap (λ v. flat_map f (take i xs) ++ v) (append-nil (f x)))
-    ∙ ap (λ y. flat_map f (take i xs ++ y ∷ [])) is ∙ ap (flat_map f) (sym (take_more xs i x within))

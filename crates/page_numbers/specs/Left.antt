@@ -1,211 +1,173 @@
--- What is left of each team's numbers.
-use Rattle.std.specs.Prelude.{ℕ, ◌+◌, ◌-◌, ◌==◌, ◌&&◌, not, nat_lt, nat_le, Bool, true, false, List, [], ◌∷◌, ◌++◌}
-use Rattle.std.specs.Prelude.{codes, count_by}
-use Rattle.std.specs.Prelude.{decimal, filter, length, map, sum, take, if◌then◌else◌}
-use Rattle.std.specs.List.{enumerate_from, flat_map}
-use Rattle.std.specs.Str.{bytes_eq}
+-- What is left of each team's numbers, as HTML.
+use Rattle.std.specs.Prelude.{ℕ, ◌+◌, ◌-◌, ◌==◌, ◌&&◌, nat_le, nat_lt, Bool, false, List, [], ◌∷◌, ◌++◌, None, Option}
+use Rattle.std.specs.Prelude.{Some, codes, decimal, length, map, take, if◌then◌else◌}
+use Rattle.std.specs.List.{flat_map}
 use Rattle.columns.specs.declared.run.Run.{Run}
-use Rattle.html.specs.Elements.{table_end, table_start}
-use Rattle.office_types.specs.Block.{Range, same_form}
-use Rattle.office_types.specs.Free.{has_form, is_taken}
+use Rattle.markup.specs.Html.{element_html, escaped, valued}
+use Rattle.markup.specs.declared.tag.Tag.TheVariants as tag
+use Rattle.office_blocks.specs.Blocks.{live_numbers, taken_numbers}
+use Rattle.office_blocks.specs.Numbers.{of_form}
+use Rattle.office_blocks.specs.declared.numbers.Numbers.{Numbers}
+use Rattle.office_seen.specs.declared.view.View.{View}
+use Rattle.office_types.specs.Block.{Range}
 use Rattle.office_types.specs.declared.block.BlockForm.{BlockForm}
 use Rattle.office_types.specs.declared.block.BlockForm.TheVariants as block
 use Rattle.office_types.specs.declared.free.NumberForm.{NumberForm}
 use Rattle.office_types.specs.declared.free.NumberForm.TheVariants.{Std, Ext, Pdu1, Pdu2, Spn}
 use Rattle.office_types.specs.declared.state.GrantedBlock.{GrantedBlock}
-use Rattle.office_blocks.specs.Blocks.{free_numbers, live_numbers, numbers_in, runs_in, taken_numbers}
-use Rattle.office_seen.specs.declared.view.View.{View}
-use Rattle.page_plan.specs.Badges.{badge, place_of, tone}
-use Rattle.page_plan.specs.Numbers.{counted, runs_text}
-use Rattle.page_plan.specs.Plan.{Plan}
+use Rattle.page_parts.specs.Letters.{badge, class_in}
+use Rattle.page_parts.specs.Numbers.{both}
+use Rattle.page_parts.specs.Subjects.{names_of}
+use Rattle.page_parts.specs.Words.{cell, counted, number_cell, quiet}
+use Rattle.page_parts.specs.declared.letters.Shade.{Shade}
+use Rattle.page_parts.specs.declared.letters.Shade.TheVariants as shade
+use Rattle.page_parts.specs.declared.numbers.HexWidth.{HexWidth}
+use Rattle.page_parts.specs.declared.numbers.HexWidth.TheVariants.{Three, Four, Eight}
+use Rattle.page_parts.specs.declared.subject.Subject.{Subject}
+use Rattle.page_numbers.specs.Counts.{Counts, Known, few, granted, known_of, left_of, short}
+use Rattle.page_numbers.specs.Elements.{around, classed, fold_html, part_html, table_html, wide_html}
+use Rattle.page_numbers.specs.Tally.{block_form}
+use Rattle.page_numbers.specs.declared.left.TheConstants.{HEADS, NOTE}
 
--- ---- of one form
+-- ---- words
 
--- the blocks that have its numbers
-abbrev pub block_form : NumberForm → BlockForm
-block_form Std = block.Std
-block_form Ext = block.Ext
-block_form Pdu1 = block.Pgn
-block_form Pdu2 = block.Pgn
-block_form Spn = block.Spn
+abbrev pub form_words : NumberForm → List ℕ
+form_words Std = codes "11 bits"
+form_words Ext = codes "29 bits"
+form_words Pdu1 = codes "PGN addressed"
+form_words Pdu2 = codes "PGN broadcast"
+form_words Spn = codes "SPN"
 
--- they are parameter groups
-abbrev pub is_group : NumberForm → Bool
-is_group Pdu1 = true
-is_group Pdu2 = true
-is_group form = false
+abbrev pub block_words : BlockForm → List ℕ
+block_words block.Std = codes "11 bits"
+block_words block.Ext = codes "29 bits"
+block_words block.Pgn = codes "PGN"
+block_words block.Spn = codes "SPN"
 
-abbrev pub form_label : NumberForm → List ℕ
-form_label Std = codes "11 bits"
-form_label Ext = codes "29 bits"
-form_label Pdu1 = codes "PGN addressed"
-form_label Pdu2 = codes "PGN broadcast"
-form_label Spn = codes "SPN"
+-- how many hexadecimal digits numbers of a form have; suspect parameter numbers are decimal alone
+abbrev pub width_of : BlockForm → Option HexWidth
+width_of block.Std = Some Three
+width_of block.Ext = Some Eight
+width_of block.Pgn = Some Four
+width_of block.Spn = None
 
+-- ---- cells
+
+-- a part of a bar, if it isn't 0
+abbrev pub share_html : List ℕ → ℕ → List ℕ
+share_html class n =
+    if n == 0 then []
+    else element_html tag.Italic (classed class ++ valued (codes " style=\"flex:") (decimal (short n))) []
+
+-- a bar of what is live, held and free, in the team's colour
+abbrev pub bar_cell : List (List ℕ) → List ℕ → Counts → List ℕ
+bar_cell names team left =
+    cell (around tag.Division (codes " class=\"bar\"")
+    (share_html (class_in shade.Live names team) left.live
+    ++ (share_html (class_in shade.Held names team) left.held
+    ++ share_html (class_in shade.Free names team) left.free)))
+
+abbrev pub held_cell : ℕ → List ℕ
+held_cell n = if n == 0 then element_html tag.Cell [] [] else number_cell (short n)
+
+-- few free numbers, in red
+abbrev pub few_html : ℕ → List ℕ
+few_html n =
+    if n == 0 then element_html tag.Emphasis [] (codes "none")
+    else around tag.Emphasis [] (codes "only " ++ decimal (short n))
+
+abbrev pub free_html : Counts → List ℕ
+free_html left = if few left then few_html left.free else decimal (short left.free)
+
+-- a comma and the run for each
+abbrev pub later_html : Option HexWidth → List Run → List ℕ
+later_html width runs = flat_map (λ (r : Run). codes ", " ++ both width r) runs
+
+-- runs with commas between
+abbrev pub runs_html : Option HexWidth → List Run → List ℕ
+runs_html width [] = []
+runs_html width (r ∷ runs) = both width r ++ later_html width runs
+
+abbrev pub more_html : ℕ → List ℕ
+more_html n = if n == 0 then [] else codes " and " ++ (decimal n ++ codes " more")
+
+-- the first runs of free numbers, and how many more there are
+abbrev pub runs_cell : NumberForm → List Run → List ℕ
+runs_cell form runs =
+    cell (runs_html (width_of (block_form form)) (take 4 runs) ++ more_html (length runs - 4))
+
+-- ---- rows
+
+-- a team's numbers of a kind
+abbrev pub left_row : List (List ℕ) → List ℕ → NumberForm → Counts → List ℕ
+left_row names team form left =
+    around tag.Row []
+    (around tag.HeadCell [] (badge names team) ++ (element_html tag.Cell [] (form_words form)
+    ++ (number_cell (short (granted left)) ++ (bar_cell names team left ++ (number_cell (short left.live)
+    ++ (held_cell left.held ++ (cell (free_html left) ++ runs_cell form left.runs)))))))
+
+-- a row, if the team has such a number
+abbrev pub row_if : List (List ℕ) → List ℕ → NumberForm → Counts → List ℕ
+row_if names team form left = if granted left == 0 then [] else left_row names team form left
+
+-- the kinds, in the order of the table
 abbrev pub forms : List NumberForm
 forms = Std ∷ Ext ∷ Pdu2 ∷ Pdu1 ∷ Spn ∷ []
 
--- the team's blocks of these numbers
-abbrev pub is_of : List ℕ → NumberForm → GrantedBlock → Bool
-is_of team form g = bytes_eq g.team team && same_form g.block.form (block_form form)
+abbrev pub form_row : (BlockForm → Known) → List GrantedBlock → List (List ℕ) → List ℕ → NumberForm → List ℕ
+form_row known blocks names team form = row_if names team form (left_of known blocks team form)
 
-abbrev pub blocks_of : View → List ℕ → NumberForm → List GrantedBlock
-blocks_of view team form = filter (is_of team form) view.blocks
+-- a row for each kind of which the team has a number
+abbrev pub team_rows : (BlockForm → Known) → List GrantedBlock → List (List ℕ) → List ℕ → List ℕ
+team_rows known blocks names team = flat_map (form_row known blocks names team) forms
 
--- the block's numbers of the form that are live, and those that are taken and not live
-abbrev pub live_in : List ℕ → NumberForm → Range → ℕ
-live_in live form b = count_by (λ n. is_taken n live && has_form form n) (numbers_in b)
+-- those of each team
+abbrev pub all_rows : (BlockForm → Known) → Subject → List ℕ
+all_rows known subject =
+    flat_map (team_rows known subject.blocks.now (names_of subject)) (names_of subject)
 
-abbrev pub is_beside : List ℕ → NumberForm → ℕ → Bool
-is_beside live form n = has_form form n && not (is_taken n live)
+abbrev pub heads : List (List ℕ)
+heads = map (λ head. head.now) HEADS.now
 
-abbrev pub held_in : List ℕ → List ℕ → NumberForm → Range → ℕ
-held_in live taken form b = count_by (λ n. is_taken n taken && is_beside live form n) (numbers_in b)
+abbrev pub teams_table : (BlockForm → Known) → Subject → List ℕ
+teams_table known subject =
+    wide_html (codes "Numbers left") (table_html (codes "nums lot") heads (all_rows known subject))
 
--- of a granted block, with those that are free
-abbrev pub live_at : List ℕ → NumberForm → GrantedBlock → ℕ
-live_at live form g = live_in live form g.block
+-- ---- blocks
 
-abbrev pub held_at : List ℕ → List ℕ → NumberForm → GrantedBlock → ℕ
-held_at live taken form g = held_in live taken form g.block
+abbrev pub run_of : Range → Run
+run_of b = record { first = b.first; last = b.last }
 
-abbrev pub free_at : List ℕ → NumberForm → GrantedBlock → ℕ
-free_at taken form g = length (free_numbers taken g.block form)
+-- a block and whose it is
+abbrev pub block_item : List (List ℕ) → GrantedBlock → List ℕ
+block_item names g =
+    around tag.Item []
+    (element_html tag.Bold [] (block_words g.block.form) ++ (codes " " ++ (both (width_of g.block.form) (run_of g.block)
+    ++ (codes " " ++ badge names g.team))))
 
-abbrev pub runs_at : List ℕ → NumberForm → GrantedBlock → List Run
-runs_at taken form g = runs_in taken g.block form
+-- an item for each block, in order
+abbrev pub block_list : List (List ℕ) → List GrantedBlock → List ℕ
+block_list names blocks = around tag.List (codes " class=\"cols\"") (flat_map (block_item names) blocks)
 
--- what is left of a team's numbers of a form: how many are live, held and free, and the runs of the free ones
-pub record TeamLeft : Type 0 where
-  pub form : NumberForm
-  pub live : ℕ
-  pub held : ℕ
-  pub free : ℕ
-  pub runs : List Run
+abbrev pub blocks_html : Subject → List ℕ
+blocks_html subject =
+    fold_html false (counted (length subject.blocks.now) (codes "block"))
+    (block_list (names_of subject) subject.blocks.now)
 
-abbrev pub left_in : List ℕ → List ℕ → NumberForm → List GrantedBlock → TeamLeft
-left_in live taken form blocks = record {
-  form = form;
-  live = sum (map (live_at live form) blocks);
-  held = sum (map (held_at live taken form) blocks);
-  free = sum (map (free_at taken form) blocks);
-  runs = flat_map (runs_at taken form) blocks;
-}
+-- ---- the part
 
-abbrev pub left_of : View → List ℕ → NumberForm → TeamLeft
-left_of view team form = left_in (live_numbers (block_form form) view) (taken_numbers (block_form form) view) form
-    (blocks_of view team form)
+-- how blocks are granted, where there is none
+abbrev pub no_block_html : List ℕ → List ℕ
+no_block_html name =
+    around tag.Paragraph []
+    (codes "No block is granted. " ++ (quiet (codes "The office grants them: ")
+    ++ around tag.Code [] (codes "grant net=" ++ (escaped name ++ codes " team=.. form=.. first=.. last=.."))))
 
--- ---- a row
+abbrev pub left_body : View → Subject → List ℕ
+left_body view subject =
+    if length subject.blocks.now == 0 then no_block_html subject.name.now
+    else teams_table (known_of view) subject
+    ++ (element_html tag.Paragraph (codes " class=\"q\"") NOTE.now ++ blocks_html subject)
 
-abbrev pub granted : TeamLeft → ℕ
-granted left = left.live + left.held + left.free
-
--- a part of the bar grows by its count
-abbrev pub bar_part : List ℕ → ℕ → List ℕ
-bar_part kind n =
-    if n == 0 then [] else codes "<i class=" ++ (kind ++ (codes " style=flex:" ++ (decimal n ++ codes "></i>")))
-
-abbrev pub bar : List ℕ → TeamLeft → List ℕ
-bar colour left =
-    codes "<p class=\"z " ++ (colour ++ (codes "\">" ++ (bar_part (codes "l") left.live
-    ++ (bar_part (codes "h") left.held ++ (bar_part (codes "f") left.free ++ codes "</p>")))))
-
--- fewer than three, of eight or more
-abbrev pub is_scarce : TeamLeft → Bool
-is_scarce left = nat_lt left.free 3 && nat_le 8 (granted left)
-
-abbrev pub free_count : TeamLeft → List ℕ
-free_count left =
-    if is_scarce left
-    then (if left.free == 0 then codes "<em>none</em>" else codes "<em>only " ++ (decimal left.free ++ codes "</em>"))
-    else decimal left.free
-
--- the first four runs, and how many more there are
-abbrev pub more_runs : ℕ → List ℕ
-more_runs n = if nat_lt 4 n then codes " and " ++ (decimal (n - 4) ++ codes " more") else []
-
-abbrev pub some_runs : List Run → List ℕ
-some_runs runs = runs_text (take 4 runs) ++ more_runs (length runs)
-
-abbrev pub row_start : Plan → List ℕ → Bool → List ℕ
-row_start plan team first =
-    if first then codes "<tr class=o><th>" ++ badge plan team else codes "<tr><th>"
-
-abbrev pub granted_cells : List ℕ → TeamLeft → List ℕ
-granted_cells colour left =
-    codes "<td>" ++ (form_label left.form ++ (codes "<td>" ++ (decimal (granted left)
-    ++ (codes "<td>" ++ bar colour left))))
-
--- a count that isn't 0
-abbrev pub count_if : ℕ → List ℕ
-count_if n = if n == 0 then [] else decimal n
-
-abbrev pub count_cells : TeamLeft → List ℕ
-count_cells left =
-    codes "<td>" ++ (decimal left.live ++ (codes "<td>" ++ (count_if left.held ++ (codes "<td>" ++ (free_count left
-    ++ (codes "<td>" ++ (some_runs left.runs ++ codes "\n")))))))
-
-abbrev pub left_row : Plan → List ℕ → ℕ × TeamLeft → List ℕ
-left_row plan team p =
-    row_start plan team (p.0 == 0) ++ (granted_cells (tone (place_of plan team)) p.1 ++ count_cells p.1)
-
--- the team has numbers of the form
-abbrev pub has_numbers : TeamLeft → Bool
-has_numbers left = not (granted left == 0)
-
--- what is left of the numbers of a form, if the team has some; the same of each form
-abbrev pub lefts_of : View → List ℕ → NumberForm → List TeamLeft
-lefts_of view team form = filter has_numbers (left_of view team form ∷ [])
-
-abbrev pub team_lefts : View → List ℕ → List TeamLeft
-team_lefts view team = flat_map (lefts_of view team) forms
-
-abbrev pub team_rows : View → Plan → List ℕ → List ℕ
-team_rows view plan team = flat_map (left_row plan team) (enumerate_from 0 (team_lefts view team))
-
--- ---- all blocks
-
-abbrev pub block_label : BlockForm → List ℕ
-block_label block.Std = codes "11 bits"
-block_label block.Ext = codes "29 bits"
-block_label block.Pgn = codes "PGN"
-block_label block.Spn = codes "SPN"
-
-abbrev pub range_text : Range → List ℕ
-range_text b = if b.first == b.last then decimal b.first else decimal b.first ++ (codes "-" ++ decimal b.last)
-
-abbrev pub block_item : Plan → GrantedBlock → List ℕ
-block_item plan g =
-    codes "<li><b>" ++ (block_label g.block.form ++ (codes "</b> " ++ (range_text g.block
-    ++ (codes " " ++ (badge plan g.team ++ codes "\n")))))
-
-abbrev pub blocks_fold : Plan → List ℕ
-blocks_fold plan =
-    codes "<details><summary>" ++ (counted (length plan.blocks) (codes "block") (codes "blocks")
-    ++ (codes "</summary><ul class=n>" ++ (flat_map (block_item plan) plan.blocks ++ codes "</ul></details>\n")))
-
--- ---- the whole
-
-abbrev pub left_heads : List ℕ
-left_heads =
-    codes "<th>Team<th>Numbers<th>Granted<th>Live, held, free<th>Live<th>Held<th>Free"
-    ++ codes "<th>Free numbers, the next one first"
-
-abbrev pub left_note : List ℕ
-left_note =
-    codes "<p class=q>Of SPNs, held is: used once, and on no live signal here."
-    ++ codes " Red is: fewer than three left, of eight or more.</p>\n"
-
-abbrev pub left_table : View → Plan → List ℕ
-left_table view plan =
-    table_start (codes "a") left_heads ++ (flat_map (team_rows view plan) plan.teams
-    ++ (table_end ++ (left_note ++ blocks_fold plan)))
-
-abbrev pub left_body : View → Plan → List ℕ
-left_body view plan =
-    if length plan.blocks == 0 then codes "<p>No block is granted.</p>\n" else left_table view plan
-
-abbrev pub left_part : View → Plan → List ℕ
-left_part view plan =
-    codes "<section id=left><h2>Numbers left</h2>\n" ++ (left_body view plan ++ codes "</section>\n")
+abbrev pub left_html : View → Subject → List ℕ
+left_html view subject = part_html (codes "left") (codes "Numbers left") None (left_body view subject)

@@ -1,262 +1,312 @@
 //! The cells of the map.
-ghost use Rattle.std.specs.Prelude.{◌≡◌, ◌≤◌, ◌==◌, ◌++◌, OnOk, is_some, length, not};
-ghost use Rattle.std.specs.List.{list_any};
+ghost use Rattle.std.specs.Prelude.{◌≡◌, ◌++◌, [], ℕ, List, IfOk, OnOk, map, take, unwrap_or};
 ghost use Rattle.std.specs.Option.{option_copied};
-ghost use Rattle.page_plan.specs.Badges.{place_if};
+ghost use Rattle.markup.specs.Html.{words};
+ghost use Rattle.markup.specs.Writing.{Becomes, adding, beginning};
+ghost use Rattle.markup.specs.declared.tag.Tag.TheVariants as tag;
 ghost use Rattle.office_looks.specs.Held.{team_at};
-ghost use Rattle.page_numbers.specs.LiveIndex.{message_in};
-ghost use Rattle.page_numbers.specs.Map.{cell, cell_start, first_live, free_cell, has_at, held_cell, is_granted};
-ghost use Rattle.page_numbers.specs.Map.{is_held, is_kind, kind_at, kind_from, letters_or, live_at, live_cell};
-ghost use Rattle.page_numbers.specs.Map.{live_link, more_text};
+ghost use Rattle.office_types.specs.Free.{is_taken};
+ghost use Rattle.page_numbers.specs.CellHtml.{IsCellHtml, IsCellOf, IsLater, IsLiveCell, IsNamed, IsTitle};
+ghost use Rattle.page_numbers.specs.CellHtml.{free_cell, held_cell, link_to, more_words, part_kind};
+ghost use Rattle.page_numbers.specs.Cells.{IsCell};
+ghost use Rattle.page_numbers.specs.Charts.{has};
+ghost use Rattle.page_numbers.specs.Elements.{ArePieces, IsMoreBy};
+ghost use Rattle.page_numbers.specs.Index.{live_at, message_at};
 
-use crate::live_index::{LivePlace, has_at};
-use crate::map_plan::MapPlan;
-use can_id::Ident;
-use html::push_number;
-use office_looks::{is_number_of, team_at};
-use office_types::{BlockForm, Team};
-use page_plan::{CAPITAL, Piece, Plan, SMALL, place_of, push_letters, push_pieces, push_tone};
-use std::alloc::AllocError;
+use crate::charts::Chart;
+use crate::index::{FormIndex, Place};
+use markup::{Attribute, Markup, Piece, Tag};
+use office_looks::team_at;
+use office_types::{GrantedBlock, Team};
+use page_parts::{Letters, Shade};
+use std::alloc::{AllocError, Global};
+
+/// How many messages of a number are named.
+const NAMED: usize = 4;
 
 /// What a number is.
-#[derive(Clone, Copy, PartialEq, Eq)]
-pub(crate) enum CellKind {
-    /// A live message has it.
-    Live,
-    /// It is held for good.
-    Held,
-    /// It is in a block, and may be given out.
-    Free,
+#[derive(Clone, Copy)]
+pub(crate) enum Cell<'c, 'a> {
+    /// Messages have it: the first of them, and the others.
+    Live(&'c Place<'a>, &'c [Place<'a>]),
+    /// It is held for good, and in the block of this team, if in one.
+    Held(Option<&'c Team>),
+    /// It is in the block of this team, and may be given out.
+    Free(&'c Team),
     /// It is nobody's.
-    Blank,
+    Nobody,
 }
 
-/// Whether one of the identifiers has the number.
-fn is_among(idents: &[Ident], form: BlockForm, number: u32) -> bool
-    ensures { result ≡ list_any (has_at form number) idents.now }
+/// What the number of the chart is, where no message has it.
+fn unused_at<'c, 'a>(
+    chart: Chart,
+    index: &'c FormIndex<'a>,
+    blocks: &'c [GrantedBlock],
+    number: u32,
+) -> Cell<'c, 'a>
+    ensures { IsCell [] (is_taken number index.now.held)
+        (team_at blocks.now index.now.live.form number) (has chart number) result }
 {
-    idents.iter().any(|ident| has_at(form, number, *ident))
+    let team = team_at(blocks, index.live.form(), number);
+    if index.held.has(number) {
+        return Cell::Held(team);
+    }
+    match team {
+        None => Cell::Nobody,
+        Some(team) => {
+            if chart.has(number) {
+                Cell::Free(team)
+            } else {
+                Cell::Nobody
+            }
+        }
+    }
 }
 
-fn is_held(plan: &MapPlan, form: BlockForm, number: u32) -> bool
-    ensures { result ≡ is_held plan.now form number }
+/// What the number of the chart is, where these blocks are all that may have it.
+fn cell_at<'c, 'a>(
+    chart: Chart,
+    index: &'c FormIndex<'a>,
+    blocks: &'c [GrantedBlock],
+    number: u32,
+) -> Cell<'c, 'a>
+    ensures { IsCell (live_at index.now.live.messages index.now.live.form number)
+        (is_taken number index.now.held) (team_at blocks.now index.now.live.form number)
+        (has chart number) result }
 {
-    is_among(plan.plan().held(), form, number)
+    match index.live.places(number) {
+        [first, others @ ..] => Cell::Live(first, others),
+        [] => unused_at(chart, index, blocks, number),
+    }
 }
 
-/// Whether a block has the number.
-fn has_team(plan: &MapPlan, form: BlockForm, number: u32) -> bool
-    ensures { result ≡ is_some (team_at plan.now.blocks form number) }
+// ---- of messages
+
+/// Adds a message and its owner to a title.
+fn add_named<'a>(title: &mut Vec<Piece<'a>>, place: &Place<'a>) -> Result<(), AllocError>
+    ensures { OnOk result ((named : List ℕ) × (IsNamed (message_at place.now) named
+        × (words title.new.items ≡ words title.old.items ++ named))) }
 {
-    team_at(plan.plan().blocks(), form, number).is_some()
+    title.extend_from_slice(&[
+        Piece::Text(place.name()),
+        Piece::Text(b" ("),
+        Piece::Text(place.owner()),
+        Piece::Text(b")"),
+    ])?;
+    Ok(())
 }
 
-/// Whether the number is in a block, and may be given out.
-fn is_granted(plan: &MapPlan, form: BlockForm, number: u32) -> bool
-    ensures { result ≡ is_granted plan.now form number }
+/// Adds messages and their owners to a title, each after a comma.
+fn add_later<'a>(title: &mut Vec<Piece<'a>>, places: &[Place<'a>]) -> Result<(), AllocError>
+    ensures { OnOk result ((later : List ℕ)
+        × (ArePieces IsLater (map message_at places.now) later
+        × (words title.new.items ≡ words title.old.items ++ later))) }
 {
-    is_number_of(form, number) && has_team(plan, form, number)
+    for place in places {
+        title.push(Piece::Text(b", "))?;
+        add_named(title, place)?;
+    }
+    Ok(())
 }
 
-/// Whether a live message has the number.
-fn has_live(plan: &MapPlan, form: BlockForm, number: u32) -> bool
-    ensures { result ≡ not (length (live_at plan.now form number) == 0) }
+/// Adds to a title how many more messages there are, if any.
+fn add_more(title: &mut Vec<Piece<'_>>, more: usize) -> Result<(), AllocError>
+    ensures { OnOk result (words title.new.items ≡ words title.old.items ++ more_words more) }
 {
-    plan.live(form, number).len() != 0
+    if more != 0 {
+        let more = u32::try_from(more).unwrap_or(u32::MAX);
+        title.extend_from_slice(&[
+            Piece::Text(b" and "),
+            Piece::Number(more),
+            Piece::Text(b" more"),
+        ])?;
+    }
+    Ok(())
 }
 
-fn kind_from(live: bool, held: bool, granted: bool) -> CellKind
-    ensures { result ≡ kind_from live held granted }
+/// The first places that are named after another.
+fn named_of<'c, 'a>(others: &'c [Place<'a>]) -> &'c [Place<'a>]
+    ensures { result.now ≡ take 3 others.now }
 {
-    if live {
-        CellKind::Live
-    } else if held {
-        CellKind::Held
-    } else if granted {
-        CellKind::Free
+    if others.len() > NAMED - 1 {
+        return &others[..NAMED - 1];
+    }
+    others
+}
+
+/// The number, and the messages that have it.
+fn title_of<'a>(
+    alloc: Global,
+    number: u32,
+    first: &Place<'a>,
+    others: &[Place<'a>],
+) -> Result<Vec<Piece<'a>>, AllocError>
+    ensures { IfOk result (λ title. IsTitle number (message_at first.now)
+        (map message_at others.now) (words title.items)) }
+{
+    let mut title = Vec::new(alloc);
+    title.extend_from_slice(&[Piece::Number(number), Piece::Text(b" ")])?;
+    add_named(&mut title, first)?;
+    add_later(&mut title, named_of(others))?;
+    add_more(&mut title, others.len().saturating_sub(NAMED - 1))?;
+    Ok(title)
+}
+
+/// Adds the letters of those that own the messages; of three or more the first one and a sign.
+fn put_owners(page: &mut Markup, letters: &Letters<'_>, first: &Place<'_>, others: &[Place<'_>]) {
+    letters.put_letter_or(page, first.owner(), false, "\u{b7}");
+    let Some(second) = others.iter().find(|place| place.owner() != first.owner()) else {
+        return;
+    };
+    if others.iter().any(|place| place.owner() != first.owner()
+        && place.owner() != second.owner())
+    {
+        page.text(b"+");
     } else {
-        CellKind::Blank
+        letters.put_letter_or(page, second.owner(), false, "\u{b7}");
     }
 }
 
-/// What the number is.
-pub(crate) fn kind_at(plan: &MapPlan, form: BlockForm, number: u32) -> CellKind
-    ensures { result ≡ kind_at plan.now form number }
-{
-    kind_from(
-        has_live(plan, form, number),
-        is_held(plan, form, number),
-        is_granted(plan, form, number),
-    )
+/// The letters of those that own the messages.
+fn owners_of(
+    alloc: Global,
+    letters: &Letters<'_>,
+    first: &Place<'_>,
+    others: &[Place<'_>],
+) -> Markup {
+    let mut part = Markup::new(alloc);
+    put_owners(&mut part, letters, first, others);
+    part
 }
 
-/// Whether both are the same.
-pub(crate) fn is_kind(first: CellKind, second: CellKind) -> bool
-    ensures { result ≡ is_kind first second }
+/// What the link of a cell leads to: the message, or the row of the first one.
+fn part_kind(others: &[Place<'_>]) -> &'static [u8]
+    ensures { result.now ≡ part_kind (map message_at others.now) }
 {
-    match (first, second) {
-        (CellKind::Live, CellKind::Live)
-        | (CellKind::Held, CellKind::Held)
-        | (CellKind::Free, CellKind::Free)
-        | (CellKind::Blank, CellKind::Blank) => true,
-        _ => false,
+    match others {
+        [] => b"m-",
+        [_, ..] => b"t-",
     }
 }
 
-/// Where the team is among those that have letters, if there is a team.
-fn place_if(plan: &MapPlan, team: Option<&Team>) -> Option<usize>
-    ensures { result ≡ place_if plan.now (option_copied team.entry) }
+/// Begins a link to the part of this kind and name, with this title. One `close` ends it.
+fn open_link<'a>(page: &mut Markup, kind: &'a [u8], name: &'a [u8], title: &'a [Piece<'a>])
+    ensures { Becomes page.new
+        (beginning tag.Link (link_to kind.now name.now (words title.now)) page.old) }
+{
+    page.open(
+        Tag::Link,
+        &[
+            Attribute::ToPart(&[Piece::Text(kind), Piece::Text(name)]),
+            Attribute::Title(title),
+            Attribute::Label(title),
+        ],
+    );
+}
+
+/// Adds a cell with a link to its message, or to the row of the first of them.
+fn put_live<'a>(
+    alloc: Global,
+    page: &mut Markup,
+    letters: &Letters<'_>,
+    number: u32,
+    first: &Place<'a>,
+    others: &[Place<'a>],
+) -> Result<(), AllocError>
+    ensures { OnOk result (IsMoreBy (IsLiveCell number (message_at first.now)
+        (map message_at others.now)) page.new page.old) }
+{
+    let title = title_of(alloc, number, first, others)?;
+    let class = letters.class_of(Shade::Live, first.owner());
+    page.open(Tag::Cell, &[Attribute::Class(class)]);
+    open_link(page, part_kind(others), first.name(), &title);
+    page.put(owners_of(alloc, letters, first, others));
+    page.close();
+    page.close();
+    Ok(())
+}
+
+// ---- of no message
+
+/// Adds a cell of a held number in the block of this team.
+fn put_held(page: &mut Markup, letters: &Letters<'_>, number: u32, team: &[u8])
+    ensures { Becomes page.new (adding (held_cell letters.now number team.now) page.old) }
+{
+    let class = letters.class_of(Shade::Held, team);
+    page.open(
+        Tag::Cell,
+        &[
+            Attribute::Class(class),
+            Attribute::Title(&[Piece::Number(number), Piece::Text(b" held")]),
+        ],
+    );
+    letters.put_letter_or(page, team, false, "\u{d7}");
+    page.close();
+}
+
+/// Adds a cell of a held number in the block of this team, if in one.
+fn put_held_of(page: &mut Markup, letters: &Letters<'_>, number: u32, team: Option<&Team>)
+    ensures { Becomes page.new (adding (held_cell letters.now number
+        (unwrap_or (option_copied team.entry) [])) page.old) }
 {
     match team {
-        None => None,
-        Some(team) => place_of(plan.plan(), team.as_bytes()),
+        Some(team) => put_held(page, letters, number, team.as_bytes()),
+        None => put_held(page, letters, number, b""),
     }
 }
 
-/// Appends the letters of a place, or the sign of an absent place.
-fn push_letters_or(
-    text: &mut Vec<u8>,
-    sign: &[u8],
-    first: u8,
-    place: Option<usize>,
-) -> Result<(), AllocError>
-    requires { first ≤ 97 }
-    ensures { OnOk result (text.new.items ≡ text.old.items ++ letters_or sign.now first place) }
+/// Adds a cell of a free number in the block of this team.
+fn put_free(page: &mut Markup, letters: &Letters<'_>, team: &[u8])
+    ensures { Becomes page.new (adding (free_cell letters.now team.now) page.old) }
 {
-    match place {
-        None => text.extend_from_slice(sign),
-        Some(index) => push_letters(text, first, index),
-    }
+    let class = letters.class_of(Shade::Free, team);
+    page.open(Tag::Cell, &[Attribute::Class(class)]);
+    letters.put_letter_or(page, team, true, "\u{b7}");
+    page.close();
 }
 
-fn push_cell_start(text: &mut Vec<u8>, kind: &[u8], place: Option<usize>) -> Result<(), AllocError>
-    ensures { OnOk result (text.new.items ≡ text.old.items ++ cell_start kind.now place) }
-{
-    text.extend_from_slice(b"<td class=\"")?;
-    text.extend_from_slice(kind)?;
-    text.extend_from_slice(b" ")?;
-    push_tone(text, place)?;
-    text.extend_from_slice(b"\"")?;
-    Ok(())
-}
-
-fn push_more(text: &mut Vec<u8>, count: usize) -> Result<(), AllocError>
-    ensures { OnOk result (text.new.items ≡ text.old.items ++ more_text count) }
-{
-    if count <= 1 {
-        return Ok(());
-    }
-    push_pieces(
-        text,
-        &[
-            Piece::Html(b" and "),
-            Piece::Number(count as u128 - 1),
-            Piece::Html(b" more"),
-        ],
-    )
-}
-
-fn push_live_link(
-    text: &mut Vec<u8>,
+/// Adds the cell of a number.
+fn put_cell(
+    alloc: Global,
+    page: &mut Markup,
+    letters: &Letters<'_>,
     number: u32,
-    count: usize,
-    name: &[u8],
-    place: Option<usize>,
+    cell: Cell<'_, '_>,
 ) -> Result<(), AllocError>
-    ensures { OnOk result (text.new.items
-        ≡ text.old.items ++ live_link number count name.now place) }
+    ensures { OnOk result (IsMoreBy (IsCellOf letters.now number cell.entry) page.new page.old) }
 {
-    text.extend_from_slice(b"<a href=#m-")?;
-    text.extend_from_slice(name)?;
-    text.extend_from_slice(b" title=\"")?;
-    push_number(text, number as usize)?;
-    text.extend_from_slice(b" ")?;
-    text.extend_from_slice(name)?;
-    push_more(text, count)?;
-    text.extend_from_slice(b"\">")?;
-    push_letters_or(text, b"&#183;", CAPITAL, place)?;
-    text.extend_from_slice(b"</a>")?;
-    Ok(())
-}
-
-/// Appends the cell of a number that so many live messages have, of which this one is the first.
-fn push_first_live(
-    text: &mut Vec<u8>,
-    plan: &Plan,
-    number: u32,
-    count: usize,
-    first: &LivePlace,
-) -> Result<(), AllocError>
-    ensures { OnOk result (text.new.items
-        ≡ text.old.items ++ first_live plan.now number count (message_in first.now)) }
-{
-    let place = place_of(plan, first.owner().as_bytes());
-    push_cell_start(text, b"l", place)?;
-    text.extend_from_slice(b">")?;
-    push_live_link(text, number, count, first.message().name.as_bytes(), place)?;
-    Ok(())
-}
-
-/// Appends the cell of a number that live messages have.
-fn push_live_cell(
-    text: &mut Vec<u8>,
-    plan: &MapPlan,
-    form: BlockForm,
-    number: u32,
-) -> Result<(), AllocError>
-    ensures { OnOk result (text.new.items
-        ≡ text.old.items ++ live_cell plan.now number (live_at plan.now form number)) }
-{
-    let places = plan.live(form, number);
-    let [first, _others @ ..] = places else {
-        return Ok(());
-    };
-    push_first_live(text, plan.plan(), number, places.len(), first)
-}
-
-fn push_held_cell(text: &mut Vec<u8>, number: u32, place: Option<usize>) -> Result<(), AllocError>
-    ensures { OnOk result (text.new.items ≡ text.old.items ++ held_cell number place) }
-{
-    push_cell_start(text, b"h", place)?;
-    text.extend_from_slice(b" title=\"")?;
-    push_number(text, number as usize)?;
-    text.extend_from_slice(b" held\">")?;
-    push_letters_or(text, b"&#215;", CAPITAL, place)?;
-    Ok(())
-}
-
-fn push_free_cell(text: &mut Vec<u8>, place: Option<usize>) -> Result<(), AllocError>
-    ensures { OnOk result (text.new.items ≡ text.old.items ++ free_cell place) }
-{
-    push_cell_start(text, b"f", place)?;
-    text.extend_from_slice(b">")?;
-    push_letters_or(text, &[], SMALL, place)
-}
-
-/// Appends the cell of the number.
-pub(crate) fn push_cell(
-    text: &mut Vec<u8>,
-    plan: &MapPlan,
-    form: BlockForm,
-    number: u32,
-) -> Result<(), AllocError>
-    ensures { OnOk result (text.new.items ≡ text.old.items ++ cell plan.now form number) }
-{
-    match kind_at(plan, form, number) {
-        CellKind::Live => push_live_cell(text, plan, form, number),
-        CellKind::Held => {
-            push_held_cell(
-                text,
-                number,
-                place_if(plan, team_at(plan.plan().blocks(), form, number)),
-            )
+    match cell {
+        Cell::Live(first, others) => put_live(alloc, page, letters, number, first, others),
+        Cell::Held(team) => {
+            put_held_of(page, letters, number, team);
+            Ok(())
         }
-        CellKind::Free => {
-            push_free_cell(
-                text,
-                place_if(plan, team_at(plan.plan().blocks(), form, number)),
-            )
+        Cell::Free(team) => {
+            put_free(page, letters, team.as_bytes());
+            Ok(())
         }
-        CellKind::Blank => text.extend_from_slice(b"<td>"),
+        Cell::Nobody => {
+            page.element(Tag::Cell, &[], b"");
+            Ok(())
+        }
     }
+}
+
+/// Adds the cell of a number of the chart, where these blocks are all that may have it.
+pub(crate) fn put_number(
+    alloc: Global,
+    page: &mut Markup,
+    letters: &Letters<'_>,
+    chart: Chart,
+    index: &FormIndex<'_>,
+    blocks: &[GrantedBlock],
+    number: u32,
+) -> Result<(), AllocError>
+    ensures { OnOk result (IsMoreBy (IsCellHtml letters.now number
+        (live_at index.now.live.messages index.now.live.form number)
+        (is_taken number index.now.held) (team_at blocks.now index.now.live.form number)
+        (has chart number)) page.new page.old) }
+{
+    let cell = cell_at(chart, index, blocks, number);
+    put_cell(alloc, page, letters, number, cell)
 }

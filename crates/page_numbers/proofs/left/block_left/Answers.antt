@@ -1,7 +1,0 @@
-use Rattle.std.proofs.Common.{◌∙◌, sym}
-use Rattle.page_numbers.proofs.InBlocks.{one_form}
-use Rattle.page_numbers.proofs.left.block_left.Goals as goal
-
-pub whole_left-requires : goal.whole_left-requires
-whole_left-requires c =
-    one_form c.args.block.form c.args.form c.requires (sym c.is_group.ensures ∙ c.if-is_group.false)

@@ -1,0 +1,9 @@
+use Rattle.std.proofs.Common.{take}
+use Rattle.std.specs.List.{flat_map}
+use Rattle.markup.specs.Writing.{Becomes, adding}
+use Rattle.page_numbers.specs.Left.{block_item}
+use Rattle.page_numbers.proofs.left.put_items.Given as goal
+
+abbrev pub invariant-loop-granted : goal.invariant-loop-granted
+invariant-loop-granted l =
+    Becomes l.page (adding (flat_map (block_item l.letters) (take l.granted-index l.blocks)) l.initial.page)

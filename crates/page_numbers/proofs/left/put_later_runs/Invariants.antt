@@ -1,0 +1,7 @@
+use Rattle.std.proofs.Common.{take}
+use Rattle.markup.specs.Writing.{Becomes, adding}
+use Rattle.page_numbers.specs.Left.{later_html}
+use Rattle.page_numbers.proofs.left.put_later_runs.Given as goal
+
+abbrev pub invariant-loop-run : goal.invariant-loop-run
+invariant-loop-run l = Becomes l.page (adding (later_html l.width (take l.run-index l.later)) l.initial.page)

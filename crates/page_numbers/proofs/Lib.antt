@@ -1,7 +1,10 @@
-mod Failed
-mod InBlocks
-pub mod LivePlaces
-pub mod Ranges
-pub mod Rows
+pub mod Alike
+pub mod Closing
+pub mod InBlocks
+pub mod MapFacts
+pub mod Nearby
+pub mod Parts
+pub mod Pieces
+pub mod Places
+pub mod SameRows
 pub mod Totals
-mod NumberRows

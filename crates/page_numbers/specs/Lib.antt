@@ -1,3 +1,13 @@
-pub mod Map
-pub mod LiveIndex
+pub mod CellHtml
+pub mod Cells
+pub mod Charts
+pub mod Counts
+pub mod Elements
+pub mod Held
+pub mod Index
 pub mod Left
+pub mod Map
+pub mod Ordered
+pub mod Rows
+pub mod Spns
+pub mod Tally

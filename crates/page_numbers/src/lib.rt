@@ -1,19 +1,27 @@
-//! The map of the numbers of a network on a page, and what is left of each team's.
+//! The numbers of a page: what is left of each team's, the map of them, suspect parameter numbers, and what is held.
 //!
-//! - [`push_map`] appends the map: a cell for each number of each row that has one in use, held or granted, in tables
-//!   of at most 256 numbers (`specs/Map.antt`). A cell finds its message by binary search (`LiveIndex.antt`).
-//! - [`push_left`] appends, for each team and each form of block, how many of its numbers are in use, held and free,
-//!   and the first runs of the free ones (`Left.antt`). What is left is what the looks show.
-//!
-//! Each fails only if memory runs out.
+//! - [`put_left`]: for each team and each kind of numbers how many are live, held and free, and the first runs of free
+//!   ones, as the looks have it (`tally`); and a list of all blocks. `specs/Left.antt`, `Counts.antt`.
+//! - [`put_map`]: a cell for each number of each row that isn't all nobody's (`cells`), in tables of 256 numbers
+//!   (`charts`). It finds the messages of a number (`index`) and the blocks near it (`near`) by binary search.
+//!   `specs/Map.antt`, and `Rows.antt` for which rows there are.
+//! - [`put_spns`]: where each suspect parameter number is, or last was ([`SpnRows`]). `specs/Spns.antt`.
+//! - [`put_held`]: the identifiers that are held for good. `specs/Held.antt`.
 #![tactic(auto)]
 
 mod cells;
+mod charts;
+mod held;
+mod index;
+mod laws;
 mod left;
-mod live_index;
 mod map;
-mod map_plan;
-mod pages;
+mod near;
+mod spns;
+mod tally;
 
-pub use left::push_left;
-pub use map::push_map;
+pub use held::put_held;
+pub use laws::counts_are_all;
+pub use left::put_left;
+pub use map::{has_map, put_map};
+pub use spns::{SpnRow, SpnRows, put_spns};

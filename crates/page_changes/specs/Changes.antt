@@ -1,141 +1,120 @@
--- What has changed from one sheet to another, line by line.
-use Rattle.std.specs.Prelude.{ℕ, ◌==◌, ◌&&◌, Bool, false, List, [], ◌∷◌, ◌++◌, codes, decimal, filter, find, length}
-use Rattle.std.specs.Prelude.{is_none, Option, Some, None, if◌then◌else◌}
-use Rattle.std.specs.List.{flat_map}
-use Rattle.std.specs.Option.{option_map_or}
-use Rattle.std.specs.Str.{bytes_eq}
-use Rattle.can_id.specs.J1939.{ident_fields, pgn_of}
-use Rattle.can_id.specs.declared.ident.Ident.{Ident}
-use Rattle.dbc_sheet.specs.Pairs.{has_changed, partner}
-use Rattle.dbc_sheet.specs.declared.counts.Counts.{Counts}
-use Rattle.dbc_sheet.specs.Messages.{message_at, number_of}
-use Rattle.dbc_sheet.specs.declared.message.Message.{Message}
-use Rattle.dbc_sheet.specs.declared.signal.Signal.{Signal}
-use Rattle.html.specs.Elements.{joined}
-use Rattle.page_changes.specs.Fields.{message_differences, signal_differences}
-use Rattle.page_plan.specs.Links.{message_link}
-use Rattle.page_plan.specs.Numbers.{counted, ident_code}
-use Rattle.page_plan.specs.Plan.{Plan}
-use Rattle.page_changes.specs.declared.mark.Mark.{Mark}
-use Rattle.page_changes.specs.declared.mark.Mark.TheVariants.{Added, Removed, Changed}
+-- The differences of two sheets, by message. What differs of a message is a list of differences.
+use Rattle.std.specs.Prelude.{ℕ, ◌+◌, ◌≤◌, ◌==◌, ◌&&◌, not, Bool, true, false, List, [], ◌∷◌, count_by, filter, find, map}
+use Rattle.std.specs.Prelude.{unwrap_or, vec_len, if◌then◌else◌}
+use Rattle.std.specs.Borrow.{Bor}
+use Rattle.std.specs.List.Sorted.{IsStrictlySortedBy}
+use Rattle.std.specs.Ordering.{nat_cmp, on}
+use Rattle.can_id.specs.Ident.{dbc_number}
+use Rattle.dbc_compare.specs.Lines.{breaks}
+use Rattle.dbc_compare.specs.declared.difference.Difference.{Difference}
+use Rattle.dbc_compare.specs.declared.place.Place.{Place}
+use Rattle.dbc_compare.specs.declared.place.Place.TheVariants as place
+use Rattle.page_changes.specs.Parts.{parts_by}
+use Rattle.page_changes.specs.declared.changes.Changes.{Changes}
 
--- ---- a line: its class, its title and its sign
+-- ---- of a difference
 
-abbrev pub mark_start : Mark → List ℕ
-mark_start Added = codes "<li class=p><b title=added>+</b> "
-mark_start Removed = codes "<li class=m><b title=removed>&#8722;</b> "
-mark_start Changed = codes "<li class=c><b title=changed>&#8800;</b> "
+-- the place is in the message that has this number now
+abbrev pub place_is_in : ℕ → Place → Bool
+place_is_in n (place.Message old new) = dbc_number new.ident == n
+place_is_in n here = false
 
-abbrev pub marked : Mark → List ℕ → List ℕ
-marked mark text = mark_start mark ++ (text ++ codes "\n")
+abbrev pub are_one_message : Place → Place → Bool
+are_one_message (place.Message old new) there = place_is_in (dbc_number new.ident) there
+are_one_message here there = false
 
--- ---- of a message: what it says itself, then its signals, which are known by their names
+-- both are in one message
+abbrev pub is_beside : Difference → Difference → Bool
+is_beside d e = are_one_message d.place e.place
 
-abbrev pub signal_named : List Signal → List ℕ → Option Signal
-signal_named signals name = find (λ (s : Signal). bytes_eq s.name name) signals
+abbrev pub place_is_in_message : Place → Bool
+place_is_in_message (place.Message old new) = true
+place_is_in_message here = false
 
--- the signal isn't among these
-abbrev pub is_absent : List Signal → Signal → Bool
-is_absent signals s = is_none (signal_named signals s.name)
+abbrev pub is_in_message : Difference → Bool
+is_in_message d = place_is_in_message d.place
 
-abbrev pub removed_line : Signal → List ℕ
-removed_line s = marked Removed (codes "signal " ++ s.name)
+-- the message in a place: the number that it had, the number that it has, and its name
+abbrev pub old_number_at : Place → ℕ
+old_number_at (place.Message old new) = dbc_number old.ident
+old_number_at here = 0
 
--- with its start and size
-abbrev pub added_line : Signal → List ℕ
-added_line s = marked Added (codes "signal " ++ (s.name ++ (codes ", "
-    ++ (decimal s.layout.start ++ (codes "|" ++ decimal s.layout.size)))))
+abbrev pub number_at : Place → ℕ
+number_at (place.Message old new) = dbc_number new.ident
+number_at here = 0
 
--- the line of what differs, if anything does; before it stands what it is about
-abbrev pub differing_line : List ℕ → List (List ℕ) → List ℕ
-differing_line about [] = []
-differing_line about (d ∷ differences) = marked Changed (about ++ joined (codes "; ") (d ∷ differences))
+abbrev pub name_at : Place → List ℕ
+name_at (place.Message old new) = new.name
+name_at here = []
 
-abbrev pub changed_if : Option Signal → Signal → List ℕ
-changed_if None s = []
-changed_if (Some old) s = differing_line (codes "signal " ++ (s.name ++ codes ": ")) (signal_differences old s)
+-- ---- of a message that differs
 
-abbrev pub changed_line : List Signal → Signal → List ℕ
-changed_line old s = changed_if (signal_named old s.name) s
+abbrev pub is_of_message : List Difference → Bool
+is_of_message [] = false
+is_of_message (d ∷ ds) = is_in_message d
 
-abbrev pub signal_lines : List Signal → List Signal → List ℕ
-signal_lines old new =
-    flat_map removed_line (filter (is_absent new) old)
-    ++ (flat_map added_line (filter (is_absent old) new) ++ flat_map (changed_line old) new)
+abbrev pub old_number_in : List Difference → ℕ
+old_number_in [] = 0
+old_number_in (d ∷ ds) = old_number_at d.place
 
-abbrev pub found_lines : Message → Message → List ℕ
-found_lines old new = differing_line [] (message_differences old new) ++ signal_lines old.signals new.signals
+abbrev pub number_in : List Difference → ℕ
+number_in [] = 0
+number_in (d ∷ ds) = number_at d.place
 
--- of two messages that aren't equal: where no field differs, their signals are in another order
-abbrev pub lines_or_order : List ℕ → List ℕ
-lines_or_order [] = marked Changed (codes "signals in another order")
-lines_or_order (b ∷ bs) = b ∷ bs
+abbrev pub name_in : List Difference → List ℕ
+name_in [] = []
+name_in (d ∷ ds) = name_at d.place
 
-abbrev pub message_lines : Message → Message → List ℕ
-message_lines old new = lines_or_order (found_lines old new)
+-- how many of its differences break a receiver
+abbrev pub breaking_in : List Difference → ℕ
+breaking_in ds = count_by breaks ds
 
--- ---- of a sheet
+-- ---- of two sheets
 
--- the message is on the page, under this name
-abbrev pub is_same_named : List ℕ → Option Message → Bool
-is_same_named name None = false
-is_same_named name (Some m) = bytes_eq m.name name
+abbrev pub list_of : Bor (List Difference) → List Difference
+list_of message = message.now
 
-abbrev pub is_here : Plan → Message → Bool
-is_here plan m = is_same_named m.name (message_at plan.sheet.messages (number_of m))
+abbrev pub number_of_change : Bor (List Difference) → ℕ
+number_of_change message = number_in (list_of message)
 
--- its name, as a link if it is there
-abbrev pub name_link : Plan → Message → List ℕ
-name_link plan m = if is_here plan m then message_link m.name else m.name
+-- the differences, if this holds
+abbrev pub kept_if : Bool → List Difference → List (List Difference)
+kept_if holds ds = if holds then ds ∷ [] else []
 
-abbrev pub group_text : Ident → List ℕ
-group_text i = option_map_or (λ f. codes " PGN " ++ decimal (pgn_of f)) (ident_fields i) []
+-- the messages that differ, each with all that differs of it
+abbrev pub messages_in : List Difference → List (List Difference)
+messages_in differences = filter is_of_message (parts_by is_beside differences)
 
--- identifier, parameter group, how many signals
-abbrev pub about : Message → List ℕ
-about m = ident_code m.ident ++ (group_text m.ident ++ (codes ", "
-    ++ counted (length m.signals) (codes "signal") (codes "signals")))
+abbrev pub is_elsewhere : Difference → Bool
+is_elsewhere d = not (is_in_message d)
 
-abbrev pub message_line : Mark → Plan → Message → List ℕ
-message_line mark plan m = marked mark (codes "message " ++ (name_link plan m ++ (codes " " ++ about m)))
+abbrev pub changes_in : Changes → List (List Difference)
+changes_in changes = map list_of changes.messages.items
 
-abbrev pub changed_item : Plan → Message → Message → List ℕ
-changed_item plan old m =
-    codes "<li>" ++ (name_link plan m ++ (codes "<ul class=d>" ++ (message_lines old m ++ codes "</ul>\n")))
+-- the messages that differ ascend by their numbers
+abbrev pub AreByNumber : Changes → Type 0
+AreByNumber changes = IsStrictlySortedBy (on number_of_change nat_cmp) changes.messages.items
 
--- of a message that isn't equal to its partner
-abbrev pub changed_item_if : Plan → Option Message → Message → List ℕ
-changed_item_if plan None m = []
-changed_item_if plan (Some old) m = if has_changed (Some old) m then changed_item plan old m else []
+-- what differs of the message of a number
+abbrev pub change_at : List (List Difference) → ℕ → List Difference
+change_at messages n = unwrap_or (find (λ m. number_in m == n) messages) []
 
-abbrev pub items_added : Plan → List Message → List Message → List ℕ
-items_added plan old new = flat_map (message_line Added plan) (filter (λ m. is_none (partner old new m)) new)
+-- nothing differs
+abbrev pub is_nothing : Changes → Bool
+is_nothing changes = changes.others == 0 && vec_len changes.messages == 0
 
-abbrev pub items_removed : Plan → List Message → List Message → List ℕ
-items_removed plan old new = flat_map (message_line Removed plan) (filter (λ m. is_none (partner new old m)) old)
+-- ---- in which order differences come
 
-abbrev pub items_changed : Plan → List Message → List Message → List ℕ
-items_changed plan old new = flat_map (λ m. changed_item_if plan (partner old new m) m) new
+-- those that are in no message first, and then those of messages by number
+abbrev pub order_at : Place → ℕ
+order_at (place.Message old new) = dbc_number new.ident + 1
+order_at here = 0
 
-abbrev pub changes_list : Plan → List Message → List Message → List ℕ
-changes_list plan old new =
-    codes "<ul class=d>" ++ (items_added plan old new
-    ++ (items_removed plan old new ++ (items_changed plan old new ++ codes "</ul>\n")))
+-- each comes no sooner than that, and no sooner than the one before it
+abbrev pub Rise : ℕ → List Difference → Type 0
+Rise least [] = Unit {0}
+Rise least (d ∷ ds) = (least ≤ order_at d.place) × Rise (order_at d.place) ds
 
--- ---- how much: `2 messages added, 1 removed, 3 changed`, those that aren't 0
-
-abbrev pub count_if : ℕ → List ℕ → List (List ℕ)
-count_if n word = if n == 0 then [] else (decimal n ++ (codes " " ++ word)) ∷ []
-
-abbrev pub added_if : ℕ → List (List ℕ)
-added_if n = if n == 0 then [] else (counted n (codes "message") (codes "messages") ++ codes " added") ∷ []
-
-abbrev pub count_words : Counts → List (List ℕ)
-count_words counts =
-    added_if counts.added ++ (count_if counts.removed (codes "removed") ++ count_if counts.changed (codes "changed"))
-
-abbrev pub is_nothing : Counts → Bool
-is_nothing counts = counts.added == 0 && (counts.removed == 0 && counts.changed == 0)
-
-abbrev pub summed : Counts → List ℕ
-summed counts = if is_nothing counts then codes "no change" else joined (codes ", ") (count_words counts)
+-- as a comparison lists them
+abbrev pub AreRising : List Difference → Type 0
+AreRising differences = Rise 0 differences

@@ -1,2 +1,10 @@
-mod ChangeRows
-pub mod Differences
+pub mod RisingNames
+pub mod Backwards
+pub mod Cutting
+pub mod ChangeParts
+pub mod LostParts
+pub mod MarkRows
+pub mod RisingDifferences
+pub mod RisingParts
+pub mod Steps
+pub mod Unchanged

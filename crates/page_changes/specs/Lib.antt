@@ -1,3 +1,10 @@
-pub mod Values
-pub mod Fields
+pub mod Names
+pub mod Parts
 pub mod Changes
+pub mod Fates
+pub mod Releases
+pub mod Marks
+pub mod Tables
+pub mod Since
+pub mod Act
+pub mod LastRelease

@@ -1,17 +1,27 @@
-//! What has changed from one sheet to another, as a list on a page.
+//! What has changed since a release, on a page.
 //!
-//! [`push_changes`] appends the messages that were added, removed and changed, which are those of `dbc_sheet`, and
-//! [`push_message_changes`] what has changed in one of them: its fields, the signals that are gone or new, and the
-//! fields of the others ([`signal_text`], [`push_spn`] and [`push_values`] are their texts). [`push_summed`] appends
-//! the numbers of them all. Each fails only if memory runs out. `specs/Changes.antt` and `Fields.antt` have the
-//! definitions.
+//! All of it comes of the differences of two sheets (`dbc_compare`). [`Changes`] has them by message, and how many of
+//! them break a receiver. [`put_since_words`] and [`put_since`] show what has changed since the last release, and
+//! [`marks_of`] tells the other parts of the page what has become of each message. [`put_releases`] lists the releases,
+//! with what each of them changed.
+//!
+//! The definitions are in `specs/`: which messages differ (`Changes.antt`) and what has become of them (`Fates.antt`,
+//! `Marks.antt`), the part of the last release (`LastRelease.antt`) with the nodes that must act (`Act.antt`) and the
+//! lists of messages (`Since.antt`), and the releases (`Releases.antt`).
 #![tactic(auto)]
 
+mod act;
 mod changes;
-mod fields;
-mod mark;
-mod values;
+mod laws;
+mod marks;
+mod names;
+mod releases;
+mod since;
+mod words;
 
-pub use changes::{is_nothing, push_changes, push_message_changes, push_summed, signal_named};
-pub use fields::{SignalField, push_spn, signal_text};
-pub use values::push_values;
+pub use changes::{Changes, Fate};
+pub use laws::differences_rise;
+pub use marks::marks_of;
+pub use names::ascending;
+pub use releases::put_releases;
+pub use since::{put_since, put_since_words};

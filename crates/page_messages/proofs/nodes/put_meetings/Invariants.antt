@@ -1,0 +1,9 @@
+use Rattle.std.proofs.Common.{take}
+use Rattle.std.specs.List.{flat_map}
+use Rattle.markup.specs.Writing.{Becomes, adding}
+use Rattle.page_messages.specs.Nodes.{meeting}
+use Rattle.page_messages.proofs.nodes.put_meetings.Given as goal
+
+abbrev pub invariant-loop-node : goal.invariant-loop-node
+invariant-loop-node l =
+    Becomes l.page (adding (flat_map (meeting l.message) (take l.node-index l.nodes)) l.initial.page)

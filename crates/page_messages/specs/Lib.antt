@@ -1,6 +1,10 @@
-pub mod Used
-pub mod Marks
-pub mod Groups
 pub mod Bits
-pub mod Signals
 pub mod Each
+pub mod Layouts
+pub mod Messages
+pub mod Names
+pub mod Nodes
+pub mod Remarks
+pub mod Signals
+pub mod Tables
+pub mod Used

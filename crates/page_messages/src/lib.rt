@@ -1,18 +1,39 @@
-//! All of each message on a page: what it is, what is at each bit of its payload, its signals, and what has changed.
+//! Parts of a page about the messages of a sheet.
 //!
-//! [`push_each`] appends the part. A payload is a table with a row for each byte, or for more bytes where no signal is,
-//! and one table for each value of a multiplexor (`specs/Groups.antt`, `Bits.antt`); what is new or changed since the
-//! last release is marked in it (`Marks.antt`), and so are bits that two signals have. [`used_bits`] counts the bits
-//! that signals have, and [`push_comment`] appends a comment. Each fails only if memory runs out.
+//! - [`put_messages`]: the table of all messages, a row for each.
+//! - [`put_nodes`]: the nodes, and which of them sends and receives which message.
+//! - [`put_each`]: all of each message: facts, from whom it goes to whom, comment, layouts, signals.
+//! - [`put_tables`]: the value tables.
+//! - [`put_remarks`] and [`put_remarks_line`]: what a check of the sheet found.
+//! - [`is_long`]: whether the sheet has a long name, for which cells break anywhere.
+//!
+//! What the parts tell is found here too: [`used_bits`] counts the bits that signals have, [`receivers_of`] lists the
+//! nodes that receive a message, and a layout is drawn from the bits that signals hold, in reading order. Each is found
+//! by sorting, so a part takes time in proportion to what it shows.
 #![tactic(auto)]
 
 mod bits;
-mod byte_rows;
+mod cells;
 mod each;
-mod groups;
-mod marks;
+mod facts;
+mod layouts;
+mod messages;
+mod names;
+mod nodes;
+mod receivers;
+mod remarks;
+mod rows;
+mod shown;
 mod signals;
+mod tables;
 mod used;
+mod whole_texts;
 
-pub use each::{push_comment, push_each};
+pub use each::put_each;
+pub use messages::put_messages;
+pub use names::{is_long, put_message_link, sender_of};
+pub use nodes::put_nodes;
+pub use receivers::{Receiver, receivers_of};
+pub use remarks::{put_remarks, put_remarks_line};
+pub use tables::put_tables;
 pub use used::used_bits;

@@ -1,207 +1,44 @@
 //! The table of a message's signals.
-ghost use Rattle.std.specs.Prelude.{◌≡◌, ◌++◌, IfOk, OnOk};
-ghost use Rattle.std.specs.List.{enumerate_from, flat_map};
-ghost use Rattle.std.specs.Option.{option_copied};
-ghost use Rattle.page_messages.specs.Signals.{break_between, cell_if, coding_cells, differ, folded_values, head_if};
-ghost use Rattle.page_messages.specs.Signals.{mux_mark, name_cells, note_cell, outside_mark, place_cell, signal_heads};
-ghost use Rattle.page_messages.specs.Signals.{signal_row, signals_table, table_with, unit_cells, value_cells};
+ghost use Rattle.std.specs.Prelude.{◌≡◌, IfOk, OnOk, codes, map};
+ghost use Rattle.std.specs.Cmp.Lexicographic.{pointwise};
+ghost use Rattle.std.specs.List.{join_by, list_all};
+ghost use Rattle.std.specs.Str.{bytes_eq};
+ghost use Rattle.markup.specs.Html.{escaped};
+ghost use Rattle.markup.specs.Writing.{Becomes, adding};
+ghost use Rattle.page_messages.specs.Signals.{column_cells, columns_of, comment_words, decimal_cell};
+ghost use Rattle.page_messages.specs.Signals.{has_common_receivers, listed_of, mux_mark, name_cell, note_cell};
+ghost use Rattle.page_messages.specs.Signals.{outside_mark, place_cells, range_cell, receivers_cell, signal_cells};
+ghost use Rattle.page_messages.specs.Signals.{signal_heads, signal_row, signal_table, signals_html, spn_cell};
+ghost use Rattle.page_messages.specs.Signals.{start_words, unit_cell, value_cells};
 
-use crate::marks::star;
+use crate::facts::{coding_of, common_coding};
+use crate::shown::Shown;
+use crate::tables::put_texts;
 use bitlayout::{Mux, inside};
-use dbc_sheet::{Message, Signal, ValueText};
-use html::{push_all, push_table_start, push_text};
-use page_changes::{SignalField, push_spn, push_values, signal_text};
-use page_plan::{Piece, push_pieces};
+use dbc_sheet::{Message, Receivers, Signal};
+use dbc_words::Name;
+use decimal::Decimal;
+use markup::{Attribute, Markup, Tag};
+use page_parts::{open_table, put_decimal, put_isolated, put_number_cell};
 use std::alloc::{AllocError, Global};
 
-/// How many texts for values aren't folded.
+/// How many texts of a signal aren't folded.
 const SHOWN_TEXTS: usize = 16;
 
-/// Whether not all signals have the same text of the field.
-pub(crate) fn differ(
-    alloc: Global,
-    field: SignalField,
-    signals: &[Signal],
-) -> Result<bool, AllocError>
-    ensures { IfOk result (λ found. found ≡ differ field signals.now) }
-{
-    let [first, others @ ..] = signals else {
-        return Ok(false);
-    };
-    let wanted = signal_text(alloc, field, first)?;
-    for other in others {
-        let text = signal_text(alloc, field, other)?;
-        if text.as_slice() != wanted.as_slice() {
-            return Ok(true);
-        }
-    }
-    Ok(false)
-}
+/// The heads of the columns that are always there, but the last one.
+const HEADS: &[&[u8]] = &[
+    b"#",
+    b"Signal",
+    b"Start|bits",
+    b"Factor",
+    b"Offset",
+    b"Range",
+    b"Unit",
+    b"SPN",
+];
 
-/// Appends a cell, if it is there.
-fn push_cell_if(text: &mut Vec<u8>, there: bool, content: &[u8]) -> Result<(), AllocError>
-    ensures { OnOk result (text.new.items ≡ text.old.items ++ cell_if there content.now) }
-{
-    if !there {
-        return Ok(());
-    }
-    push_all(text, &[b"<td>", content])
-}
-
-/// Appends a space and the multiplexer indicator, if there is one.
-fn push_mux_mark(text: &mut Vec<u8>, mux: Mux) -> Result<(), AllocError>
-    ensures { OnOk result (text.new.items ≡ text.old.items ++ mux_mark mux) }
-{
-    match mux {
-        Mux::Always => Ok(()),
-        _ => {
-            let indicator = mux.indicator();
-            push_all(text, &[b" ", indicator.as_bytes()])
-        }
-    }
-}
-
-fn push_name_cells(
-    text: &mut Vec<u8>,
-    old: Option<&Message>,
-    index: usize,
-    signal: &Signal,
-) -> Result<(), AllocError>
-    ensures { OnOk result (text.new.items
-        ≡ text.old.items ++ name_cells (option_copied old.entry) index signal.now) }
-{
-    push_pieces(
-        text,
-        &[
-            Piece::Html(b"<tr><td>"),
-            Piece::Number(index as u128 + 1),
-            Piece::Html(b"<th>"),
-            Piece::Html(star(old, signal)),
-            Piece::Html(signal.name.as_bytes()),
-        ],
-    )?;
-    push_mux_mark(text, signal.mux)
-}
-
-/// What marks a signal that isn't in a payload of so many bytes.
-fn outside_mark(bytes: u16, signal: &Signal) -> &'static [u8]
-    ensures { result.now ≡ outside_mark bytes signal.now }
-{
-    if inside(signal.layout, bytes) {
-        &[]
-    } else {
-        b" <em>outside</em>"
-    }
-}
-
-fn push_place_cell(text: &mut Vec<u8>, bytes: u16, signal: &Signal) -> Result<(), AllocError>
-    ensures { OnOk result (text.new.items ≡ text.old.items ++ place_cell bytes signal.now) }
-{
-    push_pieces(
-        text,
-        &[
-            Piece::Html(b"<td>"),
-            Piece::Number(u128::from(signal.layout.start)),
-            Piece::Html(b"|"),
-            Piece::Number(u128::from(signal.layout.size.bits())),
-            Piece::Html(outside_mark(bytes, signal)),
-        ],
-    )
-}
-
-fn push_value_cells(text: &mut Vec<u8>, signal: &Signal) -> Result<(), AllocError>
-    ensures { OnOk result (text.new.items ≡ text.old.items ++ value_cells signal.now) }
-{
-    push_pieces(
-        text,
-        &[
-            Piece::Html(b"<td>"),
-            Piece::Decimal(&signal.factor),
-            Piece::Html(b"<td>"),
-            Piece::Decimal(&signal.offset),
-            Piece::Html(b"<td>"),
-            Piece::Decimal(&signal.minimum),
-            Piece::Html(b" to "),
-            Piece::Decimal(&signal.maximum),
-        ],
-    )
-}
-
-fn push_unit_cells(text: &mut Vec<u8>, signal: &Signal) -> Result<(), AllocError>
-    ensures { OnOk result (text.new.items ≡ text.old.items ++ unit_cells signal.now) }
-{
-    push_pieces(
-        text,
-        &[
-            Piece::Html(b"<td>"),
-            Piece::Text(signal.unit.as_bytes()),
-            Piece::Html(b"<td>"),
-        ],
-    )?;
-    push_spn(text, signal.spn)
-}
-
-fn push_coding_cells(
-    alloc: Global,
-    text: &mut Vec<u8>,
-    codings: bool,
-    receivers: bool,
-    signal: &Signal,
-) -> Result<(), AllocError>
-    ensures { OnOk result (text.new.items
-        ≡ text.old.items ++ coding_cells codings receivers signal.now) }
-{
-    let coding = signal_text(alloc, SignalField::Coding, signal)?;
-    let names = signal_text(alloc, SignalField::Receivers, signal)?;
-    push_cell_if(text, codings, &coding)?;
-    push_cell_if(text, receivers, &names)
-}
-
-/// Appends texts for values, folded if they are many.
-fn push_folded_values(text: &mut Vec<u8>, values: &[ValueText]) -> Result<(), AllocError>
-    ensures { OnOk result (text.new.items ≡ text.old.items ++ folded_values values.now) }
-{
-    if values.len() <= SHOWN_TEXTS {
-        return push_values(text, values);
-    }
-    push_pieces(
-        text,
-        &[
-            Piece::Html(b"<details><summary>"),
-            Piece::Number(values.len() as u128),
-            Piece::Html(b" texts</summary>"),
-        ],
-    )?;
-    push_values(text, values)?;
-    text.extend_from_slice(b"</details>")
-}
-
-/// A line break, between a comment and texts.
-fn break_between(comment: &[u8], values: &[ValueText]) -> &'static [u8]
-    ensures { result.now ≡ break_between comment.now values.now }
-{
-    if comment.is_empty() || values.is_empty() {
-        &[]
-    } else {
-        b"<br>"
-    }
-}
-
-fn push_note_cell(text: &mut Vec<u8>, signal: &Signal) -> Result<(), AllocError>
-    ensures { OnOk result (text.new.items ≡ text.old.items ++ note_cell signal.now) }
-{
-    let comment = signal.comment.as_bytes();
-    let values = signal.values.as_slice();
-    text.extend_from_slice(b"<td>")?;
-    push_text(text, comment)?;
-    text.extend_from_slice(break_between(comment, values))?;
-    push_folded_values(text, values)?;
-    text.extend_from_slice(b"\n")?;
-    Ok(())
-}
-
-/// Which columns of the table are there.
-#[derive(Clone, Copy, PartialEq, Eq)]
+/// Which columns are there that aren't always.
+#[derive(Clone, Copy)]
 struct Columns {
     /// How the signals are coded.
     codings: bool,
@@ -209,107 +46,279 @@ struct Columns {
     receivers: bool,
 }
 
-/// Appends the row of the signal at an index.
-fn push_signal_row(
-    alloc: Global,
-    text: &mut Vec<u8>,
-    old: Option<&Message>,
-    bytes: u16,
-    columns: Columns,
-    index: usize,
-    signal: &Signal,
-) -> Result<(), AllocError>
-    ensures { OnOk result (text.new.items ≡ text.old.items ++ signal_row (option_copied old.entry)
-        bytes columns.codings columns.receivers (index, signal.now)) }
+/// Whether all signals have these receivers.
+fn have_receivers(signals: &[Signal], receivers: &Receivers) -> bool
+    ensures { result
+        ≡ list_all (λ signal. pointwise bytes_eq signal.receivers receivers.now) signals.now }
 {
-    push_name_cells(text, old, index, signal)?;
-    push_place_cell(text, bytes, signal)?;
-    push_value_cells(text, signal)?;
-    push_unit_cells(text, signal)?;
-    push_coding_cells(alloc, text, columns.codings, columns.receivers, signal)?;
-    push_note_cell(text, signal)?;
-    Ok(())
+    signals.iter().all(|signal| signal.receivers == *receivers)
 }
 
-/// Appends the rows of the signals.
-fn push_signal_rows(
-    alloc: Global,
-    text: &mut Vec<u8>,
-    old: Option<&Message>,
-    bytes: u16,
-    columns: Columns,
-    signals: &[Signal],
-) -> Result<(), AllocError>
-    ensures { OnOk result (text.new.items ≡ text.old.items ++ flat_map (signal_row
-        (option_copied old.entry) bytes columns.codings columns.receivers) (enumerate_from 0 signals.now)) }
+/// Whether all signals have the same receivers.
+fn have_common_receivers(signals: &[Signal]) -> bool
+    ensures { result ≡ has_common_receivers signals.now }
 {
-    for (index, signal) in signals.iter().enumerate() {
-        push_signal_row(alloc, text, old, bytes, columns, index, signal)?;
+    match signals.split_first() {
+        Some((first, others)) => have_receivers(others, &first.receivers),
+        None => true,
     }
-    Ok(())
 }
 
-/// Appends a head, if its column is there.
-fn push_head_if(text: &mut Vec<u8>, there: bool, head: &[u8]) -> Result<(), AllocError>
-    ensures { OnOk result (text.new.items ≡ text.old.items ++ head_if there head.now) }
+/// Which columns are there: those of what isn't common to all signals.
+fn columns_of(signals: &[Signal]) -> Columns
+    ensures { result ≡ columns_of signals.now }
 {
-    if !there {
-        return Ok(());
+    Columns {
+        codings: !common_coding(signals).is_some(),
+        receivers: !have_common_receivers(signals),
     }
-    push_all(text, &[b"<th>", head])
 }
 
-fn signal_heads(alloc: Global, columns: Columns) -> Result<Vec<u8>, AllocError>
-    ensures { IfOk result (λ heads. heads.items
-        ≡ signal_heads columns.codings columns.receivers) }
+/// The heads of all columns.
+fn heads_of(alloc: Global, columns: Columns) -> Result<Vec<&'static [u8]>, AllocError>
+    ensures { IfOk result (λ heads. map (λ head. head.now) heads.items ≡ signal_heads columns) }
 {
-    let mut heads = Vec::from_slice(
-        alloc,
-        b"<th>#<th>Signal<th>Bits<th>Factor<th>Offset<th>Range<th>Unit<th>SPN",
-    )?;
-    push_head_if(&mut heads, columns.codings, b"Coding")?;
-    push_head_if(&mut heads, columns.receivers, b"Receivers")?;
-    heads.extend_from_slice(b"<th>Values, comment")?;
+    let mut heads = Vec::from_slice(alloc, HEADS)?;
+    if columns.codings {
+        heads.push(b"Coding")?;
+    }
+    if columns.receivers {
+        heads.push(b"Receivers")?;
+    }
+    heads.push(b"Values, comment")?;
     Ok(heads)
 }
 
-/// Appends the table with these columns.
-fn push_table_with(
-    alloc: Global,
-    text: &mut Vec<u8>,
-    old: Option<&Message>,
-    message: &Message,
-    columns: Columns,
-) -> Result<(), AllocError>
-    ensures { OnOk result (text.new.items ≡ text.old.items ++ table_with (option_copied old.entry)
-        message.now columns.codings columns.receivers) }
+/// Adds the multiplexer indicator, if there is one.
+fn put_mux(page: &mut Markup, mux: Mux)
+    ensures { Becomes page.new (adding (mux_mark mux) page.old) }
 {
-    let heads = signal_heads(alloc, columns)?;
-    let bytes = message.length.bytes();
-    push_table_start(text, b"s", &heads)?;
-    push_signal_rows(alloc, text, old, bytes, columns, message.signals.as_slice())?;
-    text.extend_from_slice(b"</table>\n")?;
+    let indicator = mux.indicator();
+    let text = indicator.as_bytes();
+    if !text.is_empty() {
+        page.open(Tag::Span, &[Attribute::Class(b"q")]);
+        page.text(b" ");
+        page.text(text);
+        page.close();
+    }
+}
+
+/// Adds the cell of the signal's name.
+fn put_name_cell(page: &mut Markup, shown: &Shown<'_>)
+    ensures { Becomes page.new (adding (name_cell (listed_of shown.now)) page.old) }
+{
+    page.open(Tag::HeadCell, &[]);
+    shown.put_star(page);
+    page.text(shown.signal.name.as_bytes());
+    put_mux(page, shown.signal.mux);
+    page.close();
+}
+
+/// Adds where the signal starts, and its size.
+fn put_start(page: &mut Markup, signal: &Signal)
+    ensures { Becomes page.new (adding (start_words signal.now) page.old) }
+{
+    page.number(u64::from(signal.layout.start));
+    page.text(b"|");
+    page.number(u64::from(signal.layout.size.bits()));
+}
+
+/// Adds that a bit of the signal is past a payload of so many bytes, if it is.
+fn put_outside(page: &mut Markup, signal: &Signal, bytes: u16)
+    ensures { Becomes page.new (adding (outside_mark bytes signal.now) page.old) }
+{
+    if !inside(signal.layout, bytes) {
+        page.text(b" ");
+        page.element(Tag::Emphasis, &[], b"outside");
+    }
+}
+
+/// Adds the cells of the signal's number, name and place in a payload of so many bytes.
+fn put_place_cells(page: &mut Markup, shown: &Shown<'_>, bytes: u16)
+    ensures { Becomes page.new (adding (place_cells bytes (listed_of shown.now)) page.old) }
+{
+    put_number_cell(page, shown.number());
+    put_name_cell(page, shown);
+    page.open(Tag::Cell, &[]);
+    put_start(page, shown.signal);
+    put_outside(page, shown.signal, bytes);
+    page.close();
+}
+
+/// Adds a cell with a decimal in it.
+fn put_decimal_cell(page: &mut Markup, decimal: &Decimal)
+    ensures { Becomes page.new (adding (decimal_cell decimal.now) page.old) }
+{
+    page.open(Tag::Cell, &[]);
+    put_decimal(page, decimal);
+    page.close();
+}
+
+/// Adds the cell of the range of values.
+fn put_range_cell(page: &mut Markup, signal: &Signal)
+    ensures { Becomes page.new (adding (range_cell signal.now) page.old) }
+{
+    page.open(Tag::Cell, &[]);
+    put_decimal(page, &signal.minimum);
+    page.text(b" to ");
+    put_decimal(page, &signal.maximum);
+    page.close();
+}
+
+/// Adds the cell of the unit.
+fn put_unit_cell(page: &mut Markup, signal: &Signal)
+    ensures { Becomes page.new (adding (unit_cell signal.now) page.old) }
+{
+    let unit = signal.unit.as_bytes();
+    page.open(Tag::Cell, &[]);
+    if !unit.is_empty() {
+        put_isolated(page, unit);
+    }
+    page.close();
+}
+
+/// Adds the cell of the suspect parameter number.
+fn put_spn_cell(page: &mut Markup, signal: &Signal)
+    ensures { Becomes page.new (adding (spn_cell signal.now) page.old) }
+{
+    let spn = signal.spn.number();
+    page.open(Tag::Cell, &[]);
+    if spn > 0 {
+        page.number(u64::from(spn));
+    }
+    page.close();
+}
+
+/// Adds the cells of what a raw value means.
+fn put_value_cells(page: &mut Markup, signal: &Signal)
+    ensures { Becomes page.new (adding (value_cells signal.now) page.old) }
+{
+    put_decimal_cell(page, &signal.factor);
+    put_decimal_cell(page, &signal.offset);
+    put_range_cell(page, signal);
+    put_unit_cell(page, signal);
+    put_spn_cell(page, signal);
+}
+
+/// Adds the names with commas between.
+fn put_names(page: &mut Markup, names: &[Name])
+    ensures { Becomes page.new (adding (join_by escaped (codes ", ") names.now) page.old) }
+{
+    if let [first, later @ ..] = names {
+        page.text(first.as_bytes());
+        for name in later {
+            page.text(b", ");
+            page.text(name.as_bytes());
+        }
+    }
+}
+
+/// Adds the cell of the receivers, where there is this column.
+fn put_receivers_cell(page: &mut Markup, is_there: bool, signal: &Signal)
+    ensures { Becomes page.new (adding (receivers_cell is_there signal.now) page.old) }
+{
+    if is_there {
+        page.open(Tag::Cell, &[]);
+        put_names(page, signal.receivers.as_slice());
+        page.close();
+    }
+}
+
+/// Adds the cells of how the signal is coded and who receives it, where there are these columns.
+fn put_column_cells(page: &mut Markup, columns: Columns, signal: &Signal)
+    ensures { Becomes page.new (adding (column_cells columns signal.now) page.old) }
+{
+    if columns.codings {
+        page.element(Tag::Cell, &[], coding_of(signal));
+    }
+    put_receivers_cell(page, columns.receivers, signal);
+}
+
+/// Adds the comment, with what parts it from the texts for values.
+fn put_comment(page: &mut Markup, signal: &Signal)
+    ensures { Becomes page.new (adding (comment_words signal.now) page.old) }
+{
+    let comment = signal.comment.as_bytes();
+    if !comment.is_empty() {
+        put_isolated(page, comment);
+        if !signal.values.as_slice().is_empty() {
+            page.text(b"; ");
+        }
+    }
+}
+
+/// Adds the cell of the comment and the texts for values.
+fn put_note_cell(page: &mut Markup, signal: &Signal)
+    ensures { Becomes page.new (adding (note_cell signal.now) page.old) }
+{
+    page.open(Tag::Cell, &[]);
+    put_comment(page, signal);
+    put_texts(page, signal.values.as_slice(), SHOWN_TEXTS);
+    page.close();
+}
+
+/// Adds the cells of a signal of a message of so many bytes.
+fn put_signal_cells(page: &mut Markup, columns: Columns, shown: &Shown<'_>, bytes: u16)
+    ensures { Becomes page.new
+        (adding (signal_cells columns bytes (listed_of shown.now)) page.old) }
+{
+    put_place_cells(page, shown, bytes);
+    put_value_cells(page, shown.signal);
+    put_column_cells(page, columns, shown.signal);
+    put_note_cell(page, shown.signal);
+}
+
+/// Adds the row of a signal of a message of so many bytes.
+fn put_signal_row(page: &mut Markup, columns: Columns, shown: &Shown<'_>, bytes: u16)
+    ensures { Becomes page.new
+        (adding (signal_row columns bytes (listed_of shown.now)) page.old) }
+{
+    page.open(Tag::Row, &[]);
+    put_signal_cells(page, columns, shown, bytes);
+    page.close();
+}
+
+/// Adds the table of these signals of a message of so many bytes. The error is out of memory.
+fn put_table(
+    alloc: Global,
+    page: &mut Markup,
+    columns: Columns,
+    bytes: u16,
+    shown: &[Shown<'_>],
+) -> Result<(), AllocError>
+    ensures { OnOk result (Becomes page.new
+        (adding (signal_table columns bytes (map listed_of shown.now)) page.old)) }
+{
+    let heads = heads_of(alloc, columns)?;
+    open_table(page, b"sig", &heads);
+    for signal in shown {
+        put_signal_row(page, columns, signal, bytes);
+    }
+    page.close();
+    page.close();
     Ok(())
 }
 
-/// Appends the table of the message's signals, if it has some; those are marked that are new or changed since the
-/// message was this one.
-pub(crate) fn push_signals(
+/// Adds the table of the message's signals, which are shown so. The error is out of memory.
+pub(crate) fn put_signals(
     alloc: Global,
-    text: &mut Vec<u8>,
-    old: Option<&Message>,
+    page: &mut Markup,
     message: &Message,
+    shown: &[Shown<'_>],
 ) -> Result<(), AllocError>
-    ensures { OnOk result (text.new.items
-        ≡ text.old.items ++ signals_table (option_copied old.entry) message.now) }
+    ensures { OnOk result (Becomes page.new
+        (adding (signals_html message.now (map listed_of shown.now)) page.old)) }
 {
     let signals = message.signals.as_slice();
-    if signals.len() == 0 {
+    if signals.is_empty() {
+        page.element(Tag::Paragraph, &[], b"No signal.");
         return Ok(());
     }
-    let columns = Columns {
-        codings: differ(alloc, SignalField::Coding, signals)?,
-        receivers: differ(alloc, SignalField::Receivers, signals)?,
-    };
-    push_table_with(alloc, text, old, message, columns)
+    put_table(
+        alloc,
+        page,
+        columns_of(signals),
+        message.length.bytes(),
+        shown,
+    )
 }

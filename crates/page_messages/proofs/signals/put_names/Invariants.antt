@@ -1,0 +1,9 @@
+use Rattle.std.proofs.Common.{◌++◌, codes, take}
+use Rattle.std.specs.List.{flat_map}
+use Rattle.markup.specs.Html.{escaped}
+use Rattle.markup.specs.Writing.{Becomes, adding}
+use Rattle.page_messages.proofs.signals.put_names.Given as goal
+
+abbrev pub invariant-loop-name : goal.invariant-loop-name
+invariant-loop-name l =
+    Becomes l.page (adding (flat_map (λ name. codes ", " ++ escaped name) (take l.name-index l.later)) l.initial.page)

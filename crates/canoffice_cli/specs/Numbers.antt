@@ -18,7 +18,8 @@ script_numbers script = request_numbers 1 (lines_of script)
 abbrev pub numbers_left : RequestLines → List ℕ
 numbers_left lines = request_numbers (lines.number + 1) (lines_of lines.rest.now)
 
--- The next number is taken, or none is left. No number is above the length of the script.
+-- The next number is taken, or none is left. A line has at least its end, so the rest is shorter by one byte or more for
+-- each line that is counted: no number is above the length of the script.
 pub record TakesNext (old new : RequestLines) (number : ℕ) : Type 0 where
   pub room : new.number + length new.rest.now ≤ old.number + length old.rest.now
   pub next : old.number + length old.rest.now < 2 ^ 64

@@ -1,14 +1,15 @@
 -- The outcome of a page: of the sheet of a DBC text, or of what an office has.
-use Rattle.std.specs.Prelude.{◌≡◌, ◌⊎◌, ◌==◌, ◌-◌, ℕ, Bool, not, List, codes, drop, length, if◌then◌else◌}
+use Rattle.std.specs.Prelude.{◌≡◌, ◌⊎◌, ◌==◌, ◌-◌, ℕ, Bool, not, List, codes, drop, length, map, if◌then◌else◌}
 use Rattle.std.specs.List.{suffix_len}
 use Rattle.std.specs.Str.{bytes_eq}
 use Rattle.canoffice_desks.specs.Desks.{Desks}
 use Rattle.canoffice_jobs.specs.Words.{page_look}
-use Rattle.dbc_grammar.specs.Reads.{Reads}
+use Rattle.dbc_grammar.specs.Reads.{ReadsAs}
 use Rattle.dbc_lex.specs.declared.fault.ReadFault.{ReadFault}
+use Rattle.dbc_read.specs.Passed.{start_and_keyword}
 use Rattle.dbc_read.specs.Reading.{IsReadFault}
-use Rattle.dbc_sheet.specs.declared.sheet.Sheet.{Sheet}
-use Rattle.office_page.specs.Page.{file_page}
+use Rattle.dbc_read.specs.declared.reading.Reading.{Reading}
+use Rattle.office_page.specs.Page.{IsFilePage}
 use Rattle.canoffice_cli.specs.Checked.{fault_line}
 use Rattle.canoffice_cli.specs.Databases.{Databases}
 use Rattle.canoffice_cli.specs.Formatted.{fault_errors}
@@ -31,13 +32,21 @@ page_name path = if bytes_eq path (codes "-") then codes "standard input" else l
 
 -- ---- what is printed
 
--- the text reads as a sheet, whose page is printed; or as none, and the line is that of the fault of `read`
+-- the text reads as a sheet, and a page of what it reads as is printed
+pub record IsPaged (path bytes : List ℕ) (o : Outcome) : Type 0 where
+  pub reading : Reading
+  pub reads : ReadsAs bytes reading.sheet (map start_and_keyword reading.passed)
+  pub page : List ℕ
+  pub is : IsFilePage (page_name path) bytes reading page
+  pub printed : o ≡ success page
+
+-- the same; or it reads as none, and the line is that of the fault of `read`
 abbrev pub IsFilePageOutcome : List ℕ → List ℕ → Outcome → Type 0
 IsFilePageOutcome path bytes o =
-    ((s : Sheet) × Reads bytes s × (o ≡ success (file_page (page_name path) s)))
+    IsPaged path bytes o
     ⊎ ((fault : ReadFault) × IsReadFault bytes fault × (o ≡ fault_errors (fault_line fault)))
 
--- the page of the release of a network, or of the live network for 0, as the office at the place has it
+-- a page of the release of a network, or of the live network for 0, as the office at the place has it
 abbrev pub IsPageOutcome : Desks → Desks → Databases → Databases → Place → List ℕ → ℕ → Outcome → Type 0
 IsPageOutcome earlier later before after place net number o =
     IsLookOutcome earlier later before after place (page_look net number) o

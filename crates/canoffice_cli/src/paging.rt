@@ -49,14 +49,14 @@ fn page_name(path: &str) -> &[u8]
     }
 }
 
-/// The page of the sheet that the DBC text reads as, whether it is clear or not, with the name of the file at the path;
+/// A page of the sheet that the DBC text reads as, whether it is clear or not, with the name of the file at the path;
 /// or, if the text reads as no sheet, the fault's code and offset on standard error, with the status `FaultFound`.
 pub fn file_page_report(alloc: Global, path: &str, source: &[u8]) -> Result<Report, AllocError>
     ensures { IfOk result (λ report. IsFilePageOutcome path.now source.now (outcome_of report)) }
 {
     match read(alloc, source) {
         Ok(reading) => {
-            let output = file_page(alloc, page_name(path), &reading.sheet)?;
+            let output = file_page(alloc, page_name(path), source, &reading)?;
             Ok(Report::of_output(alloc, output, Status::Success))
         }
         Err(fault) => match fault.code {
@@ -69,7 +69,7 @@ pub fn file_page_report(alloc: Global, path: &str, source: &[u8]) -> Result<Repo
     }
 }
 
-/// Prints the page of the release of this number, or for 0 of the live network, as the office at the place has it, and
+/// Prints a page of the release of this number, or for 0 of the live network, as the office at the place has it, and
 /// else as [`show_report`](crate::show_report).
 pub fn page_report<D: Databases, K: Desks>(
     alloc: Global,

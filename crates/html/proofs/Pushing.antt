@@ -38,14 +38,6 @@ one_number_more n =
     let e : 0 + n ≡ n = omega arith in
     ap (λ k. range_with_len 0 k) (add-one n) ∙ range_more 0 n ∙ ap (λ k. range_with_len 0 n ++ k ∷ []) e
 
-pub numbers_pushed : (f : ℕ → List ℕ) (n : ℕ) (start before after : List ℕ)
-    → before ≡ start ++ flat_map f (range_with_len 0 n) → after ≡ before ++ f n
-    → after ≡ start ++ flat_map f (range_with_len 0 (n + 1))
-numbers_pushed f n start before after so more =
-    also start (flat_map f (range_with_len 0 n)) (f n) so more
-    ∙ ap (λ v. start ++ v)
-    (sym (one_more f (range_with_len 0 n) n) ∙ ap (flat_map f) (sym (one_number_more n)))
-
 -- ---- of items with their indices
 
 enumerate_take : {X : Type 0} (n i : ℕ) (xs : List X) → enumerate_from n (take i xs) ≡ take i (enumerate_from n xs)
@@ -87,18 +79,3 @@ filter_failed w xs i x within is e =
     ap (filter w) (take_more xs i x within ∙ ap (λ y. take i xs ++ y ∷ []) (sym is))
     ∙ filter-append w (take i xs) (x ∷ []) ∙ ap (λ v. filter w (take i xs) ++ v) (failing w x e)
     ∙ append-nil (filter w (take i xs))
-
-pub kept_pushed : {X : Type 0} (f : X → List ℕ) (w : X → Bool) (xs : List X) (i : ℕ) (x : X)
-    (start before after : List ℕ) → i < length xs → x ≡ get_or xs i x → w x ≡ true
-    → before ≡ start ++ flat_map f (filter w (take i xs)) → after ≡ before ++ f x
-    → after ≡ start ++ flat_map f (filter w (take (i + 1) xs))
-kept_pushed f w xs i x start before after within is e so more =
-    also start (flat_map f (filter w (take i xs))) (f x) so more
-    ∙ ap (λ v. start ++ v)
-    (sym (one_more f (filter w (take i xs)) x) ∙ ap (flat_map f) (sym (filter_passed w xs i x within is e)))
-
-pub left_out : {X : Type 0} (f : X → List ℕ) (w : X → Bool) (xs : List X) (i : ℕ) (x : X) (start before : List ℕ)
-    → i < length xs → x ≡ get_or xs i x → w x ≡ false
-    → before ≡ start ++ flat_map f (filter w (take i xs)) → before ≡ start ++ flat_map f (filter w (take (i + 1) xs))
-left_out f w xs i x start before within is e so =
-    so ∙ ap (λ v. start ++ flat_map f v) (sym (filter_failed w xs i x within is e))

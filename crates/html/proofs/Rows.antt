@@ -1,8 +1,7 @@
--- Characters, texts, readings and elements computed.
+-- Characters, texts and readings computed.
 use Rattle.std.proofs.Common.{◌≡◌, [], ◌∷◌, ◌++◌, Some, None, codes, map, refl}
 use Rattle.std.specs.Fmt.{digits}
 use Rattle.html.specs.Characters.{chars_of}
-use Rattle.html.specs.Elements.{attribute, classed, element, joined, link, table_end, table_start}
 use Rattle.html.specs.Reading.{text_read}
 use Rattle.html.specs.Text.{characters, escaped}
 
@@ -52,17 +51,3 @@ reads_not : map text_read (codes "<b>" ∷ codes "a\"" ∷ codes "a'" ∷ codes 
     ∷ codes "&lt;" ∷ codes "&#x3c;" ∷ (176 ∷ []) ∷ (0 ∷ []) ∷ [])
     ≡ None ∷ None ∷ None ∷ None ∷ None ∷ None ∷ None ∷ None ∷ None ∷ None ∷ None ∷ []
 reads_not = refl
-
-elements : element (codes "b") (codes "A") ++ (classed (codes "li") (codes "q") (codes "5")
-    ++ (link (codes "m-Speed") (codes "Speed") ++ attribute (codes "title") (codes "a \"b\"")))
-    ≡ codes "<b>A</b><li class=q>5</li><a href=#m-Speed>Speed</a> title=\"a &#34;b&#34;\""
-unfolding digits
-elements = refl
-
-table : table_start (codes "t") (codes "<th>Name<th>Bits") ++ (codes "<tr><th>A<td>8" ++ table_end)
-    ≡ codes "<table class=t><thead><tr><th>Name<th>Bits<tbody>\n<tr><th>A<td>8</table>\n"
-table = refl
-
-joins : map (joined (codes ", ")) ([] ∷ (codes "a" ∷ []) ∷ (codes "a" ∷ [] ∷ codes "b" ∷ []) ∷ [])
-    ≡ [] ∷ codes "a" ∷ codes "a, , b" ∷ []
-joins = refl

@@ -1,4 +1,3 @@
 pub mod Characters
 pub mod Text
 pub mod Reading
-pub mod Elements

@@ -4,27 +4,18 @@
 //!   their characters ([`utf8_is_decoded`]), and each other byte as the character of its number. What is written reads
 //!   back as what is shown, whatever the bytes are ([`escaped_texts_read_back`]): no bytes end the text or the
 //!   attribute. A plain text stays what it is ([`plain_texts_are_kept`]).
-//! - [`push_number`] and [`push_wide_number`], [`push_attribute`], [`push_link`]: decimals, attributes, links within a
-//!   page. [`push_joined`] and [`push_names`]: texts, or names, with a separator between them.
-//! - [`push_tag`], [`push_classed_tag`], [`push_end_tag`], [`push_table_start`]: tags, and the start of a table.
 //! - [`push_all`]: texts that are HTML already, as they are, one after the other. One call for the parts of a text
 //!   costs much less to prove than a chain of calls that may each fail.
 //!
 //! Each appends to a buffer, and fails only if memory runs out. The definitions are in `specs/`: `Characters.antt` has
-//! the characters of bytes, `Text.antt` how they are shown and written, `Reading.antt` how a browser reads them, and
-//! `Elements.antt` elements and tables.
+//! the characters of bytes, `Text.antt` how they are shown and written, and `Reading.antt` how a browser reads them.
 #![tactic(auto)]
 
 mod appending;
 mod characters;
-mod elements;
 mod escaping;
 mod laws;
 
 pub use appending::push_all;
-pub use elements::{
-    push_attribute, push_classed_tag, push_end_tag, push_joined, push_link, push_names,
-    push_number, push_table_start, push_tag, push_wide_number,
-};
 pub use escaping::push_text;
 pub use laws::{escaped_texts_read_back, plain_texts_are_kept, utf8_is_decoded};

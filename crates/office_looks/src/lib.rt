@@ -11,8 +11,8 @@
 //! ([`messages_are_the_table`]).
 //!
 //! Of what these texts are made of, a page of a network has use for what nodes send and receive ([`sends`],
-//! [`receives`], [`sent_tally`], [`received_tally`]), whose block a number is in ([`team_of`], [`team_at`],
-//! [`is_number_of`]), and what a held identifier was called ([`last_name`]).
+//! [`receives`], [`sent_tally`], [`received_tally`]), whose block a number is in ([`team_of`],
+//! [`team_at`]), and what a held identifier was called ([`last_name`]).
 //!
 //! [`add_request`] appends the lines of a team's request: its key, the reply and the first line of its content, and
 //! where the reply is that of a bundle, a line for each part. [`add_total`] appends the last line, with how many
@@ -44,5 +44,4 @@ pub use looks::text_of;
 pub use nodes::{receives, sends};
 pub use reads::{MessagesRead, Reads, ReleasesRead, reads_of};
 pub use requests::{add_request, add_total, is_refused};
-pub use seeking::is_number_of;
 pub use tally::{Tally, received_tally, sent_tally};

@@ -1,2 +1,1 @@
-mod HeadRows
-pub mod ReleasePages
+pub mod Written

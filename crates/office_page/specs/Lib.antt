@@ -1,3 +1,4 @@
-pub mod Head
-pub mod Style
+pub mod Names
+pub mod Checking
+pub mod Parts
 pub mod Page

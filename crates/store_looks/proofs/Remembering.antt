@@ -1,6 +1,5 @@
 -- What is remembered after a look is so in the tables, if what was before it is.
 use Rattle.std.proofs.Common.{◌≡◌, ◌⊎◌, inl, inr, Bool, ℕ, List, Option, Some, None, ap, sym, subst, ◌∙◌}
-use Rattle.std.specs.Option.{option_and_then, option_map}
 use Rattle.std.specs.Prelude.{IsTrue}
 use Rattle.office_types.specs.declared.book.SpnBook.{SpnBook}
 use Rattle.office_types.specs.declared.look.Look.TheVariants as look
@@ -9,7 +8,6 @@ use Rattle.office_types.specs.declared.state.Net.{Net}
 use Rattle.office_seen.specs.View.{view_of}
 use Rattle.office_seen.specs.declared.view.View.{View}
 use Rattle.office_looks.specs.Looks.{net_text, text_of}
-use Rattle.office_page.specs.Page.{page_of, release_page}
 use Rattle.store_tables.specs.Tables.{Tables}
 use Rattle.store_looks.specs.Seen.{IsTextOn, IsTrueOf, Known, MayRemember, OnNetAndBook, whole_view}
 
@@ -52,14 +50,3 @@ pub look_on : (name : List ℕ) (l : NetLook) (view : View) (known : Known) (t :
     → known ≡ Some (name, view) → IsTrueOf known t → text ≡ text_of l view → IsTextOn (look.Net name l) text t
 look_on name l view known t text is truth same net at book in_book =
     same ∙ net_text_is l view net book (seen_is name view known t is truth net at book in_book)
-
-pub page_on : (name : List ℕ) (view : View) (known : Known) (t : Tables) (text : List ℕ)
-    → known ≡ Some (name, view) → IsTrueOf known t → text ≡ page_of view → IsTextOn (look.Page name) (Some text) t
-page_on name view known t text is truth same net at book in_book =
-    ap Some same ∙ ap (option_map page_of) (seen_is name view known t is truth net at book in_book)
-
-pub release_page_on : (name : List ℕ) (number : ℕ) (view : View) (known : Known) (t : Tables)
-    (text : Option (List ℕ)) → known ≡ Some (name, view) → IsTrueOf known t → text ≡ release_page view number
-    → IsTextOn (look.ReleasePage name number) text t
-release_page_on name number view known t text is truth same net at book in_book =
-    same ∙ ap (option_and_then (λ v. release_page v number)) (seen_is name view known t is truth net at book in_book)

@@ -1,7 +1,7 @@
 -- What is seen of the network that the tables have.
-use Rattle.std.specs.Prelude.{◌≡◌, ◌⊎◌, ⊤, Bool, ℕ, List, Option, Some, None, IsTrue}
-use Rattle.std.specs.Option.{option_and_then, option_map}
-use Rattle.office_page.specs.Page.{page_of, release_page}
+use Rattle.std.specs.Prelude.{◌≡◌, ◌⊎◌, ⊤, Bool, ℕ, List, Option, Some, None, IsSomeAnd, IsTrue}
+use Rattle.std.specs.Option.{option_map}
+use Rattle.office_page.specs.Page.{IsNetPage, IsReleasePage}
 use Rattle.dbc_sheet.specs.declared.sheet.Sheet.{Sheet}
 use Rattle.office_types.specs.declared.book.SpnBook.{SpnBook}
 use Rattle.office_types.specs.declared.look.Look.{Look}
@@ -39,12 +39,22 @@ seen_text look (Some view) = text_of look view
 abbrev pub whole_view : Option Net → SpnBook → Option View
 whole_view net book = option_map (λ n. view_of n book) net
 
--- the page of the network, or of its release of this number, if it is there
-abbrev pub net_page : Option Net → SpnBook → Option (List ℕ)
-net_page net book = option_map page_of (whole_view net book)
+-- a page of the network that is seen; nothing where none is
+abbrev pub IsPageOf : Option View → Option (List ℕ) → Type 0
+IsPageOf None page = page ≡ None
+IsPageOf (Some view) page = IsSomeAnd page (IsNetPage view)
 
-abbrev pub net_release_page : Option Net → SpnBook → ℕ → Option (List ℕ)
-net_release_page net book number = option_and_then (λ v. release_page v number) (whole_view net book)
+-- a page of its release of this number; nothing where there is none
+abbrev pub IsReleasePageOf : Option View → ℕ → Option (List ℕ) → Type 0
+IsReleasePageOf None number page = page ≡ None
+IsReleasePageOf (Some view) number page = IsReleasePage view number page
+
+-- a page of the network with the book, or of its release of this number, if it is there
+abbrev pub IsPageOfNet : Option Net → SpnBook → Option (List ℕ) → Type 0
+IsPageOfNet net book page = IsPageOf (whole_view net book) page
+
+abbrev pub IsPageOfRelease : Option Net → SpnBook → ℕ → Option (List ℕ) → Type 0
+IsPageOfRelease net book number page = IsReleasePageOf (whole_view net book) number page
 
 -- the live messages are read whole, and all releases
 abbrev pub reads_whole : Reads
@@ -63,9 +73,9 @@ IsTrueOf (Some known) t = OnNetAndBook known.0 (λ net book found. found ≡ who
 -- the text is that of a look at a network, or of a page, on these tables
 abbrev pub IsTextOn : Look → Option (List ℕ) → Tables → Type 0
 IsTextOn (look.Net name l) text t = OnNetAndBook name (λ net book found. found ≡ net_text net book l) text t
-IsTextOn (look.Page name) text t = OnNetAndBook name (λ net book found. found ≡ net_page net book) text t
+IsTextOn (look.Page name) text t = OnNetAndBook name IsPageOfNet text t
 IsTextOn (look.ReleasePage name number) text t =
-    OnNetAndBook name (λ net book found. found ≡ net_release_page net book number) text t
+    OnNetAndBook name (λ net book found. IsPageOfRelease net book number found) text t
 IsTextOn l text t = ⊥
 
 -- what may be remembered after this was seen of a network: what was, or nothing, or that, if it is the whole network

@@ -2,7 +2,7 @@
 //!
 //! [`net_look_at`] gives the text of a look (`office_looks`) at the network of a name. It reads the network and the
 //! book of suspect parameter numbers, and of live messages and releases no more than the look depends on. [`page_at`]
-//! gives the page of the network (`office_page`), and [`release_page_at`] that of one of its releases. [`requests_at`]
+//! gives a page of the network (`office_page`), and [`release_page_at`] one of a release of it. [`requests_at`]
 //! gives the text of a team's requests (`office_looks`). [`read_net_at`] reads a network, or the names of all where it
 //! isn't there, and the book, to report why a command was refused. All are called in a transaction, and change nothing.
 //! An error is out of memory, what `sqlite` answers, or `InvalidQuery` where the rows are no office's.
@@ -12,9 +12,9 @@
 //! for byte, isn't read again. Whoever writes to the tables says so first ([`Remembered::outdate`]).
 //!
 //! The definitions are of `office_seen`: `View.antt` (what is seen of a network), of `office_looks`: `Looks.antt` (the
-//! text) and `Requests.antt`, and of `office_page`: `Page.antt` (the page). Those in `specs/` say what is seen of the
-//! tables (`Seen.antt`) and read of them (`Read.antt`), what is known of what is kept (`Kept.antt`), and which requests
-//! are those of a team (`Asked.antt`).
+//! text) and `Requests.antt`, and of `office_page`: `Page.antt` (what is a page). Those in `specs/` say what is
+//! seen of the tables (`Seen.antt`) and read of them (`Read.antt`), what is known of what is kept (`Kept.antt`), and
+//! which requests are those of a team (`Asked.antt`).
 #![tactic(auto)]
 
 mod paged;

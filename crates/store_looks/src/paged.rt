@@ -1,9 +1,8 @@
 //! A network, or a release of it, on one page.
 ghost use Rattle.std.specs.Prelude.{◌≡◌, ◌⊎◌, IfOk, None, OnOk, true};
-ghost use Rattle.std.specs.Option.{option_and_then, option_map};
-ghost use Rattle.office_page.specs.Page.{page_of, release_page};
-ghost use Rattle.store_looks.specs.Seen.{IsTrueOf, MayRemember, OnNetAndBook, net_page, net_release_page};
-ghost use Rattle.store_looks.specs.Seen.{reads_whole, whole_view};
+ghost use Rattle.std.specs.Option.{option_map};
+ghost use Rattle.store_looks.specs.Seen.{IsPageOf, IsPageOfNet, IsPageOfRelease, IsReleasePageOf, IsTrueOf};
+ghost use Rattle.store_looks.specs.Seen.{MayRemember, OnNetAndBook, reads_whole, whole_view};
 ghost use Rattle.store_tables.specs.Frames.{Asks, ReadsOnly};
 
 use crate::remembered::Remembered;
@@ -49,8 +48,8 @@ fn page_of_seen(
     seen: Option<NetSeen>,
     known: &mut Remembered,
 ) -> Result<Option<Vec<u8>>, AllocError>
-    ensures page { IfOk result (λ page. option_map (λ text. text.items) page
-        ≡ option_map page_of seen) }
+    ensures page { IfOk result
+        (λ page. IsPageOf seen (option_map (λ text. text.items) page)) }
     ensures known { OnOk result (MayRemember name.now true seen known.old known.new) }
 {
     match seen {
@@ -72,8 +71,8 @@ fn release_page_of_seen(
     number: u32,
     known: &mut Remembered,
 ) -> Result<Option<Vec<u8>>, AllocError>
-    ensures page { IfOk result (λ page. option_map (λ text. text.items) page
-        ≡ option_and_then (λ v. release_page v number) seen) }
+    ensures page { IfOk result
+        (λ page. IsReleasePageOf seen number (option_map (λ text. text.items) page)) }
     ensures known { OnOk result (MayRemember name.now true seen known.old known.new) }
 {
     match seen {
@@ -96,7 +95,7 @@ pub fn page_at<S: Alter>(
     known: &mut Remembered,
 ) -> Result<Option<Vec<u8>>, Error>
     ensures found { Asks S.Store tx.old tx.new result (OnNetAndBook name.now (λ net book found.
-        option_map (λ text. text.items) found ≡ net_page net book)) }
+        IsPageOfNet net book (option_map (λ text. text.items) found))) }
     ensures known { Asks S.Store tx.old tx.new result (λ _ t. IsTrueOf known.old t → IsTrueOf known.new t) }
     ensures frame { ReadsOnly S.Store tx.old tx.new result }
 {
@@ -114,7 +113,7 @@ pub fn release_page_at<S: Alter>(
     known: &mut Remembered,
 ) -> Result<Option<Vec<u8>>, Error>
     ensures found { Asks S.Store tx.old tx.new result (OnNetAndBook name.now (λ net book found.
-        option_map (λ text. text.items) found ≡ net_release_page net book number)) }
+        IsPageOfRelease net book number (option_map (λ text. text.items) found))) }
     ensures known { Asks S.Store tx.old tx.new result (λ _ t. IsTrueOf known.old t → IsTrueOf known.new t) }
     ensures frame { ReadsOnly S.Store tx.old tx.new result }
 {

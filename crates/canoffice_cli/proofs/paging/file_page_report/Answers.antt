@@ -1,20 +1,21 @@
-use Rattle.std.proofs.Common.{inl, inr, map, ap, refl, ◌∙◌}
-use Rattle.dbc_read.specs.Passed.{start_and_keyword}
+use Rattle.std.proofs.Common.{ℕ, List, inl, inr, ap, refl, subst, ◌∙◌}
 use Rattle.dbc_read.proofs.ReadFaults.{read_fault}
-use Rattle.office_page.specs.Page.{file_page}
+use Rattle.office_page.specs.Page.{IsFilePage}
 use Rattle.canoffice_cli.specs.Formatted.{fault_errors}
-use Rattle.canoffice_cli.specs.Outcome.{success}
 use Rattle.canoffice_cli.proofs.paging.file_page_report.Goals as goal
 
 pub returns-in_ok-output-in-Ok : goal.returns-in_ok-output-in-Ok
 returns-in_ok-output-in-Ok c =
-    let sheet = c.in-Ok.reading.sheet in
-    let named = ap (λ name. file_page name sheet) c.page_name.ensures in
-    inl (
-      sheet,
-      (map start_and_keyword c.in-Ok.reading.passed, c.in-Ok.ensures.reads),
-      c.of_output.ensures ∙ ap success (c.in_ok-output-in-Ok.ensures ∙ named),
-    )
+    let reading = c.in-Ok.reading in
+    let text = c.in_ok-output-in-Ok.output.items in
+    inl (record {
+      reading = reading;
+      reads = c.in-Ok.ensures.reads;
+      page = text;
+      is = subst (λ (name : List ℕ). IsFilePage name c.args.source.now reading text) c.page_name.ensures
+          c.in_ok-output-in-Ok.ensures;
+      printed = c.of_output.ensures;
+    })
 
 pub returns-in_ok-line-in_default : goal.returns-in_ok-line-in_default
 returns-in_ok-line-in_default c =

@@ -1,4 +1,0 @@
-mod NumberRows
-mod ReleaseRows
-mod SheetRows
-pub mod LastReleases

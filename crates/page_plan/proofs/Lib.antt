@@ -1,5 +1,0 @@
-pub mod Owning
-pub mod PlainNames
-pub mod Sample
-pub mod Used
-mod SmallRows

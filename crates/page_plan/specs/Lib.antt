@@ -1,7 +1,0 @@
-pub mod Plan
-pub mod Badges
-pub mod Numbers
-pub mod Since
-pub mod Links
-pub mod Names
-pub mod Pieces

@@ -17,7 +17,7 @@ use clap::{Arg, ArgAction, Command};
 use std::alloc::{AllocError, Global};
 
 /// The program's version, which `--version` prints. A crate has no manifest here, so it is kept in this line.
-const VERSION: &str = "0.3.0";
+const VERSION: &str = "0.4.0";
 
 /// What the help says of the argument of `check`, `format` and `table`.
 const DBC_FILE: &str = "The DBC file, or - for standard input";

@@ -1,0 +1,4 @@
+pub mod Fact
+pub mod Table
+pub mod Lines
+pub mod Json

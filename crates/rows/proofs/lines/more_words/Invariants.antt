@@ -1,0 +1,7 @@
+use Rattle.std.proofs.Common.{◌≡◌, ◌++◌, codes, take}
+use Rattle.std.specs.List.{flat_map}
+use Rattle.columns.specs.Word.{word}
+use Rattle.rows.proofs.lines.more_words.Given as goal
+
+abbrev pub invariant-loop-bytes : goal.invariant-loop-bytes
+invariant-loop-bytes l = l.text.items ≡ flat_map (λ t. codes "," ++ word t.now) (take l.bytes-index l.texts)

@@ -1,0 +1,21 @@
+use Rattle.std.proofs.Common.{◌≡◌, ◌≤◌, ◌++◌, ◌∙◌, ℕ, List, length, map, ap, sym}
+use Rattle.std.specs.List.{flat_map}
+use Rattle.std.proofs.lemmas.List.{take_all}
+use Rattle.std.proofs.lemmas.List.Folds.{flat_map-map}
+use Rattle.rows.specs.Fact.{Fact, fact_of}
+use Rattle.rows.specs.Lines.{line_text}
+use Rattle.rows.specs.Table.{Part}
+use Rattle.rows.proofs.lines.push_part.Goals as goal
+
+pub returns : goal.returns
+returns c =
+    let items = c.as_slice-row-items.result.now in
+    let part = c.args.kind.now in
+    let before = c.args.text.now.items in
+    let line : List Fact → List ℕ = λ row. part.name ++ line_text part.columns row in
+    let same : map (map fact_of) items ≡ part.rows =
+    c.as_slice-row-items.ensures ∙ ap (λ (p : Part). p.rows) c.kind.view_is in
+    let ended : length items ≤ c.loop-row.row-index = c.loop-row-test.false in
+    c.loop-row.invariant
+    ∙ ap (λ rows. before ++ flat_map (λ row. line (map fact_of row)) rows) (take_all c.loop-row.row-index items ended)
+    ∙ ap (λ text. before ++ text) (sym (flat_map-map line (map fact_of) items) ∙ ap (flat_map line) same)

@@ -7,5 +7,6 @@ pub mod PartnersBack
 pub mod MessageLists
 pub mod ToldSheets
 pub mod SwappedSheets
+pub mod NoDifference
 pub mod MessageWalk
 mod Rows

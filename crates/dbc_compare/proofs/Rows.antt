@@ -16,7 +16,7 @@ use Rattle.dbc_sheet.specs.declared.value_table.ValueTable.{ValueTable}
 use Rattle.dbc_sheet.specs.declared.value_texts.ValueText.{ValueText}
 use Rattle.dbc_words.specs.declared.value_type.ValueType.TheVariants.{Integer, Float}
 use Rattle.dbc_compare.specs.Differences.{differences_about, field_changes, pair_differences, thing_differences}
-use Rattle.dbc_compare.specs.Lines.{compare_text}
+use Rattle.dbc_compare.specs.List.{compare_text}
 
 abbrev whole : ℕ → Number
 whole n = record { mantissa = pos n; exponent = pos 0 }
@@ -112,7 +112,7 @@ new = record {
   messages = other_lamp ∷ [];
 }
 
-each_field : compare_text old new
+each_field : compare_text false old new
     ≡ codes ". sheet            - -   -             - - version 1.0 -> -\n"
     ++ codes ". sheet            - -   -             - - comment - -> two%20words\n"
     ++ codes ". node             - -   -             - Dash comment cluster -> -\n"
@@ -145,7 +145,7 @@ each_field : compare_text old new
 unfolding digits unsigned_text field_changes differences_about thing_differences pair_differences
 each_field = refl
 
-the_other_way : compare_text new old
+the_other_way : compare_text false new old
     ≡ codes ". sheet            - -   -             - - version - -> 1.0\n"
     ++ codes ". sheet            - -   -             - - comment two%20words -> -\n"
     ++ codes ". node             - -   -             - Dash comment - -> cluster\n"
@@ -178,11 +178,11 @@ the_other_way : compare_text new old
 unfolding digits unsigned_text field_changes differences_about thing_differences pair_differences
 the_other_way = refl
 
-equal_sheets : compare_text old old ≡ codes "differences 0 breaking 0 added 0 removed 0 changed 0\n"
+equal_sheets : compare_text false old old ≡ codes "differences 0 breaking 0 added 0 removed 0 changed 0\n"
 unfolding digits unsigned_text field_changes differences_about thing_differences pair_differences
 equal_sheets = refl
 
-renamed : compare_text (record empty_sheet { messages = lamp [] ∷ [] })
+renamed : compare_text false (record empty_sheet { messages = lamp [] ∷ [] })
     (record empty_sheet { messages = record (lamp []) { name = codes "Light" } ∷ [] })
     ≡ codes ". message        256 std 00000100      - Light renamed Lamp -> Light\n"
     ++ codes "differences 1 breaking 0 added 0 removed 0 changed 1\n"
@@ -202,7 +202,7 @@ lamps number most values = record (lamp (record torque { name = codes "Page"; ma
 abbrev off : ValueText
 off = text_for (whole 0) (codes "Off")
 
-two_files : compare_text
+two_files : compare_text false
     (record empty_sheet { messages = lamps 256 3 (text_for (whole 1) (codes "On") ∷ off ∷ []) ∷ [] })
     (record empty_sheet { messages = lamps 257 2 [] ∷ [] })
     ≡ codes "! message        257 std 00000101      - Lamps renumbered 256 -> 257\n"
@@ -257,7 +257,7 @@ live = sent 218038784 (codes "ECM_Boost") (boost_a 516143 ∷ later_b ∷ [])
     ∷ fan (switched ∷ record torque { name = codes "Q1" } ∷ record torque { name = codes "Q5" } ∷ [])
     ∷ []
 
-since_a_release : compare_text (record empty_sheet { messages = released }) (record empty_sheet { messages = live })
+since_a_release : compare_text false (record empty_sheet { messages = released }) (record empty_sheet { messages = live })
     ≡ codes ". signal  2365522432 ext 0cff0200  65282 ECM_Boost.BoostA spn 516102 -> 516143\n"
     ++ codes "! signal  2365522432 ext 0cff0200  65282 ECM_Boost.BoostB factor 0.1 -> 0.2\n"
     ++ codes ". signal  2365522432 ext 0cff0200  65282 ECM_Boost.BoostB maximum -14.5 -> 11\n"

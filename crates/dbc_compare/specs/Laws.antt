@@ -1,7 +1,8 @@
 -- Laws of differences.
-use Rattle.std.specs.Prelude.{◌≡◌, ◌↔◌, List, [], Contains}
+use Rattle.std.specs.Prelude.{◌≡◌, ◌↔◌, Bool, IsTrue, List, [], Contains}
 use Rattle.dbc_sheet.specs.declared.sheet.Sheet.{Sheet}
 use Rattle.dbc_compare.specs.Differences.{differences}
+use Rattle.dbc_compare.specs.List.{compare_text, has_no_difference}
 use Rattle.dbc_compare.specs.declared.difference.Change.{Change}
 use Rattle.dbc_compare.specs.declared.difference.Change.TheVariants as change
 use Rattle.dbc_compare.specs.declared.difference.Difference.{Difference}
@@ -11,6 +12,11 @@ use Rattle.dbc_compare.specs.declared.place.Place.TheVariants as place
 -- there is no difference if and only if the sheets are equal
 abbrev pub TellsApart : Sheet → Sheet → Type 0
 TellsApart old new = (differences old new ≡ []) ↔ (old ≡ new)
+
+-- as lines and as JSON, the list shows no difference if and only if the sheets are equal
+abbrev pub ListTellsApart : Sheet → Sheet → Type 0
+ListTellsApart old new =
+    (json : Bool) → IsTrue (has_no_difference json (compare_text json old new)) ↔ (old ≡ new)
 
 -- ---- the other way round
 

@@ -1,5 +1,5 @@
 pub mod Value
 pub mod Fields
 pub mod Differences
-pub mod Lines
+pub mod List
 pub mod Laws

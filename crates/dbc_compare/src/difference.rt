@@ -28,7 +28,7 @@ pub enum Change {
 }
 
 impl Change {
-    ghost use Rattle.dbc_compare.specs.Lines.{change_word};
+    ghost use Rattle.dbc_compare.specs.List.{change_word};
 
     /// The word that its text begins with.
     pub fn word(&self) -> &'static [u8]

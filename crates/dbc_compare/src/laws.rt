@@ -1,5 +1,5 @@
 //! Laws of differences.
-ghost use Rattle.dbc_compare.specs.Laws.{IsSwapped, TellsApart};
+ghost use Rattle.dbc_compare.specs.Laws.{IsSwapped, ListTellsApart, TellsApart};
 
 use dbc_sheet::{Sheet, sheets_are_well_formed};
 
@@ -9,6 +9,14 @@ pub fn differences_tell_apart(old: &Sheet, new: &Sheet)
 {
     sheets_are_well_formed(old);
     sheets_are_well_formed(new);
+}
+
+/// The list of the differences of two sheets, as lines or as JSON, says that there are none if and only if the sheets
+/// are equal. The function does nothing.
+pub fn list_tells_apart(old: &Sheet, new: &Sheet)
+    ensures { ListTellsApart old.now new.now }
+{
+    differences_tell_apart(old, new);
 }
 
 /// Each difference has its opposite the other way round: what was added is removed, and what a field had is what it

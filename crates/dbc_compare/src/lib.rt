@@ -1,14 +1,16 @@
-//! What differs between two sheets, and its text.
+//! What differs between two sheets.
 //!
 //! [`differences`] lists the differences of two sheets: a [`Change`] in a [`Place`], and there of a node, a value table
-//! or a signal by its name. [`compare`] gives their text, a line for each ([`line_of`]) and a last line that counts
-//! them, and says whether the sheets are equal. A message is compared with its partner (`dbc_sheet`).
+//! or a signal by its name. [`differences_table`] makes a list of them (`rows`), with totals that count them; [`compare`]
+//! gives it as lines or as JSON, and says whether the sheets are equal. A message is compared with its partner
+//! (`dbc_sheet`).
 //!
-//! There is no difference if and only if the sheets are equal ([`differences_tell_apart`]), and each difference has its
-//! opposite the other way round ([`differences_are_swapped`]).
+//! There is no difference if and only if the sheets are equal ([`differences_tell_apart`]), as the list says in either
+//! form ([`list_tells_apart`], [`has_no_difference`]), and each difference has its opposite the other way round
+//! ([`differences_are_swapped`]).
 //!
 //! The definitions are in `specs/`: the fields of each thing and which of them break a receiver (`Fields.antt`), how
-//! what they have is shown (`Value.antt`), the lists (`Differences.antt`), the lines (`Lines.antt`), the laws
+//! what they have is shown (`Value.antt`), what differs (`Differences.antt`), its list (`List.antt`), the laws
 //! (`Laws.antt`).
 #![tactic(auto)]
 
@@ -17,7 +19,7 @@ mod difference;
 mod field;
 mod fields;
 mod laws;
-mod lines;
+mod list;
 mod messages;
 mod place;
 mod sheets;
@@ -26,7 +28,10 @@ mod values;
 
 pub use difference::{Change, Difference};
 pub use field::Field;
-pub use laws::{differences_are_swapped, differences_tell_apart};
-pub use lines::{Comparison, breaking_count, breaks, compare, line_of, text_of_differences};
+pub use laws::{differences_are_swapped, differences_tell_apart, list_tells_apart};
+pub use list::{
+    Comparison, DIFFERENCE_TOTALS, DIFFERENCES, breaking_count, breaks, compare, differences_table,
+    has_no_difference,
+};
 pub use place::{MessageKey, Place};
 pub use sheets::differences;

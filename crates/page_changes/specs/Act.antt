@@ -5,7 +5,7 @@ use Rattle.std.specs.List.{flat_map, list_any}
 use Rattle.std.specs.List.Sorted.{IsPermutation, IsSortedByKey, IsStableByKey}
 use Rattle.std.specs.Str.{bytes_eq}
 use Rattle.base.specs.Keyed.{text_cmp}
-use Rattle.dbc_compare.specs.Lines.{breaks, change_word}
+use Rattle.dbc_compare.specs.List.{breaks, change_word}
 use Rattle.dbc_compare.specs.declared.difference.Difference.{Difference}
 use Rattle.dbc_sheet.specs.Messages.{message_at}
 use Rattle.dbc_sheet.specs.declared.message.Message.{Message}
@@ -47,7 +47,7 @@ is_meant (Some name) s = bytes_eq s.name name
 abbrev pub receivers_if : Option (List ℕ) → Signal → List (List ℕ)
 receivers_if name s = if is_meant name s then s.receivers else []
 
--- without bytes where there is none
+-- without bytes if there are no names
 abbrev pub or_nobody : List (List ℕ) → List (List ℕ)
 or_nobody [] = [] ∷ []
 or_nobody (n ∷ names) = n ∷ names

@@ -40,7 +40,7 @@ pub record IsSincePart (release : ℕ) (before : Sheet) (changes : Changes) (htm
   pub are_lists : IsChangeList (changes_in changes) lists
   pub is : html ≡ since_part release act lists changes.others
 
--- there is none where nothing differs
+-- it is left out if nothing differs
 pub record IsSince (release : ℕ) (before : Sheet) (changes : Changes) (html : List ℕ) : Type 0 where
   pub none : is_nothing changes ≡ true → html ≡ []
   pub part : is_nothing changes ≡ false → IsSincePart release before changes html

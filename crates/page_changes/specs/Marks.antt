@@ -1,4 +1,4 @@
--- What a page is told of each message of the live network.
+-- What a page says of each message of the live network.
 use Rattle.std.specs.Prelude.{◌≡◌, ℕ, ◌==◌, not, Bool, List, [], length}
 use Rattle.std.specs.List.{AllZip, filter_map}
 use Rattle.dbc_compare.specs.declared.difference.Difference.{Difference}

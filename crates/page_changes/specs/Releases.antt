@@ -5,7 +5,7 @@ use Rattle.std.specs.List.{flat_map, range_with_len}
 use Rattle.columns.specs.declared.run.Run.{Run}
 use Rattle.columns.specs.Run.{runs_of}
 use Rattle.dbc_compare.specs.Differences.{differences}
-use Rattle.dbc_compare.specs.Lines.{breaks}
+use Rattle.dbc_compare.specs.List.{breaks}
 use Rattle.dbc_sheet.specs.Messages.{has_number}
 use Rattle.dbc_sheet.specs.Pairs.{counts_of}
 use Rattle.dbc_sheet.specs.Sheet.{empty_sheet}

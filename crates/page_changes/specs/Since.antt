@@ -6,7 +6,7 @@ use Rattle.std.specs.List.{flat_map, fold, list_any}
 use Rattle.std.specs.List.Sorted.{IsPermutation, IsSortedBy, IsStableBy}
 use Rattle.std.specs.Ordering.{is_lt, nat_cmp}
 use Rattle.std.specs.Str.{bytes_eq}
-use Rattle.dbc_compare.specs.Lines.{change_word}
+use Rattle.dbc_compare.specs.List.{change_word}
 use Rattle.dbc_compare.specs.declared.difference.Change.{Change}
 use Rattle.dbc_compare.specs.declared.difference.Difference.{Difference}
 use Rattle.markup.specs.Html.{element_html, end_tag, escaped, start_tag, valued}
@@ -67,7 +67,7 @@ told_by f ds = told_words []
 abbrev pub sign_html : Fate → List ℕ
 sign_html f = element_html tag.Bold (valued (codes " class=\"") (escaped (cell_of f))) (sign_of f)
 
--- the sign and the name of the message, and what is told of it
+-- the sign and the name of the message, and what has become of it
 abbrev pub message_item : List Difference → List ℕ
 message_item ds = let f = fate_in ds in
     start_tag tag.Item []

@@ -2,7 +2,7 @@
 ghost use Rattle.std.specs.Prelude.{◌≡◌, ◌≤◌, ◌++◌, IfOk, OnOk, filter, length, map};
 ghost use Rattle.std.specs.List.{flat_map, list_any, prefix_len};
 ghost use Rattle.std.specs.Option.{option_copied};
-ghost use Rattle.dbc_compare.specs.Lines.{breaks};
+ghost use Rattle.dbc_compare.specs.List.{breaks};
 ghost use Rattle.markup.specs.Writing.{Becomes, adding};
 ghost use Rattle.page_changes.specs.Act.{AreByNode, IsActTable, Lost, act_html, after_point, breaking_words};
 ghost use Rattle.page_changes.specs.Act.{first_node, is_meant, is_one_node, is_one_thing, losses_at, losses_in};
@@ -158,7 +158,7 @@ fn mentioned<'a>(
     Ok(nodes)
 }
 
-/// The names, or where there is none, one without bytes.
+/// The names; if there are no names, one without bytes.
 fn or_nobody<'a>(alloc: Global, names: &[&'a [u8]]) -> Result<Vec<&'a [u8]>, AllocError>
     ensures { IfOk result
         (λ nodes. map text_of nodes.items ≡ or_nobody (map text_of names.now)) }

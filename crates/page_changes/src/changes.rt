@@ -4,7 +4,7 @@ ghost use Rattle.std.specs.List.{prefix_len};
 ghost use Rattle.std.specs.List.Sorted.{IsStrictlySortedBy};
 ghost use Rattle.std.specs.Ordering.{nat_cmp, on};
 ghost use Rattle.base.specs.Ascending.{IsAt, IsGap};
-ghost use Rattle.dbc_compare.specs.Lines.{breaks};
+ghost use Rattle.dbc_compare.specs.List.{breaks};
 ghost use Rattle.page_changes.specs.Changes.{AreByNumber, AreRising, change_at, changes_in, is_beside};
 ghost use Rattle.page_changes.specs.Changes.{is_elsewhere, is_in_message, is_nothing, kept_if, list_of, messages_in};
 ghost use Rattle.page_changes.specs.Changes.{name_at, name_in, number_at, number_in, number_of_change, old_number_at};

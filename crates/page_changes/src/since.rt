@@ -80,7 +80,7 @@ fn put_counts(page: &mut Markup, changes: &Changes<'_>) {
     }
 }
 
-/// Adds in a few words what has changed since the release of this number; for 0 that there is none.
+/// Adds in a few words what has changed since the release of this number; for 0, that there is no release yet.
 pub fn put_since_words(page: &mut Markup, release: usize, changes: &Changes<'_>) {
     if release == 0 {
         page.text(b"No release yet.");
@@ -155,7 +155,7 @@ fn put_changed(alloc: Global, page: &mut Markup, message: &[Difference]) -> Resu
     Ok(())
 }
 
-/// Adds what is told of a message that has met this fate.
+/// Adds what the page says of a message that has met this fate.
 fn put_told(
     alloc: Global,
     page: &mut Markup,

@@ -1,7 +1,7 @@
 use Rattle.std.proofs.Common.{◌≡◌, ◌≤◌, take}
 use Rattle.std.specs.Prelude.{count_by}
-use Rattle.dbc_compare.specs.Lines.{breaks}
-use Rattle.dbc_compare.proofs.lines.breaking_count.Given as goal
+use Rattle.dbc_compare.specs.List.{breaks}
+use Rattle.dbc_compare.proofs.list.breaking_count.Given as goal
 
 abbrev pub invariant-loop-difference : goal.invariant-loop-difference
 invariant-loop-difference l = record {

@@ -1,4 +1,4 @@
 pub mod View
 pub mod Since
 pub mod Granted
-pub mod Lines
+pub mod Owners

@@ -2,6 +2,7 @@
 use Rattle.std.specs.Prelude.{ℕ, ◌+◌, ◌-◌, Bool, List, [], ◌∷◌, length, slice_get}
 use Rattle.std.specs.Prelude.{codes, unwrap_or, Option, Some, None, if◌then◌else◌}
 use Rattle.columns.specs.Run.{runs_of, runs_text}
+use Rattle.columns.specs.declared.run.Run.{Run}
 use Rattle.dbc_sheet.specs.Messages.{has_number}
 use Rattle.dbc_sheet.specs.Same.{same_message}
 use Rattle.dbc_sheet.specs.Sheet.{empty_sheet}
@@ -33,5 +34,8 @@ abbrev pub releases_where : (Sheet → Bool) → List Sheet → List ℕ
 releases_where test releases = numbered_where test 1 releases
 
 -- those that have a message of the number, as runs
+abbrev pub releases_runs : List Sheet → ℕ → List Run
+releases_runs releases n = runs_of 1 (releases_where (λ s. has_number s.messages n) releases)
+
 abbrev pub releases_text : List Sheet → ℕ → List ℕ
-releases_text releases n = runs_text (runs_of 1 (releases_where (λ s. has_number s.messages n) releases))
+releases_text releases n = runs_text (releases_runs releases n)

@@ -1,13 +1,14 @@
 //! What releases say of a message.
 ghost use Rattle.std.specs.Prelude.{◌≡◌, IfOk};
 ghost use Rattle.std.specs.Option.{option_copied};
-ghost use Rattle.columns.specs.Padding.{set_right};
 ghost use Rattle.dbc_sheet.specs.Messages.{has_number};
 ghost use Rattle.dbc_sheet.specs.Sheet.{empty_sheet};
-ghost use Rattle.office_seen.specs.Since.{last_release, numbered_where, releases_text, since, since_word};
+ghost use Rattle.office_seen.specs.Since.{last_release, numbered_where, releases_runs, releases_text};
+ghost use Rattle.office_seen.specs.Since.{since, since_word};
 
 use crate::frozen::FrozenSheets;
-use columns::{filled, runs_of, runs_text};
+use base::Items;
+use columns::{Run, runs_of, runs_text};
 use dbc_sheet::{Message, Sheet, has_number, partner};
 use std::alloc::{AllocError, Global};
 
@@ -67,7 +68,19 @@ pub fn releases_with(
     Ok(numbers)
 }
 
-/// The numbers of the releases that have a message of the DBC number, as runs.
+/// The numbers of the releases that have a message of the DBC number, as runs. The error is out of memory.
+pub fn releases_runs(
+    alloc: Global,
+    releases: &FrozenSheets,
+    number: u32,
+) -> Result<Items<Run>, AllocError>
+    ensures { IfOk result (λ runs. runs ≡ releases_runs releases.now number) }
+{
+    let numbers = releases_with(alloc, releases, number)?;
+    Ok(Items::from_vec(runs_of(alloc, 1, &numbers)?))
+}
+
+/// Those runs as text. The error is out of memory.
 pub fn releases_text(
     alloc: Global,
     releases: &FrozenSheets,
@@ -75,19 +88,6 @@ pub fn releases_text(
 ) -> Result<Vec<u8>, AllocError>
     ensures { IfOk result (λ text. text.items ≡ releases_text releases.now number) }
 {
-    let numbers = releases_with(alloc, releases, number)?;
-    let runs = runs_of(alloc, 1, &numbers)?;
-    runs_text(alloc, &runs)
-}
-
-/// The numbers of the releases that have a message of the DBC number, as runs, right-aligned in their columns.
-pub fn releases_column(
-    alloc: Global,
-    releases: &FrozenSheets,
-    number: u32,
-) -> Result<Vec<u8>, AllocError>
-    ensures { IfOk result (λ text. text.items ≡ set_right 5 (releases_text releases.now number)) }
-{
-    let runs = releases_text(alloc, releases, number)?;
-    filled(alloc, b' ', 5, &runs)
+    let runs = releases_runs(alloc, releases, number)?;
+    runs_text(alloc, runs.as_slice())
 }

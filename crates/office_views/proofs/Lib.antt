@@ -2,3 +2,4 @@ mod Rows
 mod TableRows
 mod NetRows
 pub mod Holding
+pub mod Tallies

@@ -4,3 +4,5 @@ pub mod Message
 pub mod Table
 pub mod Word
 pub mod NetList
+pub mod Sending
+pub mod Tally

@@ -10,24 +10,31 @@
 //! signals ([`signal_count`]); [`size_columns`] are two of its columns. [`net_line`] is the line of a network in the
 //! list: its name, kind ([`kind_word`]), phase ([`phase_word`]) and count of releases.
 //!
+//! [`sends`] and [`receives`] say what a node has to do with a message or a signal; [`sent_tally`] and [`received_tally`]
+//! count that for all nodes in one walk.
+//!
 //! The definitions are in `specs/`: `Text.antt` is the chart, line by line, in terms of the positions of bits of
 //! `bitlayout` and the numbers and names of clashes of `dbc_words`; `Message.antt` is that of a message; `Table.antt`
 //! is the table, line by line, in terms of the identifiers of `can_id`; `Word.antt` is the form of the arguments;
-//! `NetList.antt` is the list of networks.
+//! `NetList.antt` is the list of networks; `Sending.antt` is what a node sends and receives, and `Tally.antt` how often.
 #![tactic(auto)]
 
 mod message;
 mod networks;
 mod number;
+mod sending;
 mod signal;
 mod table;
+mod tally;
 mod text;
 mod word;
 
 pub use message::message_chart;
 pub use networks::{kind_word, net_line, phase_word};
 pub use number::whole_between;
+pub use sending::{received, receives, sends};
 pub use signal::{ChartSignal, first_clash_of};
 pub use table::{signal_count, size_columns, table_of};
+pub use tally::{Tally, received_tally, sent_tally};
 pub use text::chart_text;
 pub use word::{length_of, signal_of};

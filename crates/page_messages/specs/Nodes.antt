@@ -7,7 +7,7 @@ use Rattle.dbc_sheet.specs.declared.node.Node.{Node}
 use Rattle.markup.specs.Html.{element_html, end_tag, start_tag}
 use Rattle.markup.specs.Writing.{Writing, adding, beginning, ending}
 use Rattle.markup.specs.declared.tag.Tag.TheVariants as tag
-use Rattle.office_looks.specs.Nodes.{receives_some, sends}
+use Rattle.office_views.specs.Sending.{receives_some, sends}
 use Rattle.page_parts.specs.Frames.{with_part, with_table, with_wide}
 use Rattle.page_parts.specs.Words.{cell, isolated, number_cell}
 use Rattle.page_messages.specs.Names.{message_head}

@@ -72,7 +72,7 @@ abbrev pub first_coding : List Signal → List ℕ
 first_coding [] = []
 first_coding (s ∷ signals) = coding_of s
 
--- all are coded alike; where there is none they aren't
+-- all are coded alike; if there are none, they aren't
 abbrev pub has_common_coding : List Signal → Bool
 has_common_coding [] = false
 has_common_coding (s ∷ signals) = list_all (λ (other : Signal). bytes_eq (coding_of other) (coding_of s)) signals

@@ -2,8 +2,8 @@
 ghost use Rattle.std.specs.Prelude.{◌≡◌, ◌<◌, ◌^◌, OnOk, length};
 ghost use Rattle.std.specs.List.{flat_map};
 ghost use Rattle.markup.specs.Writing.{Becomes, adding};
-ghost use Rattle.office_looks.specs.Nodes.{receives_some};
-ghost use Rattle.office_looks.specs.Tally.{times};
+ghost use Rattle.office_views.specs.Sending.{receives_some};
+ghost use Rattle.office_views.specs.Tally.{times};
 ghost use Rattle.page_parts.specs.Subjects.{messages_of};
 ghost use Rattle.page_messages.specs.Nodes.{comment_html, counts_row, is_large, matrix_row, meeting, node_head};
 ghost use Rattle.page_messages.specs.Nodes.{node_row, receives_html, sends_html, with_matrix};
@@ -13,7 +13,7 @@ use crate::names::put_message_head;
 use dbc_sheet::{Message, Node};
 use dbc_words::{Name, Text};
 use markup::{Attribute, Markup, Piece, Tag};
-use office_looks::{Tally, received_tally, receives, sends, sent_tally};
+use office_views::{Tally, received_tally, receives, sends, sent_tally};
 use page_parts::{Subject, open_part, open_table, open_wide, put_isolated, put_number_cell};
 use std::alloc::{AllocError, Global};
 

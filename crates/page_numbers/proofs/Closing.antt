@@ -1,5 +1,5 @@
 -- Elements that begin, and end.
-use Rattle.std.proofs.Common.{◌≡◌, ◌++◌, ◌∙◌, ℕ, Bool, List, [], ◌∷◌, Option, refl, sym, ap, append-nil, append_assoc}
+use Rattle.std.proofs.Common.{◌≡◌, ◌++◌, ◌∙◌, ℕ, Bool, List, [], Option, refl, sym, ap, append-nil, append_assoc}
 use Rattle.markup.specs.Html.{end_tag, start_tag}
 use Rattle.markup.specs.Writing.{Becomes, Writing, adding, beginning, ending}
 use Rattle.markup.specs.declared.tag.Tag.{Tag}

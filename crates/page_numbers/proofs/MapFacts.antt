@@ -1,19 +1,16 @@
 -- The cells of a chart, by what the code has at hand.
-use Rattle.std.proofs.Common.{◌≡◌, ◌≤◌, ◌∙◌, ◌&&◌, ℕ, arith, Bool, true, false, List, [], ◌∷◌, Option, Some, None, map, sym, ap, subst}
-use Rattle.std.specs.Prelude.{is_some, unwrap_or}
-use Rattle.std.specs.Option.{option_copied}
-use Rattle.std.specs.List.{filter_map}
+use Rattle.std.proofs.Common.{◌≡◌, ◌≤◌, ◌&&◌, ℕ, arith, Bool, true, false, List, [], Option, Some, None, sym, subst}
+use Rattle.std.specs.Prelude.{is_some}
 use Rattle.std.proofs.lemmas.Bool.{false≢true}
 use Rattle.dbc_sheet.specs.declared.message.Message.{Message}
 use Rattle.office_blocks.specs.Numbers.{HaveSame}
-use Rattle.office_looks.specs.Held.{team_at}
+use Rattle.office_seen.specs.Owners.{team_at}
 use Rattle.office_types.specs.Free.{is_taken}
-use Rattle.page_parts.specs.declared.subject.Subject.{Subject}
-use Rattle.page_numbers.specs.CellHtml.{IsCellHtml, IsCellOf, IsLiveCell, free_cell, held_cell, nobody_cell}
+use Rattle.page_numbers.specs.CellHtml.{IsCellHtml, IsCellOf, nobody_cell}
 use Rattle.page_numbers.specs.Cells.{IsCell}
 use Rattle.page_numbers.specs.Charts.{has, number_in, numbers_of}
-use Rattle.page_numbers.specs.Index.{live_at, message_at}
-use Rattle.page_numbers.specs.Map.{Facts, IsCellAt, IsRow, IsTable, facts_of}
+use Rattle.page_numbers.specs.Index.{live_at}
+use Rattle.page_numbers.specs.Map.{Facts, IsCellAt, IsRow, IsTable}
 use Rattle.page_numbers.specs.declared.cells.Cell.{Cell}
 use Rattle.page_numbers.specs.declared.cells.Cell.TheVariants.{Live, Held, Free, Nobody}
 use Rattle.office_types.specs.declared.state.GrantedBlock.{GrantedBlock}

@@ -2,7 +2,7 @@
 use Rattle.std.specs.Prelude.{ℕ, ◌+◌, ◌-◌, ◌*◌, ◌%◌, ◌&&◌, ◌||◌, nat_le, not, is_some, Bool, true, List, [], ◌∷◌, map}
 use Rattle.std.specs.List.{range_with_len}
 use Rattle.can_id.specs.J1939.{format_of, is_pdu1, is_pgn}
-use Rattle.office_looks.specs.Held.{team_at}
+use Rattle.office_seen.specs.Owners.{team_at}
 use Rattle.office_types.specs.Block.{same_form}
 use Rattle.office_types.specs.declared.block.BlockForm.{BlockForm}
 use Rattle.office_types.specs.declared.block.BlockForm.TheVariants as form

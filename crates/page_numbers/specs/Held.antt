@@ -8,7 +8,7 @@ use Rattle.can_id.specs.declared.ident.Ident.{Ident}
 use Rattle.dbc_sheet.specs.declared.sheet.Sheet.{Sheet}
 use Rattle.markup.specs.Html.{element_html}
 use Rattle.markup.specs.declared.tag.Tag.TheVariants as tag
-use Rattle.office_looks.specs.Held.{last_name, team_of}
+use Rattle.office_seen.specs.Owners.{last_name, team_of}
 use Rattle.office_seen.specs.Since.{releases_text}
 use Rattle.office_types.specs.declared.state.GrantedBlock.{GrantedBlock}
 use Rattle.page_parts.specs.Letters.{badge}

@@ -156,7 +156,7 @@ blocks_html subject =
 
 -- ---- the part
 
--- how blocks are granted, where there is none
+-- how a block is granted, for a network that has no blocks
 abbrev pub no_block_html : List ℕ → List ℕ
 no_block_html name =
     around tag.Paragraph []

@@ -4,7 +4,7 @@ use Rattle.std.specs.Prelude.{MatchBool, if◌then◌else◌}
 use Rattle.std.specs.List.{filter_map, flat_map}
 use Rattle.dbc_sheet.specs.declared.message.Message.{Message}
 use Rattle.markup.specs.declared.tag.Tag.TheVariants as tag
-use Rattle.office_looks.specs.Held.{team_at}
+use Rattle.office_seen.specs.Owners.{team_at}
 use Rattle.office_types.specs.Free.{is_taken}
 use Rattle.office_types.specs.declared.block.BlockForm.{BlockForm}
 use Rattle.office_types.specs.declared.state.GrantedBlock.{GrantedBlock}

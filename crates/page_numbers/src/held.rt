@@ -3,7 +3,7 @@ ghost use Rattle.std.specs.Prelude.{◌≡◌, OnOk, map};
 ghost use Rattle.std.specs.List.{flat_map};
 ghost use Rattle.can_id.specs.J1939.{ident_fields};
 ghost use Rattle.markup.specs.Writing.{Becomes, adding};
-ghost use Rattle.office_looks.specs.Held.{last_name, team_of};
+ghost use Rattle.office_seen.specs.Owners.{last_name, team_of};
 ghost use Rattle.page_parts.specs.Letters.{badge};
 ghost use Rattle.page_parts.specs.Subjects.{names_of};
 ghost use Rattle.page_parts.specs.Words.{cell};
@@ -13,8 +13,7 @@ ghost use Rattle.page_numbers.specs.Held.{name_cell, number_cells, team_cell};
 use crate::near::Blocks;
 use can_id::{Ident, J1939};
 use markup::{Markup, Piece, Tag};
-use office_looks::last_name;
-use office_seen::{FrozenSheets, View, releases_text};
+use office_seen::{FrozenSheets, View, last_name, releases_text};
 use page_parts::{
     Letters, Subject, open_part, open_table, open_wide, put_ident_hex, put_number_cell,
 };

@@ -410,7 +410,7 @@ fn put_blocks(page: &mut Markup, subject: &Subject<'_>)
 
 // ---- the part
 
-/// Adds how blocks are granted, where there is none.
+/// Adds how a block is granted, for a network that has no blocks.
 fn put_no_block(page: &mut Markup, name: &[u8])
     ensures { Becomes page.new (adding (no_block_html name.now) page.old) }
 {

@@ -2,12 +2,12 @@
 ghost use Rattle.std.specs.Prelude.{◌≡◌, ◌≤◌, ℕ, drop, false, is_some, true, length, take};
 ghost use Rattle.std.specs.List.{list_any};
 ghost use Rattle.std.specs.Option.{option_copied};
-ghost use Rattle.office_looks.specs.Held.{team_at, team_of};
+ghost use Rattle.office_seen.specs.Owners.{team_at, team_of};
 ghost use Rattle.page_numbers.specs.Charts.{is_near};
 ghost use Rattle.page_numbers.specs.Ordered.{AreOrdered, high, key, low};
 
 use can_id::{Ident, J1939};
-use office_looks::team_at;
+use office_seen::team_at;
 use office_types::{BlockForm, GrantedBlock, Team};
 use std::marker::Model;
 

@@ -4,7 +4,7 @@ use Rattle.markup.proofs.Changes.{added}
 use Rattle.page_messages.proofs.Adding.{added_as, enclosed}
 use Rattle.page_parts.specs.Words.{cell, number_cell}
 use Rattle.page_messages.specs.Nodes.{comment_html, counts_cells}
-use Rattle.office_looks.specs.Tally.{times}
+use Rattle.office_views.specs.Tally.{times}
 use Rattle.markup.specs.declared.tag.Tag.TheVariants as tag
 use Rattle.page_messages.proofs.nodes.put_node_row.Goals as goal
 

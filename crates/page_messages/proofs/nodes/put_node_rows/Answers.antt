@@ -2,8 +2,8 @@ use Rattle.std.proofs.Common.{ap, ◌∙◌}
 use Rattle.std.specs.Prelude.{ℕ, count_by}
 use Rattle.markup.specs.Writing.{adding}
 use Rattle.markup.proofs.Changes.{item_added}
-use Rattle.office_looks.specs.Nodes.{sends}
-use Rattle.office_looks.specs.Tally.{times}
+use Rattle.office_views.specs.Sending.{sends}
+use Rattle.office_views.specs.Tally.{times}
 use Rattle.page_messages.specs.Nodes.{counts_row, node_row}
 use Rattle.page_messages.proofs.nodes.put_node_rows.Goals as goal
 

@@ -1,4 +1,4 @@
-use Rattle.std.proofs.Common.{◌++◌, ◌∷◌, [], ◌∙◌, ℕ, List, refl, sym, ap, append-nil, codes}
+use Rattle.std.proofs.Common.{◌++◌, [], ◌∙◌, refl, sym, ap, append-nil, codes}
 use Rattle.std.proofs.lemmas.List.Concat.{flat_map-append}
 use Rattle.markup.specs.Html.{piece_html, words}
 use Rattle.page_numbers.specs.CellHtml.{IsLater}

@@ -1,4 +1,4 @@
-use Rattle.std.proofs.Common.{◌≡◌, ◌++◌, ◌∙◌, [], ℕ, List, ap, append-nil, map, refl}
+use Rattle.std.proofs.Common.{◌≡◌, ◌++◌, [], append-nil, map, refl}
 use Rattle.markup.specs.Html.{words}
 use Rattle.markup.specs.Writing.{whole}
 use Rattle.markup.specs.declared.tag.Tag.TheVariants as tag

@@ -1,5 +1,5 @@
 use Rattle.std.proofs.lemmas.Result.{on_ok_weaker}
-use Rattle.office_looks.specs.Held.{team_at}
+use Rattle.office_seen.specs.Owners.{team_at}
 use Rattle.office_types.specs.Free.{is_taken}
 use Rattle.page_numbers.specs.Charts.{has}
 use Rattle.page_numbers.specs.Index.{live_at}

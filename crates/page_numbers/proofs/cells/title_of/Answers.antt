@@ -1,4 +1,4 @@
-use Rattle.std.proofs.Common.{◌≡◌, ◌-◌, ◌++◌, ◌∙◌, [], ℕ, List, ap, append_assoc, codes, decimal, length, map, subst, sym, take}
+use Rattle.std.proofs.Common.{◌≡◌, ◌-◌, ◌++◌, ◌∙◌, List, ap, append_assoc, codes, decimal, length, map, subst, sym}
 use Rattle.std.proofs.lemmas.List.{length-map, take-map}
 use Rattle.dbc_sheet.specs.declared.message.Message.{Message}
 use Rattle.std.proofs.lemmas.List.Concat.{flat_map-append}

@@ -1,9 +1,9 @@
-use Rattle.std.proofs.Common.{◌++◌, ◌∙◌, [], ℕ, List, ap}
+use Rattle.std.proofs.Common.{◌++◌, ◌∙◌, [], ap}
 use Rattle.can_id.specs.Ident.{dbc_number}
 use Rattle.markup.specs.Html.{element_html}
 use Rattle.markup.specs.declared.tag.Tag.TheVariants as tag
 use Rattle.markup.proofs.Changes.{added}
-use Rattle.office_looks.specs.Held.{last_name, team_of}
+use Rattle.office_seen.specs.Owners.{last_name, team_of}
 use Rattle.office_seen.specs.Since.{releases_text}
 use Rattle.page_parts.specs.Subjects.{names_of}
 use Rattle.page_numbers.specs.Held.{name_cell, number_cells, team_cell}

@@ -1,6 +1,5 @@
-use Rattle.std.proofs.Common.{◌∙◌, List, ℕ, codes, ap}
+use Rattle.std.proofs.Common.{◌∙◌, List, codes, ap}
 use Rattle.std.specs.List.{flat_map}
-use Rattle.markup.specs.Writing.{Becomes}
 use Rattle.office_types.specs.declared.state.GrantedBlock.{GrantedBlock}
 use Rattle.page_parts.specs.Frames.{with_table}
 use Rattle.page_parts.specs.Subjects.{names_of}

@@ -1,5 +1,4 @@
 use Rattle.std.proofs.Common.{◌++◌, ◌∙◌, [], ap, codes}
-use Rattle.columns.specs.declared.run.Run.{Run}
 use Rattle.markup.specs.Html.{element_html}
 use Rattle.markup.specs.declared.tag.Tag.TheVariants as tag
 use Rattle.markup.proofs.Changes.{added}

@@ -1,4 +1,4 @@
-use Rattle.std.proofs.Common.{◌++◌, ◌∙◌, [], ap, codes, cond, decimal, sym}
+use Rattle.std.proofs.Common.{◌++◌, [], ap, codes, cond, decimal, sym}
 use Rattle.markup.specs.Html.{element_html}
 use Rattle.markup.specs.declared.tag.Tag.TheVariants as tag
 use Rattle.markup.proofs.Changes.{added}

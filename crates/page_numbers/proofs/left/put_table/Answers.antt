@@ -1,4 +1,4 @@
-use Rattle.std.proofs.Common.{◌∙◌, List, ℕ, codes, ap}
+use Rattle.std.proofs.Common.{codes, ap}
 use Rattle.std.specs.List.{flat_map}
 use Rattle.page_parts.specs.Subjects.{names_of}
 use Rattle.page_numbers.specs.Counts.{known_in}

@@ -1,8 +1,6 @@
-use Rattle.std.proofs.Common.{◌≡◌, ◌<◌, ◌+◌, ◌∙◌, ℕ, List, [], true, false, cond, refl, sym, ap, subst, arith, length}
+use Rattle.std.proofs.Common.{◌≡◌, ◌∙◌, List, [], true, false, cond, refl, sym, ap, subst, arith}
 use Rattle.std.specs.List.{filter_map}
 use Rattle.std.proofs.lemmas.Result.{on_ok_weaker}
-use Rattle.can_id.specs.declared.ident.Ident.{Ident}
-use Rattle.dbc_sheet.specs.declared.message.Message.{Message}
 use Rattle.office_blocks.specs.Numbers.{HaveSame}
 use Rattle.office_types.specs.Free.{is_taken}
 use Rattle.office_types.specs.declared.block.BlockForm.{BlockForm}

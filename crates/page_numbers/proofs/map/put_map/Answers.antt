@@ -1,7 +1,7 @@
-use Rattle.std.proofs.Common.{◌≡◌, ◌∙◌, Bool, MatchBool, List, ℕ, [], true, false, not, refl, sym, subst}
+use Rattle.std.proofs.Common.{◌≡◌, ◌∙◌, Bool, MatchBool, List, ℕ, [], true, false, refl, sym, subst}
 use Rattle.std.proofs.lemmas.Bool.{not-false, not-true}
 use Rattle.std.proofs.lemmas.Result.{on_ok_weaker}
-use Rattle.page_numbers.specs.Map.{IsMap, IsWholeMap, has_nothing}
+use Rattle.page_numbers.specs.Map.{IsWholeMap, has_nothing}
 use Rattle.page_numbers.proofs.Closing.{unchanged}
 use Rattle.page_numbers.proofs.map.put_map.Goals as goal
 

@@ -1,5 +1,4 @@
 use Rattle.std.proofs.Common.{◌++◌, [], refl}
-use Rattle.markup.specs.Html.{attributes_html}
 use Rattle.markup.specs.declared.tag.Tag.TheVariants as tag
 use Rattle.markup.proofs.Changes.{added}
 use Rattle.page_numbers.specs.Elements.{around}

@@ -1,4 +1,4 @@
-use Rattle.std.proofs.Common.{◌++◌, ◌∙◌, [], ap, codes, refl}
+use Rattle.std.proofs.Common.{◌++◌, ◌∙◌, ap, codes, refl}
 use Rattle.page_parts.specs.Frames.{with_part}
 use Rattle.markup.specs.Writing.{whole}
 use Rattle.markup.specs.declared.tag.Tag.TheVariants as tag

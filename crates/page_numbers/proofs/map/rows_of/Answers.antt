@@ -1,4 +1,4 @@
-use Rattle.std.proofs.Common.{◌≡◌, ◌++◌, ◌∙◌, ℕ, List, [], refl, ap, subst}
+use Rattle.std.proofs.Common.{◌++◌, ◌∙◌, ℕ, List, [], ap}
 use Rattle.std.specs.List.{flat_map}
 use Rattle.std.proofs.lemmas.Result.{IfOk-weaker}
 use Rattle.office_blocks.specs.Numbers.{HaveSame}

@@ -1,8 +1,7 @@
-use Rattle.std.proofs.Common.{◌≡◌, ◌-◌, ◌∙◌, true, ℕ, List, length, take, drop, ap, sym, subst}
-use Rattle.std.proofs.Math.Seq.{take-length}
-use Rattle.std.specs.Prelude.{option_map, false}
-use Rattle.std.specs.List.{find, list_any}
-use Rattle.std.proofs.lemmas.List.{length-drop, take_rest}
+use Rattle.std.proofs.Common.{◌≡◌, ◌-◌, ◌∙◌, true, List, length, take, drop, ap, sym, subst}
+use Rattle.std.specs.Prelude.{option_map}
+use Rattle.std.specs.List.{find}
+use Rattle.std.proofs.lemmas.List.{take_rest}
 use Rattle.std.proofs.lemmas.List.Sorted.{IsNonDecreasingBy-drop}
 use Rattle.office_seen.specs.Granted.{has_number_in}
 use Rattle.office_types.specs.declared.state.GrantedBlock.{GrantedBlock}

@@ -1,4 +1,4 @@
-use Rattle.std.proofs.Common.{◌++◌, ◌∙◌, ap, codes, decimal}
+use Rattle.std.proofs.Common.{◌++◌, ap, codes, decimal}
 use Rattle.markup.specs.Html.{escaped}
 use Rattle.markup.proofs.Changes.{added}
 use Rattle.page_numbers.proofs.Closing.{instead}

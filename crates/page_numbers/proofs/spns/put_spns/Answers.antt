@@ -1,4 +1,4 @@
-use Rattle.std.proofs.Common.{◌≡◌, ◌==◌, ◌∙◌, [], None, Bool, ap, codes, cond, length, nat_le, sym}
+use Rattle.std.proofs.Common.{◌≡◌, ◌∙◌, [], None, ap, codes, cond, length, nat_le, sym}
 use Rattle.page_parts.specs.Frames.{with_fold}
 use Rattle.page_numbers.specs.Elements.{fold_html, part_html}
 use Rattle.page_numbers.specs.Spns.{list_html, spns_html, summary_html}

@@ -1,5 +1,5 @@
 use Rattle.std.proofs.Common.{◌∙◌, List, ap}
-use Rattle.office_looks.specs.Held.{team_at}
+use Rattle.office_seen.specs.Owners.{team_at}
 use Rattle.office_types.specs.declared.state.GrantedBlock.{GrantedBlock}
 use Rattle.page_numbers.proofs.near.Blocks.near.Goals as goal
 

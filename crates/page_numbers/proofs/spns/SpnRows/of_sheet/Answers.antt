@@ -1,4 +1,4 @@
-use Rattle.std.proofs.Common.{◌≡◌, ◌++◌, ◌∙◌, List, ap, map}
+use Rattle.std.proofs.Common.{◌++◌, ◌∙◌, List, ap, map}
 use Rattle.std.specs.List.{flat_map}
 use Rattle.dbc_sheet.specs.declared.sheet.Sheet.{Sheet}
 use Rattle.page_numbers.specs.Spns.{first_in, said_of}

@@ -19,7 +19,9 @@ use Rattle.office_types.specs.declared.state.GrantedBlock.{GrantedBlock}
 use Rattle.office_types.specs.declared.state.Phase.TheVariants.{Draft}
 use Rattle.office_types.specs.Free.{least_free}
 use Rattle.office_seen.specs.declared.view.View.{View}
-use Rattle.office_blocks.specs.Blocks.{block_line, blocks_text, runs_in, taken_numbers}
+use Rattle.office_blocks.specs.Blocks.{block_row, blocks_table, runs_in, taken_numbers}
+use Rattle.office_blocks.specs.declared.blocks.TheConstants.{BLOCKS}
+use Rattle.rows.specs.Lines.{line_text, table_text}
 
 abbrev whole : ℕ → Number
 whole n = record { mantissa = pos n; exponent = pos 0 }
@@ -74,44 +76,47 @@ seen = record {
   used = 191 ∷ 516096 ∷ 516097 ∷ [];
 }
 
+abbrev line_of : GrantedBlock → List ℕ
+line_of g = line_text BLOCKS (block_row seen g)
+
 -- one number is live and one held
-groups_line : block_line seen (granted Pgn 65300 65309 (codes "brakes"))
+groups_line : line_of (granted Pgn 65300 65309 (codes "brakes"))
     ≡ codes "pgn     65300     65309 brakes       live    1 held   1 free     8 65302-65309\n"
 unfolding digits
 groups_line = refl
 
 -- a number that two signals have counts once, and one that is used elsewhere is held
-spn_line : block_line seen (granted Spn 516096 516105 (codes "engine"))
+spn_line : line_of (granted Spn 516096 516105 (codes "engine"))
     ≡ codes "spn    516096    516105 engine       live    1 held   1 free     8 516098-516105\n"
 unfolding digits
 spn_line = refl
 
 -- nothing is left
-none_left : block_line seen (granted Spn 191 191 (codes "transmission"))
+none_left : line_of (granted Spn 191 191 (codes "transmission"))
     ≡ codes "spn       191       191 transmission live    0 held   1 free     0 -\n"
 unfolding digits
 none_left = refl
 
 -- a gap of one number, and the rest
-std_line : block_line seen (granted Std 1024 1033 (codes "dash"))
+std_line : line_of (granted Std 1024 1033 (codes "dash"))
     ≡ codes "std      1024      1033 dash         live    1 held   1 free     8 1025,1027-1033\n"
 unfolding digits
 std_line = refl
 
 -- four of five runs are shown
-five_runs : block_line seen (granted Ext 101 112 (codes "body"))
+five_runs : line_of (granted Ext 101 112 (codes "body"))
     ≡ codes "ext       101       112 body         live    5 held   0 free     7 101,103,105,107,..\n"
 unfolding digits
 five_runs = refl
 
 -- four of four are, and no mark
-four_runs : block_line seen (granted Ext 101 107 (codes "body"))
+four_runs : line_of (granted Ext 101 107 (codes "body"))
     ≡ codes "ext       101       107 body         live    3 held   0 free     4 101,103,105,107\n"
 unfolding digits
 four_runs = refl
 
 -- below 61440 only numbers with a low byte of 0 are groups
-both_formats : block_line seen (granted Pgn 61183 61441 (codes "engine"))
+both_formats : line_of (granted Pgn 61183 61441 (codes "engine"))
     ≡ codes "pgn     61183     61441 engine       live    0 held   0 free     3 61184,61440-61441\n"
 unfolding digits
 both_formats = refl
@@ -125,19 +130,19 @@ next_addressed : least_free (taken_numbers Pgn seen) (record { first = 0; last =
 next_addressed = refl
 
 -- the team's blocks alone, and what is left in them
-of_team : blocks_text (Some (codes "dash")) seen
+of_team : table_text (blocks_table (Some (codes "dash")) seen)
     ≡ codes "std      1024      1033 dash         live    1 held   1 free     8 1025,1027-1033\n"
     ++ (codes "ext       500       500 dash         live    0 held   0 free     1 500\n"
     ++ codes "blocks 2 free std 8 ext 1 pgn 0 spn 0\n")
 unfolding digits
 of_team = refl
 
-of_nobody : blocks_text (Some (codes "doors")) seen ≡ codes "blocks 0 free std 0 ext 0 pgn 0 spn 0\n"
+of_nobody : table_text (blocks_table (Some (codes "doors")) seen) ≡ codes "blocks 0 free std 0 ext 0 pgn 0 spn 0\n"
 unfolding digits
 of_nobody = refl
 
 -- those of all teams
-of_all : blocks_text None seen
+of_all : table_text (blocks_table None seen)
     ≡ codes "std      1024      1033 dash         live    1 held   1 free     8 1025,1027-1033\n"
     ++ (codes "ext       101       112 body         live    5 held   0 free     7 101,103,105,107,..\n"
     ++ (codes "ext       500       500 dash         live    0 held   0 free     1 500\n"

@@ -1,26 +1,21 @@
 -- What is said of a block depends only on which numbers are live and which are taken.
 use Rattle.std.proofs.Common.{◌≡◌, ℕ, ◌+◌, ◌-◌, ◌&&◌, List, [], ◌∷◌, ◌++◌, not, length, refl, ap, ◌∙◌}
-use Rattle.std.specs.Prelude.{codes}
 use Rattle.std.specs.List.{flat_map}
-use Rattle.columns.specs.Padding.{set_left}
 use Rattle.columns.specs.Run.{runs_of}
-use Rattle.columns.specs.Word.{word}
+use Rattle.columns.specs.declared.run.Run.{Run}
 use Rattle.office_types.specs.Block.{Range}
 use Rattle.office_types.specs.Free.{has_form, is_taken}
 use Rattle.office_types.specs.declared.block.BlockForm.{BlockForm}
 use Rattle.office_types.specs.declared.free.NumberForm.{NumberForm}
 use Rattle.office_types.specs.declared.state.GrantedBlock.{GrantedBlock}
-use Rattle.office_seen.specs.Lines.{counted}
 use Rattle.office_seen.specs.declared.view.View.{View}
-use Rattle.office_blocks.specs.Blocks.{block_line, forms_in, free_columns, free_count}
-use Rattle.office_blocks.specs.Blocks.{free_numbers, free_runs, free_text}
-use Rattle.office_blocks.specs.Blocks.{held_count, left_columns, line_with, live_count}
-use Rattle.office_blocks.specs.Blocks.{live_numbers, range_columns, runs_in}
-use Rattle.office_blocks.specs.Blocks.{step_of, taken_numbers}
+use Rattle.office_blocks.specs.Blocks.{block_row, form_word, forms_in, free_count, free_numbers, free_runs, held_count}
+use Rattle.office_blocks.specs.Blocks.{live_count, live_numbers, row_with, runs_in, step_of, taken_numbers}
 use Rattle.office_blocks.specs.Numbers.{AreNumbersOf, AreOf, of_form}
 use Rattle.office_blocks.specs.declared.numbers.FormNumbers.{FormNumbers}
 use Rattle.office_blocks.specs.declared.numbers.Numbers.{Numbers}
 use Rattle.office_blocks.proofs.Counting.{count_alike, filter_alike}
+use Rattle.rows.specs.Fact.{Fact, of_free, of_name, of_number, of_word}
 
 flat_map_alike : {X A : Type 0} (f g : X → List A) (xs : List X) → ((x : X) → f x ≡ g x) → flat_map f xs ≡ flat_map g xs
 flat_map_alike f g [] e = refl
@@ -50,31 +45,23 @@ module _ (live taken : List ℕ) (numbers : FormNumbers) (are : AreOf live taken
   runs_same b = flat_map_alike (runs_in numbers.taken b) (runs_in taken b) (forms_in b.form)
       (λ form. ap (runs_of (step_of form)) (free_same b form))
 
-  free_columns_same : (b : Range) → free_columns numbers.taken b ≡ free_columns taken b
-  free_columns_same b =
-      ap (λ n. counted (codes "free") 5 n ++ (codes " " ++ free_text (free_runs numbers.taken b))) (count_same b)
-      ∙ ap (λ rs. counted (codes "free") 5 (free_count taken b) ++ (codes " " ++ free_text rs)) (runs_same b)
+  row_same : (g : GrantedBlock) → row_with numbers.live numbers.taken g ≡ row_with live taken g
+  row_same g =
+      let b = g.block in
+      let row : ℕ → ℕ → ℕ → List Run → List Fact =
+      λ l h f rs. of_name (form_word b.form) ∷ of_number b.first ∷ of_number b.last ∷ of_word g.team
+      ∷ of_number l ∷ of_number h ∷ of_number f ∷ of_free rs ∷ [] in
+      ap (λ l. row l (held_count numbers.live numbers.taken b) (free_count numbers.taken b) (free_runs numbers.taken b))
+      (live_same b)
+      ∙ ap (λ h. row (live_count live b) h (free_count numbers.taken b) (free_runs numbers.taken b)) (held_same b)
+      ∙ ap (λ f. row (live_count live b) (held_count live taken b) f (free_runs numbers.taken b)) (count_same b)
+      ∙ ap (row (live_count live b) (held_count live taken b) (free_count taken b)) (runs_same b)
 
-  left_columns_same : (b : Range) → left_columns numbers.live numbers.taken b ≡ left_columns live taken b
-  left_columns_same b =
-      ap (λ n. counted (codes "live") 4 n
-      ++ (codes " " ++ (counted (codes "held") 3 (held_count numbers.live numbers.taken b)
-      ++ (codes " " ++ free_columns numbers.taken b)))) (live_same b)
-      ∙ ap (λ n. counted (codes "live") 4 (live_count live b)
-      ++ (codes " " ++ (counted (codes "held") 3 n ++ (codes " " ++ free_columns numbers.taken b)))) (held_same b)
-      ∙ ap (λ text. counted (codes "live") 4 (live_count live b)
-      ++ (codes " " ++ (counted (codes "held") 3 (held_count live taken b) ++ (codes " " ++ text))))
-      (free_columns_same b)
-
-  line_same : (g : GrantedBlock) → line_with numbers.live numbers.taken g ≡ line_with live taken g
-  line_same g = ap (λ left. range_columns g.block
-      ++ (codes " " ++ (set_left 12 (word g.team) ++ (codes " " ++ (left ++ codes "\n"))))) (left_columns_same g.block)
-
-pub line_is : (view : View) (numbers : Numbers) (g : GrantedBlock) → AreNumbersOf view numbers
-    → line_with (of_form g.block.form numbers).live (of_form g.block.form numbers).taken g ≡ block_line view g
-line_is view numbers g are =
+pub row_is : (view : View) (numbers : Numbers) (g : GrantedBlock) → AreNumbersOf view numbers
+    → row_with (of_form g.block.form numbers).live (of_form g.block.form numbers).taken g ≡ block_row view g
+row_is view numbers g are =
     let form = g.block.form in
-    line_same (live_numbers form view) (taken_numbers form view) (of_form form numbers) (are form) g
+    row_same (live_numbers form view) (taken_numbers form view) (of_form form numbers) (are form) g
 
 pub free_is : (view : View) (numbers : Numbers) (form : BlockForm) (b : Range) → AreNumbersOf view numbers
     → free_count (of_form form numbers).taken b ≡ free_count (taken_numbers form view) b

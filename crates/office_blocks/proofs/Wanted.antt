@@ -2,8 +2,8 @@
 use Rattle.std.proofs.Common.{◌≡◌, ℕ, ◌+◌, ◌<◌, ◌&&◌, Bool, true, false, List}
 use Rattle.std.proofs.Common.{[], ◌∷◌, ◌++◌, length, take, get_or, cond}
 use Rattle.std.proofs.Common.{map, sum, sym, ap, ◌∙◌, append-nil, refl}
-use Rattle.std.specs.List.{filter, flat_map, sum_by}
-use Rattle.std.proofs.lemmas.List.Concat.{flat_map-append}
+use Rattle.std.specs.List.{filter, sum_by}
+use Rattle.std.proofs.lemmas.List.{map-append}
 use Rattle.std.proofs.lemmas.List.Elements.{filter-append, filter_more}
 use Rattle.office_types.proofs.Least.{both_true}
 use Rattle.std.proofs.lemmas.List.Sums.{sum-map, sum_by_push}
@@ -21,18 +21,18 @@ module _ {X : Type 0} (p : X → Bool) (xs : List X) (i : ℕ) (x : X)
   filter_passed e =
       filter_further ∙ ap (λ b. filter p (take i xs) ++ cond b (x ∷ []) []) e ∙ append-nil (filter p (take i xs))
 
-  -- the piece of a wanted block more
-  pub piece_kept : (f : X → List ℕ) (before piece after : List ℕ) → p x ≡ true
-      → before ≡ flat_map f (filter p (take i xs)) → piece ≡ f x → after ≡ before ++ piece
-      → after ≡ flat_map f (filter p (take (i + 1) xs))
-  piece_kept f before piece after e so one more =
-      more ∙ ap (λ v. v ++ piece) so ∙ ap (λ v. flat_map f (filter p (take i xs)) ++ v) (one ∙ sym (append-nil (f x)))
-      ∙ sym (flat_map-append f (filter p (take i xs)) (x ∷ []))
-      ∙ ap (flat_map f) (sym (filter_kept e))
+  -- the row of a wanted block more
+  pub row_kept : {A : Type 0} (f : X → A) (before after : List A) (row : A) → p x ≡ true
+      → before ≡ map f (filter p (take i xs)) → row ≡ f x → after ≡ before ++ row ∷ []
+      → after ≡ map f (filter p (take (i + 1) xs))
+  row_kept f before after row e so one more =
+      more ∙ ap (λ v. v ++ row ∷ []) so ∙ ap (λ r. map f (filter p (take i xs)) ++ r ∷ []) one
+      ∙ sym (map-append f (filter p (take i xs)) (x ∷ []))
+      ∙ ap (map f) (sym (filter_kept e))
 
-  pub piece_passed : (f : X → List ℕ) (before : List ℕ) → p x ≡ false → before ≡ flat_map f (filter p (take i xs))
-      → before ≡ flat_map f (filter p (take (i + 1) xs))
-  piece_passed f before e so = so ∙ ap (flat_map f) (sym (filter_passed e))
+  pub row_passed : {A : Type 0} (f : X → A) (before : List A) → p x ≡ false → before ≡ map f (filter p (take i xs))
+      → before ≡ map f (filter p (take (i + 1) xs))
+  row_passed f before e so = so ∙ ap (map f) (sym (filter_passed e))
 
   module _ (q : X → Bool) (f : X → ℕ) where
     twice_kept : p x ≡ true → q x ≡ true

@@ -1,12 +1,9 @@
 -- The granted blocks, and what is left of them.
-use Rattle.std.specs.Prelude.{ℕ, ◌+◌, ◌-◌, ◌==◌, ◌&&◌, not, nat_lt, Bool, true}
-use Rattle.std.specs.Prelude.{List, [], ◌∷◌, ◌++◌, length, map, filter}
-use Rattle.std.specs.Prelude.{take, sum, count_by, codes, decimal, Option, Some, None, if◌then◌else◌}
+use Rattle.std.specs.Prelude.{ℕ, ◌+◌, ◌-◌, ◌==◌, ◌&&◌, not, Bool, true, List, [], ◌∷◌, ◌++◌, length, map, filter}
+use Rattle.std.specs.Prelude.{sum, count_by, codes, Option, Some, None}
 use Rattle.std.specs.List.{filter_map, flat_map, range_with_len}
 use Rattle.std.specs.Str.{bytes_eq}
-use Rattle.columns.specs.Padding.{set_left, set_right}
-use Rattle.columns.specs.Run.{runs_of, runs_text}
-use Rattle.columns.specs.Word.{word}
+use Rattle.columns.specs.Run.{runs_of}
 use Rattle.columns.specs.declared.run.Run.{Run}
 use Rattle.can_id.specs.declared.form.IdentForm.TheVariants.{Standard, Extended}
 use Rattle.can_id.specs.declared.ident.Ident.{Ident}
@@ -19,8 +16,10 @@ use Rattle.office_types.specs.declared.free.NumberForm.{NumberForm}
 use Rattle.office_types.specs.declared.free.NumberForm.TheVariants as number
 use Rattle.office_types.specs.declared.state.GrantedBlock.{GrantedBlock}
 use Rattle.office_rules.specs.Facts.{group_of, number_in}
-use Rattle.office_seen.specs.Lines.{counted, total}
 use Rattle.office_seen.specs.declared.view.View.{View}
+use Rattle.office_blocks.specs.declared.blocks.TheConstants.{BLOCKS, BLOCK_TOTALS}
+use Rattle.rows.specs.Fact.{Fact, of_free, of_name, of_number, of_word}
+use Rattle.rows.specs.Table.{Listing, plain}
 
 -- ---- which numbers are live, and which may not be given out
 
@@ -87,7 +86,7 @@ runs_in taken b form = runs_of (step_of form) (free_numbers taken b form)
 abbrev pub free_runs : List ℕ → Range → List Run
 free_runs taken b = flat_map (runs_in taken b) (forms_in b.form)
 
--- ---- the lines
+-- ---- the rows
 
 abbrev pub form_word : BlockForm → List ℕ
 form_word form.Std = codes "std"
@@ -95,31 +94,15 @@ form_word form.Ext = codes "ext"
 form_word form.Pgn = codes "pgn"
 form_word form.Spn = codes "spn"
 
--- the first four runs, and `,..` where there are more
-abbrev pub free_text : List Run → List ℕ
-free_text runs = runs_text (take 4 runs) ++ (if nat_lt 4 (length runs) then codes ",.." else [])
+-- form, first, last, team; how many numbers are live, held and free, and which are free
+abbrev pub row_with : List ℕ → List ℕ → GrantedBlock → List Fact
+row_with live taken g =
+    of_name (form_word g.block.form) ∷ of_number g.block.first ∷ of_number g.block.last ∷ of_word g.team
+    ∷ of_number (live_count live g.block) ∷ of_number (held_count live taken g.block)
+    ∷ of_number (free_count taken g.block) ∷ of_free (free_runs taken g.block) ∷ []
 
--- form, first, last
-abbrev pub range_columns : Range → List ℕ
-range_columns b = form_word b.form
-    ++ (codes " " ++ (set_right 9 (decimal b.first) ++ (codes " " ++ set_right 9 (decimal b.last))))
-
--- how many numbers are free, and which
-abbrev pub free_columns : List ℕ → Range → List ℕ
-free_columns taken b = counted (codes "free") 5 (free_count taken b) ++ (codes " " ++ free_text (free_runs taken b))
-
--- how many are live, held and free, where these are the live and the taken ones
-abbrev pub left_columns : List ℕ → List ℕ → Range → List ℕ
-left_columns live taken b =
-    counted (codes "live") 4 (live_count live b)
-    ++ (codes " " ++ (counted (codes "held") 3 (held_count live taken b) ++ (codes " " ++ free_columns taken b)))
-
-abbrev pub line_with : List ℕ → List ℕ → GrantedBlock → List ℕ
-line_with live taken g = range_columns g.block
-    ++ (codes " " ++ (set_left 12 (word g.team) ++ (codes " " ++ (left_columns live taken g.block ++ codes "\n"))))
-
-abbrev pub block_line : View → GrantedBlock → List ℕ
-block_line view g = line_with (live_numbers g.block.form view) (taken_numbers g.block.form view) g
+abbrev pub block_row : View → GrantedBlock → List Fact
+block_row view g = row_with (live_numbers g.block.form view) (taken_numbers g.block.form view) g
 
 -- ---- the whole
 
@@ -133,15 +116,10 @@ abbrev pub free_of_form : View → List GrantedBlock → BlockForm → ℕ
 free_of_form view blocks form =
     sum (map (λ g. free_count (taken_numbers form view) g.block) (filter (λ g. same_form g.block.form form) blocks))
 
-abbrev pub form_total : View → List GrantedBlock → BlockForm → List ℕ
-form_total view blocks form = codes " " ++ total (form_word form) (free_of_form view blocks form)
-
-abbrev pub blocks_total : View → List GrantedBlock → List ℕ
-blocks_total view blocks = total (codes "blocks") (length blocks)
-    ++ (codes " free"
-    ++ (flat_map (form_total view blocks) (form.Std ∷ form.Ext ∷ form.Pgn ∷ form.Spn ∷ []) ++ codes "\n"))
-
-abbrev pub blocks_text : Option (List ℕ) → View → List ℕ
-blocks_text team view =
+abbrev pub blocks_table : Option (List ℕ) → View → Listing
+blocks_table team view =
     let blocks = filter (is_wanted team) view.blocks in
-    flat_map (block_line view) blocks ++ blocks_total view blocks
+    let free = free_of_form view blocks in
+    plain BLOCKS (map (block_row view) blocks) BLOCK_TOTALS
+    (of_number (length blocks) ∷ of_number (free form.Std) ∷ of_number (free form.Ext) ∷ of_number (free form.Pgn)
+    ∷ of_number (free form.Spn) ∷ [])

@@ -1,20 +1,16 @@
 //! The granted blocks, and what is left of them.
-ghost use Rattle.std.specs.Prelude.{◌≡◌, ◌&&◌, IfOk, filter, length};
-ghost use Rattle.std.specs.List.{flat_map};
+ghost use Rattle.std.specs.Prelude.{◌≡◌, ◌&&◌, ◌++◌, ◌∷◌, [], IfOk, OnOk, filter, map};
 ghost use Rattle.std.specs.Option.{option_copied};
 ghost use Rattle.office_types.specs.Block.{same_form};
 ghost use Rattle.office_seen.specs.declared.view.View.{View};
-ghost use Rattle.office_blocks.specs.Blocks.{block_line, blocks_text, blocks_total};
-ghost use Rattle.office_blocks.specs.Blocks.{form_total, form_word, free_columns};
-ghost use Rattle.office_blocks.specs.Blocks.{free_of_form, free_text, is_wanted};
-ghost use Rattle.office_blocks.specs.Blocks.{left_columns, line_with, range_columns};
+ghost use Rattle.office_blocks.specs.Blocks.{block_row, blocks_table, form_word, free_of_form, is_wanted, row_with};
 ghost use Rattle.office_blocks.specs.Numbers.{AreNumbersOf};
 
 use crate::free::{held_count, left_of, live_count};
-use crate::numbers::{Ascending, FormNumbers, Numbers};
-use columns::{Run, concat, number_right, runs_text};
-use office_seen::{View, counted, team_column, total};
-use office_types::{BlockForm, FormBlock, GrantedBlock, Team};
+use crate::numbers::{FormNumbers, Numbers};
+use office_seen::View;
+use office_types::{BlockForm, GrantedBlock, Team};
+use rows::{Cell, Column, Place, Rows, Table};
 use std::alloc::{AllocError, Global};
 
 /// The word for the form.
@@ -29,81 +25,65 @@ fn form_word(form: BlockForm) -> &'static [u8]
     }
 }
 
-/// How many runs a line has at most.
-const SHOWN: usize = 4;
+/// The columns of a granted block.
+pub const BLOCKS: [Column; 8] = [
+    Column(*b"form        ", Place::Plain),
+    Column(*b"first       ", Place::Right(9)),
+    Column(*b"last        ", Place::Right(9)),
+    Column(*b"team        ", Place::Left(12)),
+    Column(*b"live        ", Place::Counted(4)),
+    Column(*b"held        ", Place::Counted(3)),
+    Column(*b"free        ", Place::Counted(5)),
+    Column(*b"numbers     ", Place::Plain),
+];
 
-/// The first runs, and a mark where there are more.
-fn free_text(alloc: Global, runs: &[Run]) -> Result<Vec<u8>, AllocError>
-    ensures { IfOk result (λ text. text.items ≡ free_text runs.now) }
-{
-    if runs.len() > SHOWN {
-        let mut text = runs_text(alloc, &runs[..SHOWN])?;
-        text.extend_from_slice(b",..")?;
-        return Ok(text);
-    }
-    runs_text(alloc, runs)
-}
+/// How many blocks there are, and how many numbers of each form are left in them.
+pub const BLOCK_TOTALS: [Column; 5] = [
+    Column(*b"blocks      ", Place::Counted(0)),
+    Column(*b"free_std    ", Place::Counted(0)),
+    Column(*b"free_ext    ", Place::Again(0)),
+    Column(*b"free_pgn    ", Place::Again(0)),
+    Column(*b"free_spn    ", Place::Again(0)),
+];
 
-/// The block's form, first and last number.
-fn range_columns(alloc: Global, block: FormBlock) -> Result<Vec<u8>, AllocError>
-    ensures { IfOk result (λ text. text.items ≡ range_columns block) }
+/// Adds the row of the block, where these are the numbers of its form.
+fn push_with<'a>(
+    alloc: Global,
+    rows: &mut Rows<'a>,
+    numbers: &FormNumbers,
+    granted: &'a GrantedBlock,
+) -> Result<(), AllocError>
+    ensures { OnOk result (rows.new
+        ≡ rows.old ++ row_with numbers.now.live numbers.now.taken granted.now ∷ []) }
 {
+    let block = granted.block;
     let range = block.numbers();
-    let first = number_right(alloc, 9, range.first as usize)?;
-    let last = number_right(alloc, 9, range.last as usize)?;
-    concat(alloc, &[form_word(block.form()), b" ", &first, b" ", &last])
+    let left = left_of(alloc, &numbers.taken, block)?;
+    let cells = vec![in alloc;
+        Cell::Name(form_word(block.form())),
+        Cell::Number(u128::from(range.first)),
+        Cell::Number(u128::from(range.last)),
+        Cell::Word(granted.team.as_bytes()),
+        Cell::Number(live_count(numbers, block) as u128),
+        Cell::Number(held_count(numbers, block) as u128),
+        Cell::Number(left.count as u128),
+        Cell::Free(left.into_runs()),
+    ]?;
+    rows.push(cells)
 }
 
-/// How many numbers of the block are free, and which.
-fn free_columns(alloc: Global, taken: &Ascending, block: FormBlock) -> Result<Vec<u8>, AllocError>
-    ensures { IfOk result (λ text. text.items ≡ free_columns taken.now block) }
-{
-    let left = left_of(alloc, taken, block)?;
-    let runs = free_text(alloc, &left.runs)?;
-    let count = counted(alloc, b"free", 5, left.count)?;
-    concat(alloc, &[&count, b" ", &runs])
-}
-
-/// How many numbers of the block are live, held and free.
-fn left_columns(
+/// Adds the row of a granted block of the view that has these numbers: its form and range, its team, how many of its
+/// numbers are live, held and free, and which are free. The error is out of memory.
+pub fn push_block<'a>(
     alloc: Global,
-    numbers: &FormNumbers,
-    block: FormBlock,
-) -> Result<Vec<u8>, AllocError>
-    ensures { IfOk result (λ text. text.items
-        ≡ left_columns numbers.now.live numbers.now.taken block) }
-{
-    let live = counted(alloc, b"live", 4, live_count(numbers, block))?;
-    let held = counted(alloc, b"held", 3, held_count(numbers, block))?;
-    let free = free_columns(alloc, &numbers.taken, block)?;
-    concat(alloc, &[&live, b" ", &held, b" ", &free])
-}
-
-/// The line of the block, where these are the numbers of its form.
-fn line_with(
-    alloc: Global,
-    numbers: &FormNumbers,
-    granted: &GrantedBlock,
-) -> Result<Vec<u8>, AllocError>
-    ensures { IfOk result (λ text. text.items
-        ≡ line_with numbers.now.live numbers.now.taken granted.now) }
-{
-    let range = range_columns(alloc, granted.block)?;
-    let team = team_column(alloc, granted.team.as_bytes())?;
-    let left = left_columns(alloc, numbers, granted.block)?;
-    concat(alloc, &[&range, b" ", &team, b" ", &left, b"\n"])
-}
-
-/// The line of a granted block of the view that has these numbers. The error is out of memory.
-pub fn block_line(
-    alloc: Global,
+    rows: &mut Rows<'a>,
     numbers: &Numbers,
-    granted: &GrantedBlock,
-) -> Result<Vec<u8>, AllocError>
-    ensures { IfOk result (λ text. (view : View) → AreNumbersOf view numbers.now
-        → text.items ≡ block_line view granted.now) }
+    granted: &'a GrantedBlock,
+) -> Result<(), AllocError>
+    ensures { OnOk result ((view : View) → AreNumbersOf view numbers.now
+        → rows.new ≡ rows.old ++ block_row view granted.now ∷ []) }
 {
-    line_with(alloc, numbers.of_form(granted.block.form()), granted)
+    push_with(alloc, rows, numbers.of_form(granted.block.form()), granted)
 }
 
 /// Whether the block is the team's; without a team any block is wanted.
@@ -116,38 +96,24 @@ fn is_wanted(team: Option<&Team>, granted: &GrantedBlock) -> bool
     }
 }
 
-/// The lines of the wanted blocks.
-fn block_lines(
+/// The rows of the wanted blocks.
+fn block_rows<'a>(
     alloc: Global,
-    view: &View,
+    view: &'a View,
     numbers: &Numbers,
     team: Option<&Team>,
-) -> Result<Vec<u8>, AllocError>
+) -> Result<Rows<'a>, AllocError>
     requires { AreNumbersOf view.now numbers.now }
-    ensures { IfOk result (λ text. text.items ≡ flat_map (block_line view.now)
+    ensures { IfOk result (λ rows. rows ≡ map (block_row view.now)
         (filter (is_wanted (option_copied team.entry)) view.now.blocks)) }
 {
-    let mut lines = Vec::new(alloc);
+    let mut rows = Rows::new(alloc);
     for granted in view.blocks.as_slice() {
         if is_wanted(team, granted) {
-            let line = block_line(alloc, numbers, granted)?;
-            lines.extend_from_slice(&line)?;
+            push_block(alloc, &mut rows, numbers, granted)?;
         }
     }
-    Ok(lines)
-}
-
-/// How many blocks are wanted.
-fn wanted_count(view: &View, team: Option<&Team>) -> usize
-    ensures { result ≡ length (filter (is_wanted (option_copied team.entry)) view.now.blocks) }
-{
-    let mut count = 0usize;
-    for granted in view.blocks.as_slice() {
-        if is_wanted(team, granted) {
-            count += 1;
-        }
-    }
-    count
+    Ok(rows)
 }
 
 /// Whether the block is wanted and has the form.
@@ -181,60 +147,26 @@ fn free_of_form(
     Ok(count)
 }
 
-/// The word for the form, and how many numbers of it are left in the wanted blocks.
-fn form_total(
+/// The team's blocks, or all where no team is given, and what is left of them. The error is out of memory.
+pub fn blocks_table<'a>(
     alloc: Global,
-    view: &View,
-    numbers: &Numbers,
+    view: &'a View,
     team: Option<&Team>,
-    form: BlockForm,
-) -> Result<Vec<u8>, AllocError>
-    requires { AreNumbersOf view.now numbers.now }
-    ensures { IfOk result (λ text. text.items ≡ form_total view.now
-        (filter (is_wanted (option_copied team.entry)) view.now.blocks) form) }
-{
-    let count = free_of_form(alloc, view, numbers, team, form)?;
-    let digits = format!(in alloc; "{count}")?;
-    concat(alloc, &[b" ", form_word(form), b" ", digits.as_bytes()])
-}
-
-/// The forms, in the order of the last line.
-const FORMS: &[BlockForm] = &[
-    BlockForm::Std,
-    BlockForm::Ext,
-    BlockForm::Pgn,
-    BlockForm::Spn,
-];
-
-/// How many blocks are wanted, and how many numbers are left in them, form by form.
-fn blocks_total(
-    alloc: Global,
-    view: &View,
-    numbers: &Numbers,
-    team: Option<&Team>,
-) -> Result<Vec<u8>, AllocError>
-    requires { AreNumbersOf view.now numbers.now }
-    ensures { IfOk result (λ text. text.items
-        ≡ blocks_total view.now (filter (is_wanted (option_copied team.entry)) view.now.blocks)) }
-{
-    let mut text = total(alloc, b"blocks", wanted_count(view, team))?;
-    text.extend_from_slice(b" free")?;
-    for form in FORMS {
-        let one = form_total(alloc, view, numbers, team, *form)?;
-        text.extend_from_slice(&one)?;
-    }
-    text.push(b'\n')?;
-    Ok(text)
-}
-
-/// The lines of the team's blocks, or of all where no team is given, and the line of the totals. The error is out of
-/// memory.
-pub fn blocks_text(alloc: Global, view: &View, team: Option<&Team>) -> Result<Vec<u8>, AllocError>
-    ensures { IfOk result (λ text. text.items ≡ blocks_text (option_copied team.entry) view.now) }
+) -> Result<Table<'a>, AllocError>
+    ensures { IfOk result (λ table. table ≡ blocks_table (option_copied team.entry) view.now) }
 {
     let numbers = Numbers::of(alloc, view)?;
-    let last = blocks_total(alloc, view, &numbers, team)?;
-    let mut text = block_lines(alloc, view, &numbers, team)?;
-    text.extend_from_slice(&last)?;
-    Ok(text)
+    let std = free_of_form(alloc, view, &numbers, team, BlockForm::Std)?;
+    let ext = free_of_form(alloc, view, &numbers, team, BlockForm::Ext)?;
+    let pgn = free_of_form(alloc, view, &numbers, team, BlockForm::Pgn)?;
+    let spn = free_of_form(alloc, view, &numbers, team, BlockForm::Spn)?;
+    let rows = block_rows(alloc, view, &numbers, team)?;
+    let totals = vec![in alloc;
+        Cell::Number(rows.count() as u128),
+        Cell::Number(std),
+        Cell::Number(ext),
+        Cell::Number(pgn),
+        Cell::Number(spn),
+    ]?;
+    Table::plain(alloc, &BLOCKS, rows, &BLOCK_TOTALS, totals)
 }

@@ -10,6 +10,7 @@ ghost use Rattle.office_blocks.specs.Blocks.{free_count, free_numbers, free_runs
 ghost use Rattle.office_blocks.specs.Numbers.{AreWithin, ArePart, left_numbers};
 
 use crate::numbers::{Ascending, FormNumbers};
+use base::Items;
 use columns::{Run, runs_of};
 use office_types::{BlockForm, FormBlock, NumberForm};
 use std::alloc::{AllocError, Global};
@@ -104,6 +105,19 @@ pub struct Left {
     pub count: usize,
     /// The runs of them; of parameter groups first those with a destination address.
     pub runs: Vec<Run>,
+}
+
+impl Left {
+    /// The runs, moved out. Takes no memory.
+    pub(crate) fn into_runs(self) -> Items<Run>
+        ensures { result ≡ self.runs.items }
+    {
+        let Left {
+            count: _count,
+            runs,
+        } = self;
+        Items::from_vec(runs)
+    }
 }
 
 /// What is left of a block of which each number has the block's form.

@@ -1,5 +1,5 @@
 -- Suspect parameter numbers computed on a small network.
-use Rattle.std.proofs.Common.{◌≡◌, false, ℕ, List, [], ◌∷◌, ◌++◌, None, codes, refl}
+use Rattle.std.proofs.Common.{◌≡◌, false, ℕ, List, [], ◌∷◌, ◌++◌, None, codes, map, refl}
 use Rattle.std.specs.Fmt.{digits}
 use Rattle.std.specs.Prelude.{pos}
 use Rattle.bitlayout.specs.declared.layout.Order.TheVariants.{Intel}
@@ -17,7 +17,9 @@ use Rattle.office_types.specs.declared.command.NetKind.TheVariants.{J1939}
 use Rattle.office_types.specs.declared.state.GrantedBlock.{GrantedBlock}
 use Rattle.office_types.specs.declared.state.Phase.TheVariants.{Draft}
 use Rattle.office_seen.specs.declared.view.View.{View}
-use Rattle.office_spns.specs.Spns.{shown_spns, spn_lines, spns_text}
+use Rattle.office_spns.specs.Spns.{shown_spns, spn_rows, spns_table}
+use Rattle.office_spns.specs.declared.spns.TheConstants.{SPNS}
+use Rattle.rows.specs.Lines.{line_text, table_text}
 
 abbrev zero_value : Number
 zero_value = record { mantissa = pos 0; exponent = pos 0 }
@@ -82,20 +84,23 @@ truck = record {
   used = 190 ∷ 513 ∷ 600 ∷ 516096 ∷ 516596 ∷ [];
 }
 
+abbrev lines_of : View → ℕ → List (List ℕ)
+lines_of view n = map (line_text SPNS) (spn_rows view n)
+
 shown : shown_spns truck ≡ 190 ∷ 513 ∷ 516096 ∷ 516596 ∷ []
 shown = refl
 
-live : spn_lines truck 190 ≡ codes "   190 live     - 2364540158 ext 0cf004fe  61444 EngineSpeed Speed\n" ∷ []
+live : lines_of truck 190 ≡ codes "   190 live     - 2364540158 ext 0cf004fe  61444 EngineSpeed Speed\n" ∷ []
 unfolding digits
 live = refl
 
 -- where the last release has it
-gone : spn_lines truck 516596
+gone : lines_of truck 516596
     ≡ codes "516596 gone   1-2 2633970414 ext 1cff32ee  65330 DriverCard CardDaysLeft\n" ∷ []
 unfolding digits
 gone = refl
 
-used : spn_lines truck 516096 ≡ codes "516096 used     -          - -   -             - - -\n" ∷ []
+used : lines_of truck 516096 ≡ codes "516096 used     -          - -   -             - - -\n" ∷ []
 unfolding digits
 used = refl
 
@@ -103,13 +108,13 @@ abbrev other_card : Message
 other_card = message 486486767 (codes "B") (signal (codes "DaysLeft") 516596 ∷ [])
 
 -- a line for each of two places, and the release in which it was
-twice : spn_lines (record truck { sheet = sheet (engine ∷ card (codes "A") ∷ other_card ∷ []) }) 516596
+twice : lines_of (record truck { sheet = sheet (engine ∷ card (codes "A") ∷ other_card ∷ []) }) 516596
     ≡ codes "516596 live   1-2 2633970414 ext 1cff32ee  65330 A CardDaysLeft\n"
     ∷ codes "516596 live   1-2 2633970415 ext 1cff32ef  65330 B DaysLeft\n" ∷ []
 unfolding digits
 twice = refl
 
-whole : spns_text truck
+whole : table_text (spns_table truck)
     ≡ codes "   190 live     - 2364540158 ext 0cf004fe  61444 EngineSpeed Speed\n"
     ++ (codes "   513 live     - 2364540158 ext 0cf004fe  61444 EngineSpeed Torque\n"
     ++ (codes "516096 used     -          - -   -             - - -\n"
@@ -118,6 +123,6 @@ whole : spns_text truck
 unfolding digits
 whole = refl
 
-nothing_used : spns_text (record truck { used = [] }) ≡ codes "spns 0 live 0 gone 0 used 0\n"
+nothing_used : table_text (spns_table (record truck { used = [] })) ≡ codes "spns 0 live 0 gone 0 used 0\n"
 unfolding digits
 nothing_used = refl

@@ -1,20 +1,20 @@
 -- The suspect parameter numbers of a network.
-use Rattle.std.specs.Prelude.{ℕ, ◌==◌, ◌||◌, not, Bool, true, false, List, [], ◌∷◌, ◌++◌, map, filter, length, count_by}
-use Rattle.std.specs.Prelude.{codes, decimal, None, unwrap_or, if◌then◌else◌}
+use Rattle.std.specs.Prelude.{ℕ, ◌==◌, ◌||◌, not, Bool, true, false, List, [], ◌∷◌, map, filter, length, count_by}
+use Rattle.std.specs.Prelude.{codes, Option, Some, None, unwrap_or, if◌then◌else◌}
 use Rattle.std.specs.List.{flat_map, last_or, list_any}
-use Rattle.columns.specs.IdentColumns.{ident_columns, no_ident_columns}
-use Rattle.columns.specs.Padding.{set_left, set_right}
-use Rattle.columns.specs.Run.{runs_of, runs_text}
+use Rattle.columns.specs.Run.{runs_of}
 use Rattle.dbc_sheet.specs.declared.message.Message.{Message}
 use Rattle.dbc_sheet.specs.declared.sheet.Sheet.{Sheet}
 use Rattle.dbc_sheet.specs.declared.signal.Signal.{Signal}
 use Rattle.office_types.specs.declared.block.BlockForm.TheVariants.{Spn}
 use Rattle.office_seen.specs.Granted.{has_number_in}
-use Rattle.office_seen.specs.Lines.{total}
 use Rattle.office_seen.specs.Since.{releases_where}
 use Rattle.office_seen.specs.declared.view.View.{View}
 use Rattle.office_spns.specs.declared.spn_use.SpnUse.{SpnUse}
 use Rattle.office_spns.specs.declared.spn_use.SpnUse.TheVariants.{Live, Gone, Used}
+use Rattle.office_spns.specs.declared.spns.TheConstants.{SPNS, SPN_TOTALS}
+use Rattle.rows.specs.Fact.{Fact, of_ident, of_name, of_number, of_runs}
+use Rattle.rows.specs.Table.{Listing, plain}
 
 -- a signal and its message
 abbrev pub Place : Type 0
@@ -55,34 +55,31 @@ is_granted n view = list_any (has_number_in Spn n) view.blocks
 abbrev pub is_shown : View → ℕ → Bool
 is_shown view n = (has_spn n view.sheet || list_any (has_spn n) view.releases) || is_granted n view
 
--- ---- the lines
+-- ---- the rows
 
 abbrev pub use_word : SpnUse → List ℕ
 use_word Live = codes "live"
 use_word Gone = codes "gone"
 use_word Used = codes "used"
 
--- number, use, releases
-abbrev pub number_columns : View → ℕ → List ℕ
-number_columns view n = set_right 6 (decimal n)
-    ++ (codes " " ++ (set_left 4 (use_word (use_of n view))
-    ++ (codes " " ++ (set_right 5 (runs_text (runs_of 1 (releases_where (has_spn n) view.releases))) ++ codes " "))))
-
 -- identifier, message, signal
-abbrev pub place_columns : Place → List ℕ
-place_columns p = ident_columns p.0.ident ++ (codes " " ++ (p.0.name ++ (codes " " ++ (p.1.name ++ codes "\n"))))
+abbrev pub place_facts : Option Place → List Fact
+place_facts None = of_ident None ∷ of_name (codes "-") ∷ of_name (codes "-") ∷ []
+place_facts (Some p) = of_ident (Some p.0.ident) ∷ of_name p.0.name ∷ of_name p.1.name ∷ []
 
--- a line without a place
-abbrev pub no_place_columns : List ℕ
-no_place_columns = no_ident_columns ++ codes " - -\n"
+-- number, use, releases, place
+abbrev pub spn_row : View → ℕ → Option Place → List Fact
+spn_row view n place =
+    of_number n ∷ of_name (use_word (use_of n view))
+    ∷ of_runs (runs_of 1 (releases_where (has_spn n) view.releases)) ∷ place_facts place
 
--- a line for each place; without places one line
-abbrev pub lines_at : View → ℕ → List Place → List (List ℕ)
-lines_at view n [] = (number_columns view n ++ no_place_columns) ∷ []
-lines_at view n (p ∷ ps) = map (λ q. number_columns view n ++ place_columns q) (p ∷ ps)
+-- a row for each place; without places one row
+abbrev pub rows_at : View → ℕ → List Place → List (List Fact)
+rows_at view n [] = spn_row view n None ∷ []
+rows_at view n (p ∷ ps) = map (λ q. spn_row view n (Some q)) (p ∷ ps)
 
-abbrev pub spn_lines : View → ℕ → List (List ℕ)
-spn_lines view n = lines_at view n (shown_places n view)
+abbrev pub spn_rows : View → ℕ → List (List Fact)
+spn_rows view n = rows_at view n (shown_places n view)
 
 -- ---- the whole
 
@@ -98,11 +95,7 @@ same_use a b = false
 abbrev pub used_so : View → SpnUse → ℕ
 used_so view wanted = count_by (λ n. same_use (use_of n view) wanted) (shown_spns view)
 
-abbrev pub spns_total : View → List ℕ
-spns_total view = total (codes "spns") (length (shown_spns view))
-    ++ (codes " " ++ (total (codes "live") (used_so view Live)
-    ++ (codes " " ++ (total (codes "gone") (used_so view Gone)
-    ++ (codes " " ++ (total (codes "used") (used_so view Used) ++ codes "\n"))))))
-
-abbrev pub spns_text : View → List ℕ
-spns_text view = flat_map (λ n. flat_map (λ line. line) (spn_lines view n)) (shown_spns view) ++ spns_total view
+abbrev pub spns_table : View → Listing
+spns_table view = plain SPNS (flat_map (spn_rows view) (shown_spns view)) SPN_TOTALS
+    (of_number (length (shown_spns view)) ∷ of_number (used_so view Live) ∷ of_number (used_so view Gone)
+    ∷ of_number (used_so view Used) ∷ [])

@@ -1,20 +1,21 @@
 //! The suspect parameter numbers of a network.
-ghost use Rattle.std.specs.Prelude.{◌≡◌, ◌++◌, count_by, IfOk, OnOk, map};
-ghost use Rattle.std.specs.List.{flat_map, list_any};
+ghost use Rattle.std.specs.Prelude.{◌≡◌, ◌++◌, ◌∷◌, [], Some, count_by, map, IfOk, OnOk};
+ghost use Rattle.std.specs.List.{list_any};
+ghost use Rattle.std.specs.Option.{option_copied};
 ghost use Rattle.office_seen.specs.Since.{releases_where};
-ghost use Rattle.office_spns.specs.Spns.{has_spn, is_granted, is_shown, lines_at, no_place_columns, number_columns};
-ghost use Rattle.office_spns.specs.Spns.{place_columns, released_places, same_use, shown_places, shown_spns, spn_lines};
-ghost use Rattle.office_spns.specs.Spns.{spns_text, spns_total, use_of, use_word};
+ghost use Rattle.office_spns.specs.Spns.{has_spn, is_granted, is_shown, place_facts, released_places, same_use};
+ghost use Rattle.office_spns.specs.Spns.{shown_places, shown_spns, spn_row, spn_rows, spns_table, use_of, use_word};
+ghost use Rattle.rows.specs.Fact.{of_ident, of_name};
 
 use crate::spn_index::SpnPlace;
 use crate::spn_use::SpnUse;
 use crate::spn_view::SpnView;
 use base::Items;
-use columns::{
-    concat, filled, ident_columns, no_ident_columns, number_right, runs_of, runs_text, set_left,
-};
-use office_seen::{View, has_number_in, total};
+use can_id::Ident;
+use columns::runs_of;
+use office_seen::{View, has_number_in};
 use office_types::BlockForm;
+use rows::{Cell, Column, Place, Rows, Table};
 use std::alloc::{AllocError, Global};
 
 /// Whether the number is in a block of the network.
@@ -107,84 +108,104 @@ fn use_word(spn_use: SpnUse) -> &'static [u8]
     }
 }
 
-/// The columns of the number, of what has become of it, and of its releases.
-fn number_columns(alloc: Global, view: &SpnView, number: u32) -> Result<Vec<u8>, AllocError>
-    ensures { IfOk result (λ text. text.items ≡ number_columns view.now number) }
-{
-    let word = set_left(alloc, 4, use_word(use_of(view, number)))?;
-    let releases = releases_with(alloc, view, number)?;
-    let runs = runs_of(alloc, 1, &releases)?;
-    let releases = runs_text(alloc, &runs)?;
-    let releases = filled(alloc, b' ', 5, &releases)?;
-    let number = number_right(alloc, 6, number as usize)?;
-    concat(alloc, &[&number, b" ", &word, b" ", &releases, b" "])
-}
+/// The columns of a suspect parameter number at a place.
+pub const SPNS: [Column; 6] = [
+    Column(*b"spn         ", Place::Right(6)),
+    Column(*b"use         ", Place::Left(4)),
+    Column(*b"releases    ", Place::Right(5)),
+    Column(*b"identifier  ", Place::Plain),
+    Column(*b"message     ", Place::Plain),
+    Column(*b"signal      ", Place::Plain),
+];
 
-/// The columns of the identifier, of the message and of the signal.
-fn place_columns(alloc: Global, place: &SpnPlace) -> Result<Vec<u8>, AllocError>
-    ensures { IfOk result (λ text. text.items ≡ place_columns place.now) }
-{
-    let message = place.message();
-    let (name, signal) = (message.name.as_bytes(), place.signal().name.as_bytes());
-    let ident = ident_columns(alloc, &message.ident)?;
-    concat(alloc, &[&ident, b" ", name, b" ", signal, b"\n"])
-}
+/// How many numbers there are, and of how many of them each has become.
+pub const SPN_TOTALS: [Column; 4] = [
+    Column(*b"spns        ", Place::Counted(0)),
+    Column(*b"live        ", Place::Counted(0)),
+    Column(*b"gone        ", Place::Counted(0)),
+    Column(*b"used        ", Place::Counted(0)),
+];
 
-/// The columns of no place.
-fn no_place_columns(alloc: Global) -> Result<Vec<u8>, AllocError>
-    ensures { IfOk result (λ text. text.items ≡ no_place_columns) }
+/// The identifier, the message and the signal of the place, if there is one.
+fn place_facts<'a>(place: Option<&SpnPlace<'a>>) -> (Option<Ident>, &'a [u8], &'a [u8])
+    ensures { of_ident result.0 ∷ of_name result.1.now ∷ of_name result.2.now ∷ []
+        ≡ place_facts (option_copied place.entry) }
 {
-    concat(alloc, &[no_ident_columns(), b" - -\n"])
-}
-
-/// A line of two parts.
-fn joined(alloc: Global, first: &[u8], second: &[u8]) -> Result<Items<u8>, AllocError>
-    ensures { IfOk result (λ line. line ≡ first.now ++ second.now) }
-{
-    let line = concat(alloc, &[first, second])?;
-    Ok(Items::from_vec(line))
-}
-
-/// The lines of the places, each with these columns before those of the place.
-fn place_lines(
-    alloc: Global,
-    before: &[u8],
-    places: &[SpnPlace],
-) -> Result<Items<Items<u8>>, AllocError>
-    ensures { IfOk result (λ lines. lines ≡ map (λ p. before.now ++ place_columns p) places.now) }
-{
-    let mut lines = Vec::new(alloc);
-    for place in places {
-        let columns = place_columns(alloc, place)?;
-        lines.push(joined(alloc, before, &columns)?)?;
+    match place {
+        None => (None, b"-", b"-"),
+        Some(place) => {
+            let message = place.message();
+            let signal = place.signal();
+            (
+                Some(message.ident),
+                message.name.as_bytes(),
+                signal.name.as_bytes(),
+            )
+        }
     }
-    Ok(Items::from_vec(lines))
 }
 
-/// The lines of the number at the places; without places one line.
-fn lines_at(
+/// Adds the row of the number, which these releases have, at the place or at none.
+fn push_at<'a>(
     alloc: Global,
-    view: &SpnView,
+    rows: &mut Rows<'a>,
+    view: &SpnView<'a>,
     number: u32,
-    places: &[SpnPlace],
-) -> Result<Items<Items<u8>>, AllocError>
-    ensures { IfOk result (λ lines. lines ≡ lines_at view.now number places.now) }
+    releases: &[u32],
+    place: Option<&SpnPlace<'a>>,
+) -> Result<(), AllocError>
+    requires { releases.now ≡ releases_where (has_spn number) view.now.releases }
+    ensures { OnOk result (rows.new
+        ≡ rows.old ++ spn_row view.now number (option_copied place.entry) ∷ []) }
 {
-    let columns = number_columns(alloc, view, number)?;
-    if !places.is_empty() {
-        return place_lines(alloc, &columns, places);
-    }
-    let nowhere = no_place_columns(alloc)?;
-    let mut lines = Items::new(alloc);
-    lines.push(joined(alloc, &columns, &nowhere)?)?;
-    Ok(lines)
+    let runs = runs_of(alloc, 1, releases)?;
+    let (ident, message, signal) = place_facts(place);
+    let cells = vec![in alloc;
+        Cell::Number(u128::from(number)),
+        Cell::Name(use_word(use_of(view, number))),
+        Cell::Runs(Items::from_vec(runs)),
+        Cell::Ident(ident),
+        Cell::Name(message),
+        Cell::Name(signal),
+    ]?;
+    rows.push(cells)
 }
 
-/// The lines of the number, one for each place at which it is shown, and one where it is shown at none.
-pub fn spn_lines(alloc: Global, view: &SpnView, number: u32) -> Result<Items<Items<u8>>, AllocError>
-    ensures { IfOk result (λ lines. lines ≡ spn_lines view.now number) }
+/// Adds the rows of the number, which these releases have, at the places.
+fn push_places<'a>(
+    alloc: Global,
+    rows: &mut Rows<'a>,
+    view: &SpnView<'a>,
+    number: u32,
+    releases: &[u32],
+    places: &[SpnPlace<'a>],
+) -> Result<(), AllocError>
+    requires { releases.now ≡ releases_where (has_spn number) view.now.releases }
+    ensures { OnOk result (rows.new
+        ≡ rows.old ++ map (λ p. spn_row view.now number (Some p)) places.now) }
 {
-    lines_at(alloc, view, number, shown_places(view, number))
+    for place in places {
+        push_at(alloc, rows, view, number, releases, Some(place))?;
+    }
+    Ok(())
+}
+
+/// Adds the rows of the number: one for each place at which it is shown, and one where it is shown at none. The error
+/// is out of memory.
+pub fn push_spn<'a>(
+    alloc: Global,
+    rows: &mut Rows<'a>,
+    view: &SpnView<'a>,
+    number: u32,
+) -> Result<(), AllocError>
+    ensures { OnOk result (rows.new ≡ rows.old ++ spn_rows view.now number) }
+{
+    let releases = releases_with(alloc, view, number)?;
+    let places = shown_places(view, number);
+    match places {
+        [] => push_at(alloc, rows, view, number, &releases, None),
+        [_, ..] => push_places(alloc, rows, view, number, &releases, places),
+    }
 }
 
 /// The numbers that are shown, of those that were used, in ascending order.
@@ -198,29 +219,6 @@ pub fn shown_spns(alloc: Global, view: &SpnView) -> Result<Vec<u32>, AllocError>
         }
     }
     Ok(numbers)
-}
-
-/// Appends the lines.
-fn add_lines(text: &mut Vec<u8>, lines: &[Items<u8>]) -> Result<(), AllocError>
-    ensures { OnOk result (text.new.items ≡ text.old.items ++ flat_map (λ line. line) lines.now) }
-{
-    for line in lines {
-        text.extend_from_slice(line.as_slice())?;
-    }
-    Ok(())
-}
-
-/// The lines of the numbers.
-fn lines_of(alloc: Global, view: &SpnView, numbers: &[u32]) -> Result<Vec<u8>, AllocError>
-    ensures { IfOk result (λ text. text.items
-        ≡ flat_map (λ n. flat_map (λ line. line) (spn_lines view.now n)) numbers.now) }
-{
-    let mut text = Vec::new(alloc);
-    for number in numbers {
-        let lines = spn_lines(alloc, view, *number)?;
-        add_lines(&mut text, lines.as_slice())?;
-    }
-    Ok(text)
 }
 
 /// Whether both are the same.
@@ -248,37 +246,29 @@ fn used_so(view: &SpnView, numbers: &[u32], wanted: SpnUse) -> usize
     count
 }
 
-/// The last line: how many numbers are shown, and of how many of them each has become.
-fn spns_total(alloc: Global, view: &SpnView, numbers: &[u32]) -> Result<Vec<u8>, AllocError>
-    requires { numbers.now ≡ shown_spns view.now }
-    ensures { IfOk result (λ text. text.items ≡ spns_total view.now) }
-{
-    let spns = total(alloc, b"spns", numbers.len())?;
-    let live = total(alloc, b"live", used_so(view, numbers, SpnUse::Live))?;
-    let gone = total(alloc, b"gone", used_so(view, numbers, SpnUse::Gone))?;
-    let used = total(alloc, b"used", used_so(view, numbers, SpnUse::Used))?;
-    concat(
-        alloc,
-        &[&spns, b" ", &live, b" ", &gone, b" ", &used, b"\n"],
-    )
-}
-
-/// The lines of the numbers that are shown, and the last line.
-fn indexed_text(alloc: Global, view: &SpnView) -> Result<Vec<u8>, AllocError>
-    ensures { IfOk result (λ text. text.items ≡ spns_text view.now) }
+/// The numbers that are shown, each with what has become of it, its releases and its places.
+fn indexed_table<'a>(alloc: Global, view: &SpnView<'a>) -> Result<Table<'a>, AllocError>
+    ensures { IfOk result (λ table. table ≡ spns_table view.now) }
 {
     let numbers = shown_spns(alloc, view)?;
-    let total = spns_total(alloc, view, &numbers)?;
-    let mut text = lines_of(alloc, view, &numbers)?;
-    text.extend_from_slice(&total)?;
-    Ok(text)
+    let mut rows = Rows::new(alloc);
+    for number in &numbers {
+        push_spn(alloc, &mut rows, view, *number)?;
+    }
+    let totals = vec![in alloc;
+        Cell::Number(numbers.len() as u128),
+        Cell::Number(used_so(view, &numbers, SpnUse::Live) as u128),
+        Cell::Number(used_so(view, &numbers, SpnUse::Gone) as u128),
+        Cell::Number(used_so(view, &numbers, SpnUse::Used) as u128),
+    ]?;
+    Table::plain(alloc, &SPNS, rows, &SPN_TOTALS, totals)
 }
 
 /// The network's suspect parameter numbers: those that are shown, with what has become of each, its releases and its
 /// places, and how many there are. The error is out of memory.
-pub fn spns_text(alloc: Global, view: &View) -> Result<Vec<u8>, AllocError>
-    ensures { IfOk result (λ text. text.items ≡ spns_text view.now) }
+pub fn spns_table(alloc: Global, view: &View) -> Result<Table<'_>, AllocError>
+    ensures { IfOk result (λ table. table ≡ spns_table view.now) }
 {
     let indexed = SpnView::of(alloc, view)?;
-    indexed_text(alloc, &indexed)
+    indexed_table(alloc, &indexed)
 }

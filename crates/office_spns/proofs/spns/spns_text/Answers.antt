@@ -1,4 +1,0 @@
-use Rattle.office_spns.proofs.spns.spns_text.Goals as goal
-
-pub returns : goal.returns
-returns c = rw (← c.in_ok-indexed.ensures) c.indexed_text.ensures

@@ -1,49 +1,20 @@
 -- The identifiers that are held.
-use Rattle.std.specs.Prelude.{ℕ, List, [], ◌++◌, length, find, codes, unwrap_or}
-use Rattle.std.specs.Prelude.{Option, Some, None, option_map}
-use Rattle.std.specs.List.{filter_map, flat_map, last_or}
+use Rattle.std.specs.Prelude.{List, [], ◌∷◌, length, map, Some, unwrap_or}
 use Rattle.can_id.specs.Ident.{dbc_number}
-use Rattle.can_id.specs.J1939.{fields_of, pgn_of}
 use Rattle.can_id.specs.declared.ident.Ident.{Ident}
-use Rattle.can_id.specs.declared.ident.Ident.TheVariants as id
-use Rattle.columns.specs.IdentColumns.{ident_columns}
-use Rattle.columns.specs.Padding.{set_left, set_right}
-use Rattle.columns.specs.Word.{word}
-use Rattle.dbc_sheet.specs.Messages.{message_at}
-use Rattle.dbc_sheet.specs.declared.message.Message.{Message}
-use Rattle.dbc_sheet.specs.declared.sheet.Sheet.{Sheet}
-use Rattle.office_types.specs.declared.block.BlockForm.{BlockForm}
-use Rattle.office_types.specs.declared.block.BlockForm.TheVariants as form
-use Rattle.office_types.specs.declared.state.GrantedBlock.{GrantedBlock}
-use Rattle.office_seen.specs.Granted.{has_number_in}
-use Rattle.office_seen.specs.Lines.{total}
-use Rattle.office_seen.specs.Since.{releases_text}
+use Rattle.office_seen.specs.Owners.{last_name, team_of}
+use Rattle.office_seen.specs.Since.{releases_runs}
 use Rattle.office_seen.specs.declared.view.View.{View}
-
--- the team of the first block that has the number
-abbrev pub team_at : List GrantedBlock → BlockForm → ℕ → Option (List ℕ)
-team_at blocks form n = option_map (λ (g : GrantedBlock). g.team) (find (has_number_in form n) blocks)
-
--- the team of the block of its parameter group, else of its number; none where no block has either
-abbrev pub team_of : List GrantedBlock → Ident → Option (List ℕ)
-team_of blocks (id.Std n) = team_at blocks form.Std n
-team_of blocks (id.Ext n) = elim (team_at blocks form.Pgn (pgn_of (fields_of n))) [
-  | Some team ↦ Some team
-  | None ↦ team_at blocks form.Ext n
-]
-
--- its name in the last release that has it; none where none has
-abbrev pub last_name : List Sheet → Ident → Option (List ℕ)
-last_name releases i =
-    last_or None (filter_map
-    (λ (s : Sheet). option_map (λ (m : Message). m.name) (message_at s.messages (dbc_number i))) releases)
+use Rattle.office_looks.specs.declared.held.TheConstants.{HELD, HELD_TOTALS}
+use Rattle.rows.specs.Fact.{Fact, of_ident, of_number, of_runs, of_word}
+use Rattle.rows.specs.Table.{Listing, plain}
 
 -- identifier, team, releases, name
-abbrev pub held_line : View → Ident → List ℕ
-held_line view i = ident_columns i
-    ++ (codes " " ++ (set_left 12 (word (unwrap_or (team_of view.blocks i) []))
-    ++ (codes " " ++ (set_right 5 (releases_text view.releases (dbc_number i))
-    ++ (codes " " ++ (word (unwrap_or (last_name view.releases i) []) ++ codes "\n"))))))
+abbrev pub held_row : View → Ident → List Fact
+held_row view i =
+    of_ident (Some i) ∷ of_word (unwrap_or (team_of view.blocks i) [])
+    ∷ of_runs (releases_runs view.releases (dbc_number i))
+    ∷ of_word (unwrap_or (last_name view.releases i) []) ∷ []
 
-abbrev pub held_text : View → List ℕ
-held_text view = flat_map (held_line view) view.held ++ (total (codes "held") (length view.held) ++ codes "\n")
+abbrev pub held_table : View → Listing
+held_table view = plain HELD (map (held_row view) view.held) HELD_TOTALS (of_number (length view.held) ∷ [])

@@ -3,7 +3,6 @@ pub mod Messages
 pub mod Message
 pub mod Held
 pub mod Releases
-pub mod Tally
 pub mod Nodes
 pub mod Who
 pub mod Compared

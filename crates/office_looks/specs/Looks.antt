@@ -1,37 +1,56 @@
 -- What is shown of a network.
-use Rattle.std.specs.Prelude.{ℕ, List, Option, Some, None}
+use Rattle.std.specs.Prelude.{ℕ, List, Option, Some, None, option_map}
 use Rattle.office_types.specs.declared.book.SpnBook.{SpnBook}
+use Rattle.office_types.specs.declared.look.LookForm.{LookForm}
+use Rattle.office_types.specs.declared.look.LookForm.TheVariants.{Json, Lines}
 use Rattle.office_types.specs.declared.look.NetLook.{NetLook}
 use Rattle.office_types.specs.declared.look.NetLook.TheVariants as look
 use Rattle.office_types.specs.declared.state.Net.{Net}
 use Rattle.office_seen.specs.View.{view_of}
 use Rattle.office_seen.specs.declared.view.View.{View}
-use Rattle.office_blocks.specs.Blocks.{blocks_text}
-use Rattle.office_spns.specs.Spns.{spns_text}
-use Rattle.office_looks.specs.Compared.{compared_text}
-use Rattle.office_looks.specs.Held.{held_text}
-use Rattle.office_looks.specs.Message.{message_text}
-use Rattle.office_looks.specs.Messages.{messages_text}
-use Rattle.office_looks.specs.Nodes.{node_text, nodes_text}
-use Rattle.office_looks.specs.Releases.{releases_text}
-use Rattle.office_looks.specs.State.{state_text}
-use Rattle.office_looks.specs.Who.{who_text}
+use Rattle.office_blocks.specs.Blocks.{blocks_table}
+use Rattle.office_spns.specs.Spns.{spns_table}
+use Rattle.office_looks.specs.Compared.{compared_table}
+use Rattle.office_looks.specs.Held.{held_table}
+use Rattle.office_looks.specs.Message.{message_table, message_text}
+use Rattle.office_looks.specs.Messages.{messages_table}
+use Rattle.office_looks.specs.Nodes.{node_table, nodes_table}
+use Rattle.office_looks.specs.Releases.{releases_table}
+use Rattle.office_looks.specs.State.{state_table}
+use Rattle.office_looks.specs.Who.{who_table}
+use Rattle.rows.specs.Json.{table_json}
+use Rattle.rows.specs.Lines.{table_text}
+use Rattle.rows.specs.Table.{Listing}
 
--- nothing exactly where there is no such message, node, release, or name or number
+-- the list that the look is; nothing where there is no such message, node, name, number or release
+abbrev pub table_of : NetLook → View → Option Listing
+table_of look.State view = Some (state_table view)
+table_of (look.Blocks team) view = Some (blocks_table team view)
+table_of (look.Messages team) view = Some (messages_table team view)
+table_of (look.Message name) view = message_table name view
+table_of look.Held view = Some (held_table view)
+table_of look.Releases view = Some (releases_table view)
+table_of look.Nodes view = Some (nodes_table view)
+table_of (look.Node name) view = node_table name view
+table_of look.Spns view = Some (spns_table view)
+table_of (look.Who sought) view = who_table sought view
+table_of (look.Compare old new) view = compared_table old new view
+
+abbrev pub list_in : LookForm → Listing → List ℕ
+list_in Lines t = table_text t
+list_in Json t = table_json t
+
+-- as lines: those of the list, and of a message its chart
 abbrev pub text_of : NetLook → View → Option (List ℕ)
-text_of look.State view = Some (state_text view)
-text_of (look.Blocks team) view = Some (blocks_text team view)
-text_of (look.Messages team) view = Some (messages_text team view)
 text_of (look.Message name) view = message_text name view
-text_of look.Held view = Some (held_text view)
-text_of look.Releases view = Some (releases_text view)
-text_of look.Nodes view = Some (nodes_text view)
-text_of (look.Node name) view = node_text name view
-text_of look.Spns view = Some (spns_text view)
-text_of (look.Who sought) view = who_text sought view
-text_of (look.Compare old new) view = compared_text old new view
+text_of look view = option_map (list_in Lines) (table_of look view)
+
+-- in this form; nothing exactly where there is no such message, node, release, or name or number
+abbrev pub shown_of : LookForm → NetLook → View → Option (List ℕ)
+shown_of Lines look view = text_of look view
+shown_of Json look view = option_map (list_in Json) (table_of look view)
 
 -- of the network, where it is there
-abbrev pub net_text : Option Net → SpnBook → NetLook → Option (List ℕ)
-net_text None book look = None
-net_text (Some net) book look = text_of look (view_of net book)
+abbrev pub net_shown : LookForm → Option Net → SpnBook → NetLook → Option (List ℕ)
+net_shown form None book look = None
+net_shown form (Some net) book look = shown_of form look (view_of net book)

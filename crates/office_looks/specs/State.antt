@@ -1,51 +1,30 @@
 -- What a network has once, and how many there are of each kind of thing.
-use Rattle.std.specs.Prelude.{ℕ, ◌-◌, List, [], ◌++◌, length, codes, decimal, unwrap_or}
-use Rattle.columns.specs.Word.{word, words}
+use Rattle.std.specs.Prelude.{ℕ, ◌-◌, List, [], ◌∷◌, length, unwrap_or}
 use Rattle.dbc_sheet.specs.Pairs.{counts_of}
 use Rattle.dbc_sheet.specs.declared.counts.Counts.{Counts}
-use Rattle.dbc_sheet.specs.declared.sheet.Sheet.{Sheet}
 use Rattle.office_types.specs.State.{submitter_of}
 use Rattle.office_views.specs.NetList.{kind_word, phase_word}
 use Rattle.office_views.specs.Table.{signal_count}
-use Rattle.office_seen.specs.Lines.{fact, number_fact}
 use Rattle.office_seen.specs.Since.{last_release}
 use Rattle.office_seen.specs.declared.view.View.{View}
+use Rattle.office_looks.specs.declared.state.TheConstants.{STATE}
+use Rattle.rows.specs.Fact.{Fact, of_name, of_number, of_share, of_word, of_words}
+use Rattle.rows.specs.Table.{Listing, headed}
 
--- how many approvals a release still needs, of how many
-abbrev pub lacking : View → List ℕ
-lacking view = decimal (view.reviews - length view.approvals) ++ (codes " of " ++ decimal view.reviews)
+-- what it is and whether it is being changed; who submitted it, who approved of it, and how many approvals a release
+-- still needs; how many releases it has, and how many messages differ from those of the last one; what isn't in the
+-- sheet, and what is
+abbrev pub state_row : View → (releases : ℕ) → Counts → List Fact
+state_row view releases changes =
+    of_word view.name ∷ of_name (kind_word view.kind) ∷ of_name (phase_word view.phase)
+    ∷ of_word (unwrap_or (submitter_of view.phase) []) ∷ of_words view.approvals
+    ∷ of_share (view.reviews - length view.approvals) view.reviews
+    ∷ of_number releases ∷ of_number changes.added ∷ of_number changes.removed ∷ of_number changes.changed
+    ∷ of_number (length view.held) ∷ of_number (length view.blocks)
+    ∷ of_number (length view.sheet.nodes) ∷ of_number (length view.sheet.messages)
+    ∷ of_number (signal_count view.sheet.messages) ∷ []
 
--- what it is, and whether it is being changed
-abbrev pub head_facts : View → List ℕ
-head_facts view =
-    fact (codes "network") (word view.name)
-    ++ (fact (codes "kind") (kind_word view.kind) ++ fact (codes "phase") (phase_word view.phase))
-
-abbrev pub review_facts : View → List ℕ
-review_facts view =
-    fact (codes "submitted") (word (unwrap_or (submitter_of view.phase) []))
-    ++ (fact (codes "approved") (words view.approvals) ++ fact (codes "lacking") (lacking view))
-
--- the live sheet compared with the last release
-abbrev pub change_facts : Counts → List ℕ
-change_facts counts =
-    number_fact (codes "added") counts.added
-    ++ (number_fact (codes "removed") counts.removed ++ number_fact (codes "changed") counts.changed)
-
--- what isn't in the sheet
-abbrev pub office_facts : View → List ℕ
-office_facts view = number_fact (codes "held") (length view.held) ++ number_fact (codes "blocks") (length view.blocks)
-
-abbrev pub sheet_facts : Sheet → List ℕ
-sheet_facts sheet =
-    number_fact (codes "nodes") (length sheet.nodes)
-    ++ (number_fact (codes "messages") (length sheet.messages)
-    ++ number_fact (codes "signals") (signal_count sheet.messages))
-
-abbrev pub state_text : View → List ℕ
-state_text view =
-    head_facts view
-    ++ (review_facts view
-    ++ (number_fact (codes "releases") (length view.releases)
-    ++ (change_facts (counts_of (last_release view.releases).messages view.sheet.messages)
-    ++ (office_facts view ++ sheet_facts view.sheet))))
+abbrev pub state_table : View → Listing
+state_table view =
+    let changes = counts_of (last_release view.releases).messages view.sheet.messages in
+    headed STATE (state_row view (length view.releases) changes) []

@@ -8,7 +8,6 @@ use Rattle.can_id.specs.J1939.{fields_of, is_pgn, pgn_of}
 use Rattle.can_id.specs.declared.form.IdentForm.TheVariants.{Standard, Extended}
 use Rattle.can_id.specs.declared.ident.Ident.{Ident}
 use Rattle.can_id.specs.declared.ident.Ident.TheVariants as id
-use Rattle.columns.specs.Padding.{set_left}
 use Rattle.dbc_sheet.specs.declared.message.Message.{Message}
 use Rattle.office_rules.specs.Facts.{group_of}
 use Rattle.office_types.specs.declared.block.BlockForm.{BlockForm}
@@ -17,13 +16,21 @@ use Rattle.office_types.specs.declared.sought.Sought.{Sought}
 use Rattle.office_types.specs.declared.sought.Sought.TheVariants as sought
 use Rattle.office_types.specs.declared.state.GrantedBlock.{GrantedBlock}
 use Rattle.office_seen.specs.Granted.{has_number_in}
-use Rattle.office_seen.specs.Lines.{total}
 use Rattle.office_seen.specs.View.{owned}
 use Rattle.office_seen.specs.declared.view.View.{View}
-use Rattle.office_blocks.specs.Blocks.{block_line}
-use Rattle.office_spns.specs.Spns.{shown_spns, spn_lines}
-use Rattle.office_looks.specs.Held.{held_line, last_name}
-use Rattle.office_looks.specs.Messages.{message_line}
+use Rattle.office_blocks.specs.Blocks.{block_row}
+use Rattle.office_blocks.specs.declared.blocks.TheConstants.{BLOCKS}
+use Rattle.office_spns.specs.Spns.{shown_spns, spn_rows}
+use Rattle.office_spns.specs.declared.spns.TheConstants.{SPNS}
+use Rattle.office_seen.specs.Owners.{last_name}
+use Rattle.office_looks.specs.Held.{held_row}
+use Rattle.office_looks.specs.Message.{kind}
+use Rattle.office_looks.specs.Messages.{message_row}
+use Rattle.office_looks.specs.declared.held.TheConstants.{HELD}
+use Rattle.office_looks.specs.declared.messages.TheConstants.{MESSAGES}
+use Rattle.office_looks.specs.declared.who.TheConstants.{WHO_TOTALS}
+use Rattle.rows.specs.Fact.{Fact, of_number}
+use Rattle.rows.specs.Table.{Listing, Part, totalled}
 
 -- ---- what has what is looked for
 
@@ -115,42 +122,37 @@ has_one numbers g = list_any (λ (f : Numbered). is_number_of f && has_number_in
 abbrev pub block_hits : Sought → View → List GrantedBlock
 block_hits s view = filter (has_one (numbers_shown s view)) view.blocks
 
--- ---- the lines: those of the other looks, each with what it is before it
+-- ---- the rows: those of the other looks, each with its kind
 
-abbrev pub tagged : List ℕ → List ℕ → List ℕ
-tagged tag line = set_left 5 tag ++ (codes " " ++ line)
+abbrev pub live_rows : Sought → View → List (List Fact)
+live_rows s view = map (message_row view) (live_hits s view)
 
-abbrev pub live_lines : Sought → View → List (List ℕ)
-live_lines s view = map (λ p. tagged (codes "live") (message_line view p)) (live_hits s view)
+abbrev pub held_rows : Sought → View → List (List Fact)
+held_rows s view = map (held_row view) (held_hits s view)
 
-abbrev pub held_lines : Sought → View → List (List ℕ)
-held_lines s view = map (λ i. tagged (codes "held") (held_line view i)) (held_hits s view)
+abbrev pub spn_hit_rows : Sought → View → List (List Fact)
+spn_hit_rows s view = flat_map (spn_rows view) (spn_hits s view)
 
-abbrev pub spn_lines_of : View → ℕ → List (List ℕ)
-spn_lines_of view n = map (tagged (codes "spn")) (spn_lines view n)
+abbrev pub block_rows : Sought → View → List (List Fact)
+block_rows s view = map (block_row view) (block_hits s view)
 
-abbrev pub spn_hit_lines : Sought → View → List (List ℕ)
-spn_hit_lines s view = flat_map (spn_lines_of view) (spn_hits s view)
+abbrev pub kinds : (live held spns blocks : List (List Fact)) → List Part
+kinds live held spns blocks =
+    kind (codes "live  ") MESSAGES live ∷ kind (codes "held  ") HELD held ∷ kind (codes "spn   ") SPNS spns
+    ∷ kind (codes "block ") BLOCKS blocks ∷ []
 
-abbrev pub block_lines : Sought → View → List (List ℕ)
-block_lines s view = map (λ g. tagged (codes "block") (block_line view g)) (block_hits s view)
+abbrev pub row_counts : (live held spns blocks : List (List Fact)) → List ℕ
+row_counts live held spns blocks = length live ∷ length held ∷ length spns ∷ length blocks ∷ []
 
--- how many lines there are of each kind
-abbrev pub who_total : ℕ → ℕ → ℕ → ℕ → List ℕ
-who_total live held spns blocks = total (codes "live") live
-    ++ (codes " " ++ (total (codes "held") held
-    ++ (codes " " ++ (total (codes "spns") spns
-    ++ (codes " " ++ (total (codes "blocks") blocks ++ codes "\n"))))))
+abbrev pub kinds_table : (live held spns blocks : List (List Fact)) → Listing
+kinds_table live held spns blocks =
+    totalled (kinds live held spns blocks) WHO_TOTALS (map of_number (row_counts live held spns blocks))
 
-abbrev pub lines_with : (live held spns blocks : List (List ℕ)) → List (List ℕ)
-lines_with live held spns blocks = live ++ (held ++ (spns ++ blocks))
-
--- nothing where there are no lines
-abbrev pub text_with : (live held spns blocks : List (List ℕ)) → Option (List ℕ)
-text_with live held spns blocks = if length (lines_with live held spns blocks) == 0 then None
-    else Some (flat_map (λ line. line) (lines_with live held spns blocks)
-    ++ who_total (length live) (length held) (length spns) (length blocks))
+-- nothing where there are no rows
+abbrev pub listing : (live held spns blocks : List (List Fact)) → Option Listing
+listing live held spns blocks =
+    if list_any (nat_lt 0) (row_counts live held spns blocks) then Some (kinds_table live held spns blocks) else None
 
 -- nothing where nobody has it
-abbrev pub who_text : Sought → View → Option (List ℕ)
-who_text s view = text_with (live_lines s view) (held_lines s view) (spn_hit_lines s view) (block_lines s view)
+abbrev pub who_table : Sought → View → Option Listing
+who_table s view = listing (live_rows s view) (held_rows s view) (spn_hit_rows s view) (block_rows s view)

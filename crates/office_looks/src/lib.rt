@@ -1,18 +1,15 @@
-//! What people look up of a network, as lines: its state, blocks, messages, held identifiers, releases, nodes, suspect
-//! parameter numbers, who has a name or a number, and what changed from one release to another; and what a team's
+//! What people look up of a network, as lines and as JSON: its state, blocks, messages, held identifiers, releases, nodes,
+//! suspect parameter numbers, who has a name or a number, and what changed from one release to another; and what a team's
 //! requests were answered.
 //!
-//! [`text_of`] gives the text of a [`NetLook`](office_types::NetLook) of a [`View`](office_seen::View), `None` where
-//! the network has no such message, node or release, or nobody has the name or number; [`reads_of`] says how much of
-//! the live messages and of the releases it depends on. Each kind of look is a module, and a file of definitions in
-//! `specs/`, or a crate of its own (`office_blocks`, `office_spns`, `dbc_compare`); `Looks.antt` joins them. All lines
-//! of a look have the same columns, with one space between; nothing is cut; and what people wrote is in words without
-//! spaces (`columns`), or last. A line of the messages is that of the table of a sheet with columns put in
-//! ([`messages_are_the_table`]).
-//!
-//! Of what these texts are made of, a page of a network has use for what nodes send and receive ([`sends`],
-//! [`receives`], [`sent_tally`], [`received_tally`]), whose block a number is in ([`team_of`],
-//! [`team_at`]), and what a held identifier was called ([`last_name`]).
+//! [`shown_of`] gives what is shown for a [`NetLook`](office_types::NetLook) of a [`View`](office_seen::View), as lines or
+//! as JSON; `None` where the network has no such message, node or release, or nobody has the name or number.
+//! [`reads_of`] says how much of the live messages and of the releases it depends on. Each kind of look is a module, and a
+//! file of definitions in `specs/`, or a crate of its own (`office_blocks`, `office_spns`, `dbc_compare`); `Looks.antt`
+//! joins them. Looks are lists (`rows`): their rows and columns are described here, and how these are shown, there; a
+//! message has its chart after its lines. All lines have one space between columns; nothing is cut; and what people wrote
+//! is in words without spaces (`columns`), or last. A line of the messages is that of the table of a sheet with columns
+//! put in ([`messages_are_the_table`]).
 //!
 //! [`add_request`] appends the lines of a team's request: its key, the reply and the first line of its content, and
 //! where the reply is that of a bundle, a line for each part. [`add_total`] appends the last line, with how many
@@ -30,18 +27,14 @@ mod message_whole;
 mod messages;
 mod nodes;
 mod reads;
-mod release_lines;
+mod releases;
 mod requests;
 mod seeking;
-mod signal_lines;
+mod signal_rows;
 mod state;
-mod tally;
 mod who;
 
-pub use held::{last_name, team_at, team_of};
 pub use laws::messages_are_the_table;
-pub use looks::text_of;
-pub use nodes::{receives, sends};
+pub use looks::shown_of;
 pub use reads::{MessagesRead, Reads, ReleasesRead, reads_of};
 pub use requests::{add_request, add_total, is_refused};
-pub use tally::{Tally, received_tally, sent_tally};

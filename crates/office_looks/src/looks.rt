@@ -1,37 +1,106 @@
-//! The text of a look.
+//! What is shown for a look.
 ghost use Rattle.std.specs.Prelude.{◌≡◌, IfOk, option_map};
-ghost use Rattle.office_looks.specs.Looks.{text_of};
+ghost use Rattle.office_looks.specs.Looks.{list_in, shown_of, table_of, text_of};
 
-use crate::compared::compared_text;
-use crate::held::held_text;
-use crate::message_whole::message_text;
-use crate::messages::messages_text;
-use crate::nodes::{node_text, nodes_text};
-use crate::release_lines::releases_text;
-use crate::state::state_text;
-use crate::who::who_text;
-use office_blocks::blocks_text;
+use crate::compared::compared_in;
+use crate::held::held_table;
+use crate::message_whole::{message_table, message_text};
+use crate::messages::messages_table;
+use crate::nodes::{node_table, nodes_table};
+use crate::releases::releases_table;
+use crate::state::state_table;
+use crate::who::who_table;
+use office_blocks::blocks_table;
 use office_seen::View;
-use office_spns::spns_text;
-use office_types::NetLook;
+use office_spns::spns_table;
+use office_types::{LookForm, NetLook};
+use rows::{Table, table_json, table_text};
 use std::alloc::{AllocError, Global};
 
-/// The text of the look, as lines that end with LF; `None` exactly where there is no such message, node or release, or
-/// where nobody has the name or number. The error is out of memory.
-pub fn text_of(alloc: Global, view: &View, look: &NetLook) -> Result<Option<Vec<u8>>, AllocError>
+/// The list in the form.
+pub(crate) fn list_in(
+    alloc: Global,
+    form: LookForm,
+    table: &Table<'_>,
+) -> Result<Vec<u8>, AllocError>
+    ensures { IfOk result (λ text. text.items ≡ list_in form table.now) }
+{
+    match form {
+        LookForm::Lines => table_text(alloc, table),
+        LookForm::Json => table_json(alloc, table),
+    }
+}
+
+/// The list, if there is one, in the form.
+fn any_in(
+    alloc: Global,
+    form: LookForm,
+    table: Option<Table<'_>>,
+) -> Result<Option<Vec<u8>>, AllocError>
+    ensures { IfOk result
+        (λ text. option_map (λ t. t.items) text ≡ option_map (list_in form) table.entry) }
+{
+    match table {
+        Some(table) => Ok(Some(list_in(alloc, form, &table)?)),
+        None => Ok(None),
+    }
+}
+
+/// The list that the look is, in the form; `None` where there is no such message, node or release, or nobody has the name
+/// or number.
+fn list_text(
+    alloc: Global,
+    view: &View,
+    look: &NetLook,
+    form: LookForm,
+) -> Result<Option<Vec<u8>>, AllocError>
+    ensures { IfOk result (λ text. option_map (λ t. t.items) text
+        ≡ option_map (list_in form) (table_of look.now view.now)) }
+{
+    match look {
+        NetLook::State => any_in(alloc, form, Some(state_table(alloc, view)?)),
+        NetLook::Blocks(team) => {
+            any_in(alloc, form, Some(blocks_table(alloc, view, team.as_ref())?))
+        }
+        NetLook::Messages(team) => any_in(
+            alloc,
+            form,
+            Some(messages_table(alloc, view, team.as_ref())?),
+        ),
+        NetLook::Message(name) => any_in(alloc, form, message_table(alloc, view, name)?),
+        NetLook::Held => any_in(alloc, form, Some(held_table(alloc, view)?)),
+        NetLook::Releases => any_in(alloc, form, Some(releases_table(alloc, view)?)),
+        NetLook::Nodes => any_in(alloc, form, Some(nodes_table(alloc, view)?)),
+        NetLook::Node(name) => any_in(alloc, form, node_table(alloc, view, name)?),
+        NetLook::Spns => any_in(alloc, form, Some(spns_table(alloc, view)?)),
+        NetLook::Who(sought) => any_in(alloc, form, who_table(alloc, view, sought)?),
+        NetLook::Compare(old, new) => compared_in(alloc, view, *old, *new, form),
+    }
+}
+
+/// The look as lines: those of the list, and of a message its chart.
+fn text_of(alloc: Global, view: &View, look: &NetLook) -> Result<Option<Vec<u8>>, AllocError>
     ensures { IfOk result (λ text. option_map (λ t. t.items) text ≡ text_of look.now view.now) }
 {
     match look {
-        NetLook::State => Ok(Some(state_text(alloc, view)?)),
-        NetLook::Blocks(team) => Ok(Some(blocks_text(alloc, view, team.as_ref())?)),
-        NetLook::Messages(team) => Ok(Some(messages_text(alloc, view, team.as_ref())?)),
         NetLook::Message(name) => message_text(alloc, view, name),
-        NetLook::Held => Ok(Some(held_text(alloc, view)?)),
-        NetLook::Releases => Ok(Some(releases_text(alloc, view)?)),
-        NetLook::Nodes => Ok(Some(nodes_text(alloc, view)?)),
-        NetLook::Node(name) => node_text(alloc, view, name),
-        NetLook::Spns => Ok(Some(spns_text(alloc, view)?)),
-        NetLook::Who(sought) => who_text(alloc, view, sought),
-        NetLook::Compare(old, new) => compared_text(alloc, view, *old, *new),
+        _ => list_text(alloc, view, look, LookForm::Lines),
+    }
+}
+
+/// What is shown for the look in the form, as lines that end with LF, of which JSON is one. `None` exactly where there is
+/// no such message, node or release, or where nobody has the name or number. The error is out of memory.
+pub fn shown_of(
+    alloc: Global,
+    view: &View,
+    look: &NetLook,
+    form: LookForm,
+) -> Result<Option<Vec<u8>>, AllocError>
+    ensures { IfOk result
+        (λ text. option_map (λ t. t.items) text ≡ shown_of form look.now view.now) }
+{
+    match form {
+        LookForm::Lines => text_of(alloc, view, look),
+        LookForm::Json => list_text(alloc, view, look, LookForm::Json),
     }
 }

@@ -1,29 +1,34 @@
 //! The live messages of a network.
-ghost use Rattle.std.specs.Prelude.{◌≡◌, ◌≤◌, codes, filter, length, map, unwrap_or, IfOk};
-ghost use Rattle.std.specs.List.{flat_map};
+ghost use Rattle.std.specs.Prelude.{◌≡◌, ◌≤◌, ◌++◌, ◌∷◌, [], codes, length, map, unwrap_or, IfOk, OnOk};
 ghost use Rattle.std.specs.Option.{option_copied};
 ghost use Rattle.dbc_sheet.specs.declared.message.Message.{Message};
-ghost use Rattle.office_views.specs.Table.{signal_count};
 ghost use Rattle.office_seen.specs.Since.{last_release};
 ghost use Rattle.office_seen.specs.View.{owned};
-ghost use Rattle.office_looks.specs.Messages.{columns_before, columns_put_in, is_wanted};
-ghost use Rattle.office_looks.specs.Messages.{message_line, messages_text, messages_total};
+ghost use Rattle.office_looks.specs.Messages.{is_wanted, message_row, messages_table, signals_of, wanted};
 
-use columns::{concat, ident_columns, set_left};
 use dbc_sheet::{Message, Sheet};
-use office_seen::{View, last_release, releases_column, since, team_column};
+use office_seen::{View, last_release, releases_runs, since};
 use office_types::Team;
-use office_views::size_columns;
+use rows::{Cell, Column, Place, Rows, Table};
 use std::alloc::{AllocError, Global};
 
-/// The columns before those that are put in.
-fn columns_before(alloc: Global, message: &Message) -> Result<Vec<u8>, AllocError>
-    ensures { IfOk result (λ text. text.items ≡ columns_before message.now) }
-{
-    let ident = ident_columns(alloc, &message.ident)?;
-    let sizes = size_columns(alloc, message)?;
-    concat(alloc, &[&ident, b" ", &sizes, b" "])
-}
+/// The columns of a live message: those of the table of a sheet, with its owner, releases and change put in.
+pub const MESSAGES: [Column; 8] = [
+    Column(*b"identifier  ", Place::Plain),
+    Column(*b"length      ", Place::Right(4)),
+    Column(*b"signals     ", Place::Right(4)),
+    Column(*b"owner       ", Place::Left(12)),
+    Column(*b"releases    ", Place::Right(5)),
+    Column(*b"since       ", Place::Left(7)),
+    Column(*b"transmitter ", Place::Plain),
+    Column(*b"message     ", Place::Plain),
+];
+
+/// How many there are, and how many signals they have altogether.
+pub const MESSAGE_TOTALS: [Column; 2] = [
+    Column(*b"messages    ", Place::Counted(0)),
+    Column(*b"signals     ", Place::Counted(0)),
+];
 
 /// The message's transmitter, `-` where it has none.
 pub(crate) fn transmitter(message: &Message) -> &[u8]
@@ -35,42 +40,32 @@ pub(crate) fn transmitter(message: &Message) -> &[u8]
     }
 }
 
-/// The columns that are put in.
-fn columns_put_in(
-    alloc: Global,
-    view: &View,
-    before: &Sheet,
-    message: &Message,
-    owner: &Team,
-) -> Result<Vec<u8>, AllocError>
-    requires { before.now ≡ last_release view.now.releases }
-    ensures { IfOk result (λ text. text.items ≡ columns_put_in view.now (message.now, owner.now)) }
-{
-    let team = team_column(alloc, owner.as_bytes())?;
-    let releases = releases_column(alloc, &view.releases, message.number())?;
-    let since = set_left(alloc, 7, since(before, &view.sheet, message))?;
-    concat(alloc, &[&team, b" ", &releases, b" ", &since, b" "])
-}
-
-/// The line of a live message of this owner, where the sheet before is that of the last release. The error is out of
+/// Adds the row of a live message of this owner, where the sheet before is that of the last release. The error is out of
 /// memory.
-pub(crate) fn message_line(
+pub(crate) fn push_message<'a>(
     alloc: Global,
-    view: &View,
+    rows: &mut Rows<'a>,
+    view: &'a View,
     before: &Sheet,
-    message: &Message,
-    owner: &Team,
-) -> Result<Vec<u8>, AllocError>
+    message: &'a Message,
+    owner: &'a Team,
+) -> Result<(), AllocError>
     requires { before.now ≡ last_release view.now.releases }
-    ensures { IfOk result (λ text. text.items ≡ message_line view.now (message.now, owner.now)) }
+    ensures { OnOk result
+        (rows.new ≡ rows.old ++ message_row view.now (message.now, owner.now) ∷ []) }
 {
-    let put_in = columns_put_in(alloc, view, before, message, owner)?;
-    let before = columns_before(alloc, message)?;
-    let name = message.name.as_bytes();
-    concat(
-        alloc,
-        &[&before, &put_in, transmitter(message), b" ", name, b"\n"],
-    )
+    let releases = releases_runs(alloc, &view.releases, message.number())?;
+    let cells = vec![in alloc;
+        Cell::Ident(Some(message.ident)),
+        Cell::Number(u128::from(message.length.bytes())),
+        Cell::Number(message.signals.as_slice().len() as u128),
+        Cell::Word(owner.as_bytes()),
+        Cell::Runs(releases),
+        Cell::Name(since(before, &view.sheet, message)),
+        Cell::Name(transmitter(message)),
+        Cell::Name(message.name.as_bytes()),
+    ]?;
+    rows.push(cells)
 }
 
 /// Whether a message of this owner is the team's; without a team any is wanted.
@@ -94,82 +89,47 @@ pub(crate) fn owned_count(view: &View) -> usize
     if messages < owners { messages } else { owners }
 }
 
-/// The lines of the messages that are wanted.
-fn message_lines(
+/// The rows of the live messages that are wanted, and how many signals these have.
+fn message_rows<'a>(
     alloc: Global,
-    view: &View,
-    before: &Sheet,
+    view: &'a View,
     team: Option<&Team>,
-) -> Result<Vec<u8>, AllocError>
-    requires { before.now ≡ last_release view.now.releases }
-    ensures { IfOk result (λ text. text.items ≡ flat_map (message_line view.now)
-        (filter (is_wanted (option_copied team.entry)) (owned view.now))) }
-{
-    let messages = view.sheet.messages();
-    let owners = view.owners.as_slice();
-    let mut lines = Vec::new(alloc);
-    for index in 0..owned_count(view) {
-        let owner = &owners[index];
-        if is_wanted(team, owner) {
-            let line = message_line(alloc, view, before, &messages[index], owner)?;
-            lines.extend_from_slice(&line)?;
-        }
-    }
-    Ok(lines)
-}
-
-/// How many messages are wanted.
-fn wanted_count(view: &View, team: Option<&Team>) -> usize
-    ensures { result ≡ length (filter (is_wanted (option_copied team.entry)) (owned view.now)) }
-{
-    let owners = view.owners.as_slice();
-    let mut count = 0usize;
-    for index in 0..owned_count(view) {
-        if is_wanted(team, &owners[index]) {
-            count += 1;
-        }
-    }
-    count
-}
-
-/// How many signals the messages that are wanted have altogether.
-fn wanted_signals(view: &View, team: Option<&Team>) -> usize
-    ensures { result ≡ signal_count (map (λ p. p.0)
-        (filter (is_wanted (option_copied team.entry)) (owned view.now))) }
-{
-    let messages = view.sheet.messages();
-    let owners = view.owners.as_slice();
-    let mut count = 0usize;
-    for index in 0..owned_count(view) {
-        if is_wanted(team, &owners[index]) {
-            count += messages[index].signals.as_slice().len();
-        }
-    }
-    count
-}
-
-/// The last line.
-fn messages_total(alloc: Global, view: &View, team: Option<&Team>) -> Result<Vec<u8>, AllocError>
-    ensures { IfOk result (λ text. text.items ≡ messages_total
-        (filter (is_wanted (option_copied team.entry)) (owned view.now))) }
-{
-    let messages = wanted_count(view, team);
-    let signals = wanted_signals(view, team);
-    Ok(format!(in alloc; "messages {messages} signals {signals}\n")?.into_bytes())
-}
-
-/// The live messages with their owners and releases: all, or those of one team. The error is out of memory.
-pub(crate) fn messages_text(
-    alloc: Global,
-    view: &View,
-    team: Option<&Team>,
-) -> Result<Vec<u8>, AllocError>
-    ensures { IfOk result (λ text. text.items
-        ≡ messages_text (option_copied team.entry) view.now) }
+) -> Result<(Rows<'a>, usize), AllocError>
+    ensures rows { IfOk result (λ found. found.0
+        ≡ map (message_row view.now) (wanted (option_copied team.entry) view.now)) }
+    ensures signals { IfOk result
+        (λ found. found.1 ≡ signals_of (wanted (option_copied team.entry) view.now)) }
 {
     let empty = Sheet::new(alloc);
     let before = last_release(&view.releases, &empty);
-    let last = messages_total(alloc, view, team)?;
-    let lines = message_lines(alloc, view, before, team)?;
-    concat(alloc, &[&lines, &last])
+    let messages = view.sheet.messages();
+    let owners = view.owners.as_slice();
+    let mut rows = Rows::new(alloc);
+    let mut signals = 0usize;
+    for index in 0..owned_count(view) {
+        let owner = &owners[index];
+        if is_wanted(team, owner) {
+            let message = &messages[index];
+            push_message(alloc, &mut rows, view, before, message, owner)?;
+            signals += message.signals.as_slice().len();
+        }
+    }
+    Ok((rows, signals))
+}
+
+/// The live messages with their owners and releases: all, or those of one team. The error is out of memory.
+#[tactic(auto, using(crate::proofs::Owning::rows_counted))]
+pub(crate) fn messages_table<'a>(
+    alloc: Global,
+    view: &'a View,
+    team: Option<&Team>,
+) -> Result<Table<'a>, AllocError>
+    ensures { IfOk result (λ table. table ≡ messages_table (option_copied team.entry) view.now) }
+{
+    let (rows, signals) = message_rows(alloc, view, team)?;
+    let totals = vec![in alloc;
+        Cell::Number(rows.count() as u128),
+        Cell::Number(signals as u128),
+    ]?;
+    Table::plain(alloc, &MESSAGES, rows, &MESSAGE_TOTALS, totals)
 }

@@ -1,51 +1,16 @@
 //! The nodes, and what one of them sends and receives.
-ghost use Rattle.std.specs.Prelude.{◌≡◌, ◌<◌, ◌^◌, IfOk, count_by, length, option_map};
-ghost use Rattle.std.specs.List.{flat_map};
-ghost use Rattle.office_looks.specs.Nodes.{counts_line, node_line, node_text, node_uses, nodes_text, received};
-ghost use Rattle.office_looks.specs.Nodes.{received_lines, receives, receives_some, sends, sent_lines, use_line};
-ghost use Rattle.office_looks.specs.Nodes.{uses_total};
-ghost use Rattle.office_looks.specs.Tally.{times};
+ghost use Rattle.std.specs.Prelude.{◌≡◌, ◌++◌, ◌∷◌, [], ◌<◌, ◌^◌, IfOk, OnOk, count_by, length, map};
+ghost use Rattle.office_views.specs.Sending.{receives_some, sends};
+ghost use Rattle.office_looks.specs.Nodes.{counts_row, node_row, node_table, nodes_table, received_rows, sent_rows};
+ghost use Rattle.office_looks.specs.Nodes.{use_row, uses_table};
 
-use crate::tally::{Tally, received_tally, sent_tally};
-use columns::{concat, ident_columns, number_right, rest, set_left};
-use dbc_sheet::{Message, Node, Signal};
+use dbc_sheet::{Message, Node};
 use dbc_words::Name;
 use office_facts::has_node;
-use office_seen::{View, counted, total};
+use office_seen::View;
+use office_views::{received, received_tally, sends, sent_tally};
+use rows::{Cell, Column, Place, Rows, Table};
 use std::alloc::{AllocError, Global};
-
-/// Whether the node sends the message.
-pub fn sends(node: &Name, message: &Message) -> bool
-    ensures { result ≡ sends node.now message.now }
-{
-    match &message.transmitter {
-        Some(transmitter) => *transmitter == *node,
-        None => false,
-    }
-}
-
-/// Whether the node receives the signal.
-pub fn receives(node: &Name, signal: &Signal) -> bool
-    ensures { result ≡ receives node.now signal.now }
-{
-    signal
-        .receivers
-        .as_slice()
-        .iter()
-        .any(|receiver| *receiver == *node)
-}
-
-/// How many signals of the message the node receives.
-fn received(node: &Name, message: &Message) -> usize
-    ensures { result ≡ received node.now message.now }
-{
-    message
-        .signals
-        .as_slice()
-        .iter()
-        .filter(|signal| receives(node, signal))
-        .count()
-}
 
 /// How many of the messages the node sends.
 fn sent_count(node: &Name, messages: &[Message]) -> usize
@@ -67,129 +32,148 @@ fn received_count(node: &Name, messages: &[Message]) -> usize
         .count()
 }
 
-/// The line of a node.
-fn node_line(
+/// The columns of a node.
+pub const NODES: [Column; 4] = [
+    Column(*b"sends       ", Place::Counted(4)),
+    Column(*b"receives    ", Place::Counted(4)),
+    Column(*b"node        ", Place::Left(12)),
+    Column(*b"comment     ", Place::Plain),
+];
+
+/// How many there are.
+pub const NODE_TOTALS: [Column; 1] = [Column(*b"nodes       ", Place::Counted(0))];
+
+/// Adds the row of a node that sends and receives so many messages.
+fn push_node<'a>(
     alloc: Global,
-    sent: &Tally,
-    received: &Tally,
-    node: &Node,
-) -> Result<Vec<u8>, AllocError>
-    ensures { IfOk result (λ line. line.items ≡ counts_line (times sent.now node.now.name)
-        (times received.now node.now.name) node.now) }
+    rows: &mut Rows<'a>,
+    sending: usize,
+    receiving: usize,
+    node: &'a Node,
+) -> Result<(), AllocError>
+    ensures { OnOk result
+        (rows.new ≡ rows.old ++ counts_row sending receiving node.now ∷ []) }
 {
-    let sends = counted(alloc, b"sends", 4, sent.times(&node.name))?;
-    let receives = counted(alloc, b"receives", 4, received.times(&node.name))?;
-    let name = set_left(alloc, 12, node.name.as_bytes())?;
-    let comment = rest(alloc, node.comment.as_bytes())?;
-    concat(
-        alloc,
-        &[&sends, b" ", &receives, b" ", &name, b" ", &comment, b"\n"],
-    )
+    let cells = vec![in alloc;
+        Cell::Number(sending as u128),
+        Cell::Number(receiving as u128),
+        Cell::Name(node.name.as_bytes()),
+        Cell::Rest(node.comment.as_bytes()),
+    ]?;
+    rows.push(cells)
 }
 
-/// The lines of the nodes.
-fn node_lines(alloc: Global, messages: &[Message], nodes: &[Node]) -> Result<Vec<u8>, AllocError>
+/// The rows of the nodes.
+fn node_rows<'a>(
+    alloc: Global,
+    messages: &[Message],
+    nodes: &'a [Node],
+) -> Result<Rows<'a>, AllocError>
     requires { length messages.now < 2 ^ 64 }
-    ensures { IfOk result (λ lines. lines.items ≡ flat_map (node_line messages.now) nodes.now) }
+    ensures { IfOk result (λ rows. rows ≡ map (node_row messages.now) nodes.now) }
 {
     let sent = sent_tally(alloc, messages)?;
     let received = received_tally(alloc, messages)?;
-    let mut lines = Vec::new(alloc);
+    let mut rows = Rows::new(alloc);
     for node in nodes {
-        let line = node_line(alloc, &sent, &received, node)?;
-        lines.extend_from_slice(&line)?;
+        let sending = sent.times(&node.name);
+        let receiving = received.times(&node.name);
+        push_node(alloc, &mut rows, sending, receiving, node)?;
     }
-    Ok(lines)
+    Ok(rows)
 }
 
-/// What the nodes send and receive, as lines.
-pub(crate) fn nodes_text(alloc: Global, view: &View) -> Result<Vec<u8>, AllocError>
-    ensures { IfOk result (λ text. text.items ≡ nodes_text view.now) }
+/// The nodes, with how many messages each sends and receives. The error is out of memory.
+pub(crate) fn nodes_table(alloc: Global, view: &View) -> Result<Table<'_>, AllocError>
+    ensures { IfOk result (λ table. table ≡ nodes_table view.now) }
 {
     let nodes = view.sheet.nodes();
-    let total = total(alloc, b"nodes", nodes.len())?;
-    let lines = node_lines(alloc, view.sheet.messages(), nodes)?;
-    concat(alloc, &[&lines, &total, b"\n"])
+    let rows = node_rows(alloc, view.sheet.messages(), nodes)?;
+    let totals = vec![in alloc; Cell::Number(nodes.len() as u128)]?;
+    Table::plain(alloc, &NODES, rows, &NODE_TOTALS, totals)
 }
 
-/// The line of a message that a node sends or receives.
-fn use_line(
+/// The columns of a message that a node sends or receives.
+pub const USES: [Column; 4] = [
+    Column(*b"use         ", Place::Left(8)),
+    Column(*b"identifier  ", Place::Plain),
+    Column(*b"signals     ", Place::Right(4)),
+    Column(*b"message     ", Place::Plain),
+];
+
+/// How many it sends, and how many it receives.
+pub const USE_TOTALS: [Column; 2] = [
+    Column(*b"sends       ", Place::Counted(0)),
+    Column(*b"receives    ", Place::Counted(0)),
+];
+
+/// Adds the row of a message that a node sends or receives, with so many signals.
+fn push_use<'a>(
     alloc: Global,
-    verb: &[u8],
-    message: &Message,
+    rows: &mut Rows<'a>,
+    verb: &'static [u8],
+    message: &'a Message,
     signals: usize,
-) -> Result<Vec<u8>, AllocError>
-    ensures { IfOk result (λ line. line.items ≡ use_line verb.now message.now signals) }
+) -> Result<(), AllocError>
+    ensures { OnOk result (rows.new ≡ rows.old ++ use_row verb.now message.now signals ∷ []) }
 {
-    let verb = set_left(alloc, 8, verb)?;
-    let ident = ident_columns(alloc, &message.ident)?;
-    let count = number_right(alloc, 4, signals)?;
-    let name = message.name.as_bytes();
-    concat(
-        alloc,
-        &[&verb, b" ", &ident, b" ", &count, b" ", name, b"\n"],
-    )
+    let cells = vec![in alloc;
+        Cell::Name(verb),
+        Cell::Ident(Some(message.ident)),
+        Cell::Number(signals as u128),
+        Cell::Name(message.name.as_bytes()),
+    ]?;
+    rows.push(cells)
 }
 
-/// The lines of the messages that the node sends.
-fn sent_lines(alloc: Global, node: &Name, messages: &[Message]) -> Result<Vec<u8>, AllocError>
-    ensures { IfOk result (λ lines. lines.items ≡ sent_lines node.now messages.now) }
+/// The rows of the messages that the node sends, then of those that it receives.
+fn use_rows<'a>(alloc: Global, node: &Name, messages: &'a [Message]) -> Result<Rows<'a>, AllocError>
+    ensures { IfOk result
+        (λ rows. rows ≡ sent_rows node.now messages.now ++ received_rows node.now messages.now) }
 {
-    let mut lines = Vec::new(alloc);
+    let mut rows = Rows::new(alloc);
     for message in messages {
         if sends(node, message) {
             let signals = message.signals.as_slice().len();
-            lines.extend_from_slice(&use_line(alloc, b"sends", message, signals)?)?;
+            push_use(alloc, &mut rows, b"sends", message, signals)?;
         }
     }
-    Ok(lines)
-}
-
-/// The lines of the messages that the node receives.
-fn received_lines(alloc: Global, node: &Name, messages: &[Message]) -> Result<Vec<u8>, AllocError>
-    ensures { IfOk result (λ lines. lines.items ≡ received_lines node.now messages.now) }
-{
-    let mut lines = Vec::new(alloc);
     for message in messages {
         let signals = received(node, message);
         if signals > 0 {
-            lines.extend_from_slice(&use_line(alloc, b"receives", message, signals)?)?;
+            push_use(alloc, &mut rows, b"receives", message, signals)?;
         }
     }
-    Ok(lines)
+    Ok(rows)
 }
 
-/// How many of the messages the node sends and receives.
-fn uses_total(alloc: Global, node: &Name, messages: &[Message]) -> Result<Vec<u8>, AllocError>
-    ensures { IfOk result (λ line. line.items ≡ uses_total node.now messages.now) }
-{
-    let sends = sent_count(node, messages);
-    let receives = received_count(node, messages);
-    Ok(format!(in alloc; "sends {sends} receives {receives}\n")?.into_bytes())
-}
-
-/// What the node sends and receives, as lines.
-fn node_uses(alloc: Global, node: &Name, messages: &[Message]) -> Result<Vec<u8>, AllocError>
-    ensures { IfOk result (λ text. text.items ≡ node_uses node.now messages.now) }
-{
-    let sent = sent_lines(alloc, node, messages)?;
-    let received = received_lines(alloc, node, messages)?;
-    let total = uses_total(alloc, node, messages)?;
-    concat(alloc, &[&sent, &received, &total])
-}
-
-/// What the node sends and receives, as lines; `None` where the network has no such node.
-pub(crate) fn node_text(
+/// What the node sends and receives of the messages.
+fn uses_table<'a>(
     alloc: Global,
-    view: &View,
     node: &Name,
-) -> Result<Option<Vec<u8>>, AllocError>
-    ensures { IfOk result (λ text. option_map (λ t. t.items) text
-        ≡ node_text node.now view.now) }
+    messages: &'a [Message],
+) -> Result<Table<'a>, AllocError>
+    ensures { IfOk result (λ table. table ≡ uses_table node.now messages.now) }
+{
+    let rows = use_rows(alloc, node, messages)?;
+    let totals = vec![in alloc;
+        Cell::Number(sent_count(node, messages) as u128),
+        Cell::Number(received_count(node, messages) as u128),
+    ]?;
+    Table::plain(alloc, &USES, rows, &USE_TOTALS, totals)
+}
+
+/// What the node sends and receives; `None` where the network has no such node. The error is out of memory.
+pub(crate) fn node_table<'a>(
+    alloc: Global,
+    view: &'a View,
+    node: &Name,
+) -> Result<Option<Table<'a>>, AllocError>
+    ensures { IfOk result (λ table. table ≡ node_table node.now view.now) }
 {
     if !has_node(view.sheet.nodes(), node) {
         return Ok(None);
     }
-    let text = node_uses(alloc, node, view.sheet.messages())?;
-    Ok(Some(text))
+    let table = uses_table(alloc, node, view.sheet.messages())?;
+    Ok(Some(table))
 }

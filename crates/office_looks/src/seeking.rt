@@ -1,14 +1,13 @@
 //! What has what is looked for.
 ghost use Rattle.std.specs.Prelude.{◌≡◌, ◌++◌, ◌∷◌, [], IfOk, OnOk, unwrap_or};
-ghost use Rattle.office_looks.specs.Held.{last_name};
+ghost use Rattle.office_seen.specs.Owners.{last_name};
 ghost use Rattle.office_looks.specs.Who.{each_form, has_digits, has_one, ident_written};
 ghost use Rattle.office_looks.specs.Who.{is_group, is_number_of, is_sought};
 ghost use Rattle.office_looks.specs.Who.{is_spn_sought, numbers_if, numbers_of, numbers_sought};
 
-use crate::held::last_name;
 use can_id::{EXTENDED_FLAG, Ident, IdentForm, J1939, is_pgn};
 use office_facts::group_of;
-use office_seen::{FrozenSheets, has_number_in};
+use office_seen::{FrozenSheets, has_number_in, last_name};
 use office_types::{BlockForm, GrantedBlock, Sought};
 use std::alloc::{AllocError, Global};
 

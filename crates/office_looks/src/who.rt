@@ -1,104 +1,71 @@
 //! Who has a name or a number.
-ghost use Rattle.std.specs.Prelude.{◌≡◌, ◌==◌, ◌++◌, IfOk, OnOk, length, option_map};
-ghost use Rattle.std.specs.List.{flat_map};
+ghost use Rattle.std.specs.Prelude.{◌≡◌, ◌++◌, ◌∷◌, [], nat_lt, IfOk, OnOk};
+ghost use Rattle.std.specs.List.{list_any};
 ghost use Rattle.office_seen.specs.Since.{last_release};
-ghost use Rattle.office_looks.specs.Who.{block_lines, held_lines, held_numbers};
-ghost use Rattle.office_looks.specs.Who.{live_lines, live_numbers, numbers_shown};
-ghost use Rattle.office_looks.specs.Who.{lines_with, spn_hit_lines, spn_lines_of};
-ghost use Rattle.office_looks.specs.Who.{tagged, text_with, who_text, who_total};
+ghost use Rattle.office_looks.specs.Who.{block_rows, held_numbers, held_rows, kinds_table, listing, live_numbers};
+ghost use Rattle.office_looks.specs.Who.{live_rows, numbers_shown, spn_hit_rows, who_table};
 
-use crate::held::held_line;
-use crate::messages::{message_line, owned_count};
+use crate::held::{HELD, push_held};
+use crate::messages::{MESSAGES, owned_count, push_message};
 use crate::seeking::{
     add_numbers, has_one, is_held_sought, is_sought, is_spn_sought, numbers_sought,
 };
-use base::Items;
-use columns::{concat, set_left};
 use dbc_sheet::Sheet;
-use office_blocks::{Numbers, block_line};
+use office_blocks::{BLOCKS, Numbers, push_block};
 use office_seen::{View, last_release};
-use office_spns::{SpnView, shown_spns, spn_lines};
+use office_spns::{SPNS, SpnView, push_spn, shown_spns};
 use office_types::{BlockForm, Sought};
+use rows::{Cell, Column, Kind, Place, Rows, Table};
 use std::alloc::{AllocError, Global};
 
-/// Lines, each with its end.
-type Lines = Items<Items<u8>>;
-
-/// The line behind the word for what it is of.
-fn tagged(alloc: Global, tag: &[u8], line: &[u8]) -> Result<Items<u8>, AllocError>
-    ensures { IfOk result (λ text. text ≡ tagged tag.now line.now) }
-{
-    let tag = set_left(alloc, 5, tag)?;
-    let text = concat(alloc, &[&tag, b" ", line])?;
-    Ok(Items::from_vec(text))
-}
-
-/// The lines of the live messages that are looked for.
-fn live_lines(
+/// The rows of the live messages that are looked for.
+fn live_rows<'a>(
     alloc: Global,
-    view: &View,
+    view: &'a View,
     before: &Sheet,
     sought: &Sought,
-) -> Result<Lines, AllocError>
+) -> Result<Rows<'a>, AllocError>
     requires { before.now ≡ last_release view.now.releases }
-    ensures { IfOk result (λ lines. lines ≡ live_lines sought.now view.now) }
+    ensures { IfOk result (λ rows. rows ≡ live_rows sought.now view.now) }
 {
     let messages = view.sheet.messages();
     let owners = view.owners.as_slice();
-    let mut lines = Items::new(alloc);
+    let mut rows = Rows::new(alloc);
     for index in 0..owned_count(view) {
         let message = &messages[index];
         if is_sought(sought, &message.ident, message.name.as_bytes()) {
-            let line = message_line(alloc, view, before, message, &owners[index])?;
-            lines.push(tagged(alloc, b"live", &line)?)?;
+            push_message(alloc, &mut rows, view, before, message, &owners[index])?;
         }
     }
-    Ok(lines)
+    Ok(rows)
 }
 
-/// The lines of the held identifiers that are looked for.
-fn held_lines(alloc: Global, view: &View, sought: &Sought) -> Result<Lines, AllocError>
-    ensures { IfOk result (λ lines. lines ≡ held_lines sought.now view.now) }
+/// The rows of the held identifiers that are looked for.
+fn held_rows<'a>(alloc: Global, view: &'a View, sought: &Sought) -> Result<Rows<'a>, AllocError>
+    ensures { IfOk result (λ rows. rows ≡ held_rows sought.now view.now) }
 {
-    let mut lines = Items::new(alloc);
+    let mut rows = Rows::new(alloc);
     for ident in view.held.as_slice() {
         if is_held_sought(sought, &view.releases, ident) {
-            let line = held_line(alloc, view, ident)?;
-            lines.push(tagged(alloc, b"held", &line)?)?;
+            push_held(alloc, &mut rows, view, ident)?;
         }
     }
-    Ok(lines)
+    Ok(rows)
 }
 
-/// Adds the lines of a suspect parameter number.
-fn add_spn_lines(
-    alloc: Global,
-    view: &SpnView,
-    number: u32,
-    lines: &mut Lines,
-) -> Result<(), AllocError>
-    ensures { OnOk result (lines.new ≡ lines.old ++ spn_lines_of view.now number) }
-{
-    let found = spn_lines(alloc, view, number)?;
-    for line in found.as_slice() {
-        lines.push(tagged(alloc, b"spn", line.as_slice())?)?;
-    }
-    Ok(())
-}
-
-/// The lines of the suspect parameter numbers that are looked for.
-fn spn_hit_lines(alloc: Global, view: &View, sought: &Sought) -> Result<Lines, AllocError>
-    ensures { IfOk result (λ lines. lines ≡ spn_hit_lines sought.now view.now) }
+/// The rows of the suspect parameter numbers that are looked for.
+fn spn_hit_rows<'a>(alloc: Global, view: &'a View, sought: &Sought) -> Result<Rows<'a>, AllocError>
+    ensures { IfOk result (λ rows. rows ≡ spn_hit_rows sought.now view.now) }
 {
     let indexed = SpnView::of(alloc, view)?;
     let shown = shown_spns(alloc, &indexed)?;
-    let mut lines = Items::new(alloc);
+    let mut rows = Rows::new(alloc);
     for number in &shown {
         if is_spn_sought(sought, *number) {
-            add_spn_lines(alloc, &indexed, *number, &mut lines)?;
+            push_spn(alloc, &mut rows, &indexed, *number)?;
         }
     }
-    Ok(lines)
+    Ok(rows)
 }
 
 /// Adds the numbers of the live messages that are looked for.
@@ -151,101 +118,94 @@ fn numbers_shown(
     Ok(numbers)
 }
 
-/// The lines of the blocks that have one of the numbers.
-fn block_lines(alloc: Global, view: &View, sought: &Sought) -> Result<Lines, AllocError>
-    ensures { IfOk result (λ lines. lines ≡ block_lines sought.now view.now) }
+/// The rows of the blocks that have one of the numbers.
+fn block_rows<'a>(alloc: Global, view: &'a View, sought: &Sought) -> Result<Rows<'a>, AllocError>
+    ensures { IfOk result (λ rows. rows ≡ block_rows sought.now view.now) }
 {
     let wanted = numbers_shown(alloc, view, sought)?;
     let numbers = Numbers::of(alloc, view)?;
-    let mut lines = Items::new(alloc);
+    let mut rows = Rows::new(alloc);
     for granted in view.blocks.as_slice() {
         if has_one(&wanted, granted) {
-            let line = block_line(alloc, &numbers, granted)?;
-            lines.push(tagged(alloc, b"block", &line)?)?;
+            push_block(alloc, &mut rows, &numbers, granted)?;
         }
     }
-    Ok(lines)
+    Ok(rows)
 }
 
-/// Appends the lines.
-fn add_lines(text: &mut Vec<u8>, lines: &Lines) -> Result<(), AllocError>
-    ensures { OnOk result (text.new.items
-        ≡ text.old.items ++ flat_map (λ line. line) lines.now) }
+/// How many rows there are of each kind.
+pub const WHO_TOTALS: [Column; 4] = [
+    Column(*b"live        ", Place::Counted(0)),
+    Column(*b"held        ", Place::Counted(0)),
+    Column(*b"spns        ", Place::Counted(0)),
+    Column(*b"blocks      ", Place::Counted(0)),
+];
+
+/// Whether one of the counts isn't 0.
+fn is_any(live: usize, held: usize, spns: usize, blocks: usize) -> bool
+    ensures { result ≡ list_any (nat_lt 0) (live ∷ held ∷ spns ∷ blocks ∷ []) }
 {
-    for line in lines.as_slice() {
-        text.extend_from_slice(line.as_slice())?;
-    }
-    Ok(())
+    live > 0 || (held > 0 || (spns > 0 || blocks > 0))
 }
 
-/// How many lines there are of each kind, as the last line.
-fn who_total(
+/// The rows of each kind, and how many there are.
+fn kinds_table<'a>(
     alloc: Global,
-    live: usize,
-    held: usize,
-    spns: usize,
-    blocks: usize,
-) -> Result<Vec<u8>, AllocError>
-    ensures { IfOk result (λ line. line.items ≡ who_total live held spns blocks) }
+    live: Rows<'a>,
+    held: Rows<'a>,
+    spns: Rows<'a>,
+    blocks: Rows<'a>,
+) -> Result<Table<'a>, AllocError>
+    ensures { IfOk result
+        (λ table. table ≡ kinds_table live.entry held.entry spns.entry blocks.entry) }
 {
-    let line = format!(in alloc; "live {live} held {held} spns {spns} blocks {blocks}\n")?;
-    Ok(line.into_bytes())
+    let totals = vec![in alloc;
+        Cell::Number(live.count() as u128),
+        Cell::Number(held.count() as u128),
+        Cell::Number(spns.count() as u128),
+        Cell::Number(blocks.count() as u128),
+    ]?;
+    let kinds = vec![in alloc;
+        Kind::of(b"live  ", &MESSAGES, live),
+        Kind::of(b"held  ", &HELD, held),
+        Kind::of(b"spn   ", &SPNS, spns),
+        Kind::of(b"block ", &BLOCKS, blocks),
+    ]?;
+    Ok(Table::of(kinds, &WHO_TOTALS, totals))
 }
 
-/// Whether there are no lines of any kind.
-fn are_none(live: &Lines, held: &Lines, spns: &Lines, blocks: &Lines) -> bool
-    ensures { result ≡ (length (lines_with live.now held.now spns.now blocks.now) == 0) }
-{
-    live.as_slice().is_empty()
-        && held.as_slice().is_empty()
-        && spns.as_slice().is_empty()
-        && blocks.as_slice().is_empty()
-}
-
-/// The lines of each kind, one kind after the other, and how many there are of each; `None` where there are no lines.
-fn text_with(
+/// The rows of each kind; `None` where there are none of any.
+fn listing<'a>(
     alloc: Global,
-    live: &Lines,
-    held: &Lines,
-    spns: &Lines,
-    blocks: &Lines,
-) -> Result<Option<Vec<u8>>, AllocError>
-    ensures { IfOk result (λ text. option_map (λ t. t.items) text
-        ≡ text_with live.now held.now spns.now blocks.now) }
+    live: Rows<'a>,
+    held: Rows<'a>,
+    spns: Rows<'a>,
+    blocks: Rows<'a>,
+) -> Result<Option<Table<'a>>, AllocError>
+    ensures { IfOk result
+        (λ table. table ≡ listing live.entry held.entry spns.entry blocks.entry) }
 {
-    if are_none(live, held, spns, blocks) {
+    if !is_any(live.count(), held.count(), spns.count(), blocks.count()) {
         return Ok(None);
     }
-    let last = who_total(
-        alloc,
-        live.as_slice().len(),
-        held.as_slice().len(),
-        spns.as_slice().len(),
-        blocks.as_slice().len(),
-    )?;
-    let mut text = Vec::new(alloc);
-    add_lines(&mut text, live)?;
-    add_lines(&mut text, held)?;
-    add_lines(&mut text, spns)?;
-    add_lines(&mut text, blocks)?;
-    text.extend_from_slice(&last)?;
-    Ok(Some(text))
+    let table = kinds_table(alloc, live, held, spns, blocks)?;
+    Ok(Some(table))
 }
 
-/// Who has the name or number: live messages, held identifiers, suspect parameter numbers and blocks, as lines; `None`
-/// where nobody has it. The error is out of memory.
-pub(crate) fn who_text(
+/// Who has the name or number: live messages, held identifiers, suspect parameter numbers and blocks; `None` where
+/// nobody has it. The error is out of memory.
+pub(crate) fn who_table<'a>(
     alloc: Global,
-    view: &View,
+    view: &'a View,
     sought: &Sought,
-) -> Result<Option<Vec<u8>>, AllocError>
-    ensures { IfOk result (λ text. option_map (λ t. t.items) text ≡ who_text sought.now view.now) }
+) -> Result<Option<Table<'a>>, AllocError>
+    ensures { IfOk result (λ table. table ≡ who_table sought.now view.now) }
 {
     let empty = Sheet::new(alloc);
     let before = last_release(&view.releases, &empty);
-    let live = live_lines(alloc, view, before, sought)?;
-    let held = held_lines(alloc, view, sought)?;
-    let spns = spn_hit_lines(alloc, view, sought)?;
-    let blocks = block_lines(alloc, view, sought)?;
-    text_with(alloc, &live, &held, &spns, &blocks)
+    let live = live_rows(alloc, view, before, sought)?;
+    let held = held_rows(alloc, view, sought)?;
+    let spns = spn_hit_rows(alloc, view, sought)?;
+    let blocks = block_rows(alloc, view, sought)?;
+    listing(alloc, live, held, spns, blocks)
 }

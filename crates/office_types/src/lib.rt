@@ -12,8 +12,8 @@
 //! gives the same number, found by halving but for parameter groups.
 //!
 //! The definitions are in `specs/`: `PlainName.antt`, `Command.antt` (ranges of a command's fields),
-//! `Refusal.antt` and `Reply.antt` (numbers, names and lines), `State.antt` and `Book.antt` (orders), `Free.antt`, and
-//! `Sought.antt` (words that look for something).
+//! `Refusal.antt` and `Reply.antt` (numbers, names and lines), `State.antt` and `Book.antt` (orders), `Free.antt`,
+//! `Sought.antt` (words that look for something) and `Look.antt` (in which form).
 #![tactic(auto)]
 
 mod block;
@@ -46,7 +46,7 @@ pub use free::{
     NumberForm, is_ascending, least_free, least_free_counted, least_numbers_are_least, next_of,
 };
 pub use halving::least_gap;
-pub use look::{Look, NetLook};
+pub use look::{Look, LookForm, NetLook};
 pub use net_name::NetName;
 pub use parts::{PART_LIMIT, Parts};
 pub use quantity::{Priority, ReviewCount};

@@ -16,8 +16,8 @@ pub enum Look {
     Release(NetName, u32),
     /// The chart of the network's live message of this name.
     Chart(NetName, Name),
-    /// What the network has: its state, or one kind of thing.
-    Net(NetName, NetLook),
+    /// What the network has, in this form: its state, or one kind of thing.
+    Net(NetName, NetLook, LookForm),
     /// The live network on one HTML page.
     Page(NetName),
     /// The release of the network with this number, from 1, on one HTML page.
@@ -26,7 +26,7 @@ pub enum Look {
     Requests(Team),
 }
 
-/// What can be looked up of a network, each as lines.
+/// What can be looked up of a network.
 pub enum NetLook {
     /// What the network has once, and how many there are of each kind of thing.
     State,
@@ -52,6 +52,56 @@ pub enum NetLook {
     Compare(u32, u32),
 }
 
+/// In which form a look at a network is shown.
+#[derive(Clone, Copy)]
+pub enum LookForm {
+    /// As lines of text.
+    Lines,
+    /// As JSON.
+    Json,
+}
+
+impl LookForm {
+    ghost use Rattle.std.specs.Prelude.{◌≡◌};
+    ghost use Rattle.office_types.specs.Look.{form_of};
+
+    /// JSON where that is wanted, and else lines.
+    pub fn of(json: bool) -> LookForm
+        ensures { result ≡ form_of json }
+    {
+        if json {
+            LookForm::Json
+        } else {
+            LookForm::Lines
+        }
+    }
+}
+
+impl Look {
+    ghost use Rattle.std.specs.Prelude.{◌≡◌};
+    ghost use Rattle.office_types.specs.Look.{formed, look_form};
+
+    /// The same, where JSON is wanted or not: only what is looked up of one network can be JSON.
+    pub fn formed(self, json: bool) -> Look
+        ensures { result ≡ formed json self }
+    {
+        match self {
+            Look::Net(net, look, _form) => Look::Net(net, look, LookForm::of(json)),
+            other => other,
+        }
+    }
+
+    /// Its form; what isn't looked up of a network is lines.
+    pub fn form(&self) -> LookForm
+        ensures { result ≡ look_form self.now }
+    {
+        match self {
+            Look::Net(_, _, form) => *form,
+            _ => LookForm::Lines,
+        }
+    }
+}
+
 impl Drop for Look {
     fn drop(self) {
         match self {
@@ -60,7 +110,7 @@ impl Drop for Look {
             Look::Live(_net) => {}
             Look::Release(_net, _number) => {}
             Look::Chart(_net, _message) => {}
-            Look::Net(_net, _look) => {}
+            Look::Net(_net, _look, _form) => {}
             Look::Page(_net) => {}
             Look::ReleasePage(_net, _number) => {}
             Look::Requests(_team) => {}

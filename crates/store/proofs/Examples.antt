@@ -13,6 +13,7 @@ use Rattle.sqlite.specs.declared.error.ErrorCode.TheVariants.{DiskFull, OutOfMem
 use Rattle.store_tables.specs.Schema.{analyzed_schema, no_schema, office_schema, schema_13, schema_9}
 use Rattle.office_rules.specs.Step.{opening}
 use Rattle.office_types.specs.declared.look.Look.TheVariants as look
+use Rattle.office_types.specs.declared.look.LookForm.{LookForm}
 use Rattle.office_types.specs.declared.look.NetLook.{NetLook}
 use Rattle.office_history.specs.declared.arrival.Answer.{Answer}
 use Rattle.office_history.specs.declared.arrival.Answer.TheVariants.{KeyReused}
@@ -107,8 +108,8 @@ none_went before after some same = same.same_schema ∙ some
 
 -- ---- what is shown where nothing has come
 
-no_network : (net : List ℕ) (l : NetLook) → IsShown [] opening (look.Net net l) None
-no_network net l = refl
+no_network : (net : List ℕ) (l : NetLook) (form : LookForm) → IsShown [] opening (look.Net net l form) None
+no_network net l form = refl
 
 no_request : (team : List ℕ) → IsShown [] opening (look.Requests team) (Some (codes "requests 0 refused 0\n"))
 unfolding IsStrictlySortedBy digits

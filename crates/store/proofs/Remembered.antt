@@ -17,7 +17,7 @@ remembered_shown h t holds (look.Table net) text on = absurd on
 remembered_shown h t holds (look.Live net) text on = absurd on
 remembered_shown h t holds (look.Release net number) text on = absurd on
 remembered_shown h t holds (look.Chart net message) text on = absurd on
-remembered_shown h t holds (look.Net net l) text on =
+remembered_shown h t holds (look.Net net l form) text on =
     on (net_named holds.holds.office net) (holds.holds.nets net) holds.holds.office.book holds.holds.book
 remembered_shown h t holds (look.Page net) text on =
     on (net_named holds.holds.office net) (holds.holds.nets net) holds.holds.office.book holds.holds.book

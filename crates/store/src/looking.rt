@@ -48,7 +48,7 @@ fn look_inside<S: Alter>(
         Look::Live(net) => live_text(alloc, tx, net),
         Look::Release(net, number) => release_text(alloc, tx, net, *number),
         Look::Chart(net, message) => live_chart(alloc, tx, net, message),
-        Look::Net(net, look) => net_look_at(alloc, tx, net, look, known),
+        Look::Net(net, look, form) => net_look_at(alloc, tx, net, look, *form, known),
         Look::Page(net) => page_at(alloc, tx, net, known),
         Look::ReleasePage(net, number) => release_page_at(alloc, tx, net, *number, known),
         Look::Requests(team) => Ok(Some(requests_at(alloc, tx, team)?)),

@@ -3,11 +3,12 @@ use Rattle.std.proofs.Common.{◌≡◌, ◌⊎◌, inl, inr, Bool, ℕ, List, O
 use Rattle.std.specs.Prelude.{IsTrue}
 use Rattle.office_types.specs.declared.book.SpnBook.{SpnBook}
 use Rattle.office_types.specs.declared.look.Look.TheVariants as look
+use Rattle.office_types.specs.declared.look.LookForm.{LookForm}
 use Rattle.office_types.specs.declared.look.NetLook.{NetLook}
 use Rattle.office_types.specs.declared.state.Net.{Net}
 use Rattle.office_seen.specs.View.{view_of}
 use Rattle.office_seen.specs.declared.view.View.{View}
-use Rattle.office_looks.specs.Looks.{net_text, text_of}
+use Rattle.office_looks.specs.Looks.{net_shown, shown_of}
 use Rattle.store_tables.specs.Tables.{Tables}
 use Rattle.store_looks.specs.Seen.{IsTextOn, IsTrueOf, Known, MayRemember, OnNetAndBook, whole_view}
 
@@ -39,14 +40,17 @@ seen_is : (name : List ℕ) (view : View) (known : Known) (t : Tables) → known
     → IsWhole name (Some view) t
 seen_is name view known t is truth = subst (λ k. IsTrueOf k t) is truth
 
-net_text_is : (l : NetLook) (view : View) (net : Option Net) (book : SpnBook) → Some view ≡ whole_view net book
-    → text_of l view ≡ net_text net book l
-net_text_is l view None book whole = absurd (cc)
-net_text_is l view (Some net) book whole =
+net_shown_is : (form : LookForm) (l : NetLook) (view : View) (net : Option Net) (book : SpnBook)
+    → Some view ≡ whole_view net book
+    → shown_of form l view ≡ net_shown form net book l
+net_shown_is form l view None book whole = absurd (cc)
+net_shown_is form l view (Some net) book whole =
     let same : view ≡ view_of net book = cc in
-    ap (text_of l) same
+    ap (shown_of form l) same
 
-pub look_on : (name : List ℕ) (l : NetLook) (view : View) (known : Known) (t : Tables) (text : Option (List ℕ))
-    → known ≡ Some (name, view) → IsTrueOf known t → text ≡ text_of l view → IsTextOn (look.Net name l) text t
-look_on name l view known t text is truth same net at book in_book =
-    same ∙ net_text_is l view net book (seen_is name view known t is truth net at book in_book)
+pub look_on : (name : List ℕ) (l : NetLook) (form : LookForm) (view : View) (known : Known) (t : Tables)
+    (text : Option (List ℕ))
+    → known ≡ Some (name, view) → IsTrueOf known t → text ≡ shown_of form l view
+    → IsTextOn (look.Net name l form) text t
+look_on name l form view known t text is truth same net at book in_book =
+    same ∙ net_shown_is form l view net book (seen_is name view known t is truth net at book in_book)

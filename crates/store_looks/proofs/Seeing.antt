@@ -7,13 +7,14 @@ use Rattle.dbc_sheet.specs.Sheet.{empty_sheet}
 use Rattle.dbc_sheet.specs.declared.sheet.Sheet.{Sheet}
 use Rattle.office_types.specs.State.{live_messages}
 use Rattle.office_types.specs.declared.book.SpnBook.{SpnBook}
+use Rattle.office_types.specs.declared.look.LookForm.{LookForm}
 use Rattle.office_types.specs.declared.look.NetLook.{NetLook}
 use Rattle.office_types.specs.declared.state.LiveMessage.{LiveMessage}
 use Rattle.office_types.specs.declared.state.Net.{Net}
 use Rattle.office_law.specs.Released.{with_releases}
 use Rattle.office_seen.specs.View.{view_of}
 use Rattle.office_seen.specs.declared.view.View.{View}
-use Rattle.office_looks.specs.Looks.{net_text}
+use Rattle.office_looks.specs.Looks.{net_shown}
 use Rattle.office_looks.specs.Reads.{AreRead, messages_read, net_read, reads_of}
 use Rattle.office_looks.specs.declared.reads.MessagesRead.{MessagesRead}
 use Rattle.office_looks.specs.declared.reads.MessagesRead.TheVariants.{Nothing, Received, Rows, Whole}
@@ -78,7 +79,8 @@ whole_seen (Some net) book found seen =
 
 -- ---- the text
 
-pub look_text : (look : NetLook) (net : Option Net) (book : SpnBook) (found : Option View)
-    → IsSeen (reads_of look) net book found → seen_text look found ≡ net_text net book look
-look_text look None book found seen = ap (seen_text look) seen
-look_text look (Some net) book found seen = ap (seen_text look) seen.2 ∙ unread look net book seen.0 seen.1
+pub look_text : (form : LookForm) (look : NetLook) (net : Option Net) (book : SpnBook) (found : Option View)
+    → IsSeen (reads_of look) net book found → seen_text form look found ≡ net_shown form net book look
+look_text form look None book found seen = ap (seen_text form look) seen
+look_text form look (Some net) book found seen =
+    ap (seen_text form look) seen.2 ∙ unread form look net book seen.0 seen.1

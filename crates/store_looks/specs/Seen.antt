@@ -6,11 +6,12 @@ use Rattle.dbc_sheet.specs.declared.sheet.Sheet.{Sheet}
 use Rattle.office_types.specs.declared.book.SpnBook.{SpnBook}
 use Rattle.office_types.specs.declared.look.Look.{Look}
 use Rattle.office_types.specs.declared.look.Look.TheVariants as look
+use Rattle.office_types.specs.declared.look.LookForm.{LookForm}
 use Rattle.office_types.specs.declared.look.NetLook.{NetLook}
 use Rattle.office_types.specs.declared.state.Net.{Net}
 use Rattle.office_seen.specs.View.{view_of}
 use Rattle.office_seen.specs.declared.view.View.{View}
-use Rattle.office_looks.specs.Looks.{net_text, text_of}
+use Rattle.office_looks.specs.Looks.{net_shown, shown_of}
 use Rattle.office_looks.specs.Reads.{AreRead, net_read}
 use Rattle.office_looks.specs.declared.reads.MessagesRead.TheVariants.{Whole}
 use Rattle.office_looks.specs.declared.reads.Reads.{Reads}
@@ -30,10 +31,10 @@ IsSeen reads None book found = found ≡ None
 IsSeen reads (Some net) book found = (releases : List Sheet) × AreRead reads.releases net.releases releases
     × (found ≡ Some (view_of (net_read reads.messages releases net) book))
 
--- the text of what is seen, if anything is
-abbrev pub seen_text : NetLook → Option View → Option (List ℕ)
-seen_text look None = None
-seen_text look (Some view) = text_of look view
+-- the text of what is seen, in the form, if anything is
+abbrev pub seen_text : LookForm → NetLook → Option View → Option (List ℕ)
+seen_text form look None = None
+seen_text form look (Some view) = shown_of form look view
 
 -- what is seen of the whole network with the book, if it is there
 abbrev pub whole_view : Option Net → SpnBook → Option View
@@ -72,7 +73,8 @@ IsTrueOf (Some known) t = OnNetAndBook known.0 (λ net book found. found ≡ who
 
 -- the text is that of a look at a network, or of a page, on these tables
 abbrev pub IsTextOn : Look → Option (List ℕ) → Tables → Type 0
-IsTextOn (look.Net name l) text t = OnNetAndBook name (λ net book found. found ≡ net_text net book l) text t
+IsTextOn (look.Net name l form) text t =
+    OnNetAndBook name (λ net book found. found ≡ net_shown form net book l) text t
 IsTextOn (look.Page name) text t = OnNetAndBook name IsPageOfNet text t
 IsTextOn (look.ReleasePage name number) text t =
     OnNetAndBook name (λ net book found. IsPageOfRelease net book number found) text t

@@ -8,7 +8,7 @@ ghost use Rattle.store_tables.specs.Tables.{Tables};
 
 use crate::seen::NetSeen;
 use base::Items;
-use office_looks::text_of;
+use office_looks::shown_of;
 use office_page::{page_of, release_page};
 use office_seen::View;
 use office_types::{Look, NetName};
@@ -154,8 +154,8 @@ impl Remembered {
             IsTextOn look.now (option_map (λ bytes. bytes.items) text) t)) }
     {
         match look {
-            Look::Net(name, look) => match self.seen(name) {
-                Some(seen) => Ok(Some(text_of(alloc, seen, look)?)),
+            Look::Net(name, look, form) => match self.seen(name) {
+                Some(seen) => Ok(Some(shown_of(alloc, seen, look, *form)?)),
                 None => Ok(None),
             },
             Look::Page(name) => match self.seen(name) {

@@ -7,7 +7,7 @@ use Rattle.store_looks.proofs.shown.net_look_at.Goals as goal
 pub returns-clause-found : goal.returns-clause-found
 returns-clause-found g c clean office net at book in_book =
     c.in_ok-shown.ensures.text
-    ∙ look_text c.args.look.now net book c.in_ok-seen.seen
+    ∙ look_text c.args.form c.args.look.now net book c.in_ok-seen.seen
     (subst (λ reads. IsSeen reads net book c.in_ok-seen.seen) c.reads_of-reads.ensures
     (c.in_ok-seen.ensures.found clean office net at book in_book))
 

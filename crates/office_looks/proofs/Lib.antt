@@ -1,10 +1,7 @@
 pub mod Unread
 pub mod Owning
-pub mod LastNames
 pub mod LastOf
 mod NetRows
-pub mod Joined
-pub mod Tallies
 mod MessageRows
 mod WhoRows
 mod NodesRows

@@ -2,8 +2,10 @@
 use Rattle.std.proofs.Common.{◌≡◌, ℕ, [], ◌∷◌, ◌++◌, None, Some, codes, refl, true, false}
 use Rattle.std.specs.Prelude.{pos, negsuc}
 use Rattle.std.specs.Fmt.{digits}
+use Rattle.std.specs.List.{flat_map}
 use Rattle.bitlayout.specs.declared.layout.Order.TheVariants.{Intel, Motorola}
-use Rattle.bitlayout.specs.declared.place.Mux.TheVariants.{Always, Multiplexor, Under}
+use Rattle.bitlayout.specs.declared.place.Mux.TheVariants.{Always, Under}
+use Rattle.can_id.specs.J1939.{ident_fields}
 use Rattle.can_id.specs.declared.ident.Ident.TheVariants.{Std, Ext}
 use Rattle.decimal.specs.Number.{Number}
 use Rattle.decimal.specs.Printing.{unsigned_text}
@@ -14,8 +16,10 @@ use Rattle.dbc_words.specs.declared.value_type.ValueType.TheVariants.{Integer, F
 use Rattle.office_types.specs.declared.command.NetKind.TheVariants.{J1939}
 use Rattle.office_types.specs.declared.state.Phase.TheVariants.{Draft}
 use Rattle.office_seen.specs.declared.view.View.{View}
-use Rattle.office_looks.specs.Message.{destination_text, field_text, message_facts, message_text, mux_text}
-use Rattle.office_looks.specs.Message.{signal_lines}
+use Rattle.office_looks.specs.Message.{field_facts, message_facts, message_table, message_text, signal_kinds}
+use Rattle.office_looks.specs.declared.message_whole.TheConstants.{MESSAGE}
+use Rattle.rows.specs.Fact.{of_maybe}
+use Rattle.rows.specs.Lines.{part_text, upright_text}
 
 abbrev whole : ℕ → Number
 whole n = record { mantissa = pos n; exponent = pos 0 }
@@ -98,21 +102,21 @@ view = record {
   used = [];
 }
 
-two_signals : signal_lines engine.signals
+two_signals : flat_map part_text (signal_kinds engine.signals)
     ≡ codes "signal          8|8@1+ -       513 Torque                 (1,-125)       [-125|125]     %25    Dash,Gateway\n"
     ++ codes "signal        24|16@1+ -       190 Speed                  (0.125,0)      [0|8031.875]   rpm    Dash\n"
     ++ codes "note        Speed                  Engine speed,%0aover two lines\n"
 unfolding digits unsigned_text
 two_signals = refl
 
-all_lines : signal_lines (reason ∷ [])
+all_lines : flat_map part_text (signal_kinds (reason ∷ []))
     ≡ codes "signal         7|32@0- m3        - DerateReason           (1,0)          [0|63]         -      -\n"
     ++ codes "type        DerateReason float\n"
     ++ codes "value       DerateReason                3 Exhaust fluid\n"
 unfolding digits unsigned_text
 all_lines = refl
 
-its_facts : message_facts view (engine, codes "office")
+its_facts : upright_text MESSAGE (message_facts view (engine, codes "office"))
     ≡ codes "message     EngineSpeed\n"
     ++ codes "number      2364540158\n"
     ++ codes "identifier  ext 0cf004fe\n"
@@ -129,15 +133,16 @@ its_facts : message_facts view (engine, codes "office")
 unfolding digits
 its_facts = refl
 
-an_address : field_text destination_text control ≡ codes "0"
-unfolding digits
+an_address : field_facts (ident_fields control.ident)
+    ≡ of_maybe (Some 0) ∷ of_maybe (Some 3) ∷ of_maybe (Some 11) ∷ of_maybe (Some 0) ∷ []
 an_address = refl
 
-no_address : field_text destination_text (record engine { ident = Std 256 }) ≡ codes "-"
-no_address = refl
+no_fields : field_facts (ident_fields (Std 256))
+    ≡ of_maybe None ∷ of_maybe None ∷ of_maybe None ∷ of_maybe None ∷ []
+no_fields = refl
 
-a_multiplexor : mux_text Multiplexor ≡ codes "M"
-a_multiplexor = refl
-
-no_such_message : message_text (codes "Nothing") view ≡ None
+no_such_message : message_table (codes "Nothing") view ≡ None
 no_such_message = refl
+
+nor_its_lines : message_text (codes "Nothing") view ≡ None
+nor_its_lines = refl

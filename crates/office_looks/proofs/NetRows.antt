@@ -1,6 +1,7 @@
 -- The state, the messages, the held identifiers and the releases of a small network, and what changed in it.
 use Rattle.std.proofs.Common.{◌≡◌, List, [], ◌∷◌, ◌++◌, None, Some, codes, refl}
 use Rattle.std.specs.Fmt.{digits}
+use Rattle.std.specs.Prelude.{option_map}
 use Rattle.can_id.specs.declared.ident.Ident.TheVariants.{Std, Ext}
 use Rattle.dbc_sheet.specs.Sheet.{empty_sheet}
 use Rattle.dbc_sheet.specs.declared.message.Message.{Message}
@@ -10,11 +11,13 @@ use Rattle.office_types.specs.declared.command.NetKind.TheVariants.{J1939}
 use Rattle.office_types.specs.declared.state.Phase.TheVariants.{Review}
 use Rattle.dbc_compare.specs.Differences.{differences_about, field_changes, pair_differences, thing_differences}
 use Rattle.office_seen.specs.declared.view.View.{View}
-use Rattle.office_looks.specs.Compared.{compared_text}
-use Rattle.office_looks.specs.Held.{held_line, held_text}
-use Rattle.office_looks.specs.Messages.{messages_text}
-use Rattle.office_looks.specs.Releases.{releases_text}
-use Rattle.office_looks.specs.State.{state_text}
+use Rattle.office_looks.specs.Compared.{compared_table}
+use Rattle.office_looks.specs.Held.{held_row, held_table}
+use Rattle.office_looks.specs.Messages.{messages_table}
+use Rattle.office_looks.specs.Releases.{releases_table}
+use Rattle.office_looks.specs.State.{state_table}
+use Rattle.office_looks.specs.declared.held.TheConstants.{HELD}
+use Rattle.rows.specs.Lines.{line_text, table_text}
 
 abbrev plain : Message
 plain = record { ident = Std 256; name = codes "E1"; length = 64; transmitter = None; comment = []; signals = [] }
@@ -64,7 +67,7 @@ truck = record {
 abbrev new_truck : View
 new_truck = record truck { sheet = empty_sheet; owners = []; held = []; approvals = []; releases = [] }
 
-state : state_text truck
+state : table_text (state_table truck)
     ≡ codes "network     truck\n"
     ++ codes "kind        j1939\n"
     ++ codes "phase       review\n"
@@ -83,7 +86,7 @@ state : state_text truck
 unfolding digits
 state = refl
 
-no_approval : state_text new_truck
+no_approval : table_text (state_table new_truck)
     ≡ codes "network     truck\n"
     ++ codes "kind        j1939\n"
     ++ codes "phase       review\n"
@@ -102,63 +105,64 @@ no_approval : state_text new_truck
 unfolding digits
 no_approval = refl
 
-all_messages : messages_text None truck
+all_messages : table_text (messages_table None truck)
     ≡ codes "       256 std 00000100      -   64    0 brakes         1-2 -       - E1\n"
     ++ codes "2566851584 ext 18ff0c00  65292    8    0 engine           - new     ECM ECM_New1\n"
     ++ codes "messages 2 signals 0\n"
 unfolding digits
 all_messages = refl
 
-changed_message : messages_text (Some (codes "brakes"))
-    (record truck { sheet = sheet_with (record plain { length = 8 } ∷ group ∷ []) })
+changed_message : table_text (messages_table (Some (codes "brakes"))
+    (record truck { sheet = sheet_with (record plain { length = 8 } ∷ group ∷ []) }))
     ≡ codes "       256 std 00000100      -    8    0 brakes         1-2 changed - E1\nmessages 1 signals 0\n"
 unfolding digits
 changed_message = refl
 
-no_messages : messages_text (Some (codes "chassis")) truck ≡ codes "messages 0 signals 0\n"
+no_messages : table_text (messages_table (Some (codes "chassis")) truck) ≡ codes "messages 0 signals 0\n"
 unfolding digits
 no_messages = refl
 
-held : held_text truck ≡ codes "2633962507 ext 1cff140b  65300 brakes           1 BrakePads\nheld 1\n"
+held : table_text (held_table truck) ≡ codes "2633962507 ext 1cff140b  65300 brakes           1 BrakePads\nheld 1\n"
 unfolding digits
 held = refl
 
 -- of no block, and in no release
-held_alone : held_line truck (Std 7) ≡ codes "         7 std 00000007      - -                - -\n"
+held_alone : line_text HELD (held_row truck (Std 7)) ≡ codes "         7 std 00000007      - -                - -\n"
 unfolding digits
 held_alone = refl
 
-none_held : held_text new_truck ≡ codes "held 0\n"
+none_held : table_text (held_table new_truck) ≡ codes "held 0\n"
 unfolding digits
 none_held = refl
 
-releases : releases_text truck
+releases : table_text (releases_table truck)
     ≡ codes "    1 messages     2 signals     0 added    2 removed    0 changed    0\n"
     ++ codes "    2 messages     1 signals     0 added    0 removed    1 changed    0\n"
     ++ codes "releases 2\n"
 unfolding digits
 releases = refl
 
-no_releases : releases_text new_truck ≡ codes "releases 0\n"
+no_releases : table_text (releases_table new_truck) ≡ codes "releases 0\n"
 unfolding digits
 no_releases = refl
 
-between_releases : compared_text 1 2 truck
+between_releases : option_map table_text (compared_table 1 2 truck)
     ≡ Some (codes "! message 2633962507 ext 1cff140b  65300 BrakePads removed\n"
     ++ codes "differences 1 breaking 1 added 0 removed 1 changed 0\n")
 unfolding digits differences_about field_changes pair_differences thing_differences
 between_releases = refl
 
 -- 0 is the live sheet
-since_a_release : compared_text 2 0 truck
+since_a_release : option_map table_text (compared_table 2 0 truck)
     ≡ Some (codes ". message 2566851584 ext 18ff0c00  65292 ECM_New1 added\n"
     ++ codes "differences 1 breaking 0 added 1 removed 0 changed 0\n")
 unfolding digits differences_about field_changes pair_differences thing_differences
 since_a_release = refl
 
-nothing_changed : compared_text 0 0 truck ≡ Some (codes "differences 0 breaking 0 added 0 removed 0 changed 0\n")
+nothing_changed : option_map table_text (compared_table 0 0 truck)
+    ≡ Some (codes "differences 0 breaking 0 added 0 removed 0 changed 0\n")
 unfolding digits differences_about field_changes pair_differences thing_differences
 nothing_changed = refl
 
-no_such_release : compared_text 1 3 truck ≡ None
+no_such_release : compared_table 1 3 truck ≡ None
 no_such_release = refl

@@ -1,6 +1,6 @@
 -- The lines of nodes computed.
 use Rattle.std.proofs.Common.{◌≡◌, List, [], ◌∷◌, ◌++◌, None, Some, codes, refl, false}
-use Rattle.std.specs.Prelude.{pos}
+use Rattle.std.specs.Prelude.{option_map, pos}
 use Rattle.std.specs.Fmt.{digits}
 use Rattle.bitlayout.specs.declared.layout.Order.TheVariants.{Intel}
 use Rattle.bitlayout.specs.declared.place.Mux.TheVariants.{Always}
@@ -13,7 +13,8 @@ use Rattle.dbc_words.specs.declared.value_type.ValueType.TheVariants.{Integer}
 use Rattle.office_types.specs.declared.command.NetKind.TheVariants.{J1939}
 use Rattle.office_types.specs.declared.state.Phase.TheVariants.{Draft}
 use Rattle.office_seen.specs.declared.view.View.{View}
-use Rattle.office_looks.specs.Nodes.{node_text, nodes_text}
+use Rattle.office_looks.specs.Nodes.{node_table, nodes_table}
+use Rattle.rows.specs.Lines.{table_text}
 
 abbrev torque : Signal
 torque = record {
@@ -75,7 +76,7 @@ view = record {
   used = [];
 }
 
-four_nodes : nodes_text view
+four_nodes : table_text (nodes_table view)
     ≡ codes "sends    1 receives    1 Engine       -\n"
     ++ codes "sends    1 receives    1 Dash         Instrument cluster\n"
     ++ codes "sends    0 receives    2 Gateway      -\n"
@@ -84,17 +85,17 @@ four_nodes : nodes_text view
 unfolding digits
 four_nodes = refl
 
-no_nodes : nodes_text (record view { sheet = empty_sheet }) ≡ codes "nodes 0\n"
+no_nodes : table_text (nodes_table (record view { sheet = empty_sheet })) ≡ codes "nodes 0\n"
 unfolding digits
 no_nodes = refl
 
 -- a signal that names it twice counts once
-one_node : node_text (codes "Dash") view
+one_node : option_map table_text (node_table (codes "Dash") view)
     ≡ Some (codes "sends           256 std 00000100      -    1 DashLamp\n"
     ++ codes "receives 2364540158 ext 0cf004fe  61444    2 EngineSpeed\n"
     ++ codes "sends 1 receives 1\n")
 unfolding digits
 one_node = refl
 
-no_such_node : node_text (codes "Body") view ≡ None
+no_such_node : node_table (codes "Body") view ≡ None
 no_such_node = refl

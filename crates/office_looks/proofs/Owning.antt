@@ -3,13 +3,14 @@ use Rattle.std.proofs.Common.{◌≡◌, ◌+◌, ◌<◌, ◌≤◌, ◌++◌, 
 use Rattle.std.proofs.Common.{false, List, [], ◌∷◌, length, drop, filter}
 use Rattle.std.proofs.Common.{get_or, map, refl, sym, ap, ◌∙◌, arith, append_assoc, cond}
 use Rattle.std.proofs.Math.Nat.{min-eq_left, min-eq_right}
-use Rattle.std.proofs.lemmas.List.{drop_more, length-append}
+use Rattle.std.proofs.lemmas.List.{drop_more, length-append, length-map}
 use Rattle.std.proofs.lemmas.Slice.Zip.{get_or-zip, length-zip}
 use Rattle.std.specs.List.{flat_map}
 use Rattle.dbc_sheet.specs.declared.message.Message.{Message}
 use Rattle.office_views.specs.Table.{signal_count}
 use Rattle.office_seen.specs.View.{owned}
 use Rattle.office_seen.specs.declared.view.View.{View}
+use Rattle.office_looks.specs.Messages.{message_row}
 
 pub fewer_messages : (view : View) → length view.sheet.messages ≤ length view.owners
     → length view.sheet.messages ≡ length (owned view)
@@ -61,3 +62,6 @@ pub signals_more : (m : Message) (o : List ℕ) (ps : List (Message × List ℕ)
     ≡ length m.signals + signal_count (map (λ (p : Message × List ℕ). p.0) ps)
 signals_more m o ps =
     length-append m.signals (flat_map (λ (x : Message). x.signals) (map (λ (p : Message × List ℕ). p.0) ps))
+
+pub rows_counted : (view : View) (ps : List (Message × List ℕ)) → length (map (message_row view) ps) ≡ length ps
+rows_counted view ps = length-map ps (message_row view)

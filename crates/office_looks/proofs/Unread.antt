@@ -1,7 +1,7 @@
--- The text of a look is the same where no more is read of the network than it depends on.
+-- What is shown for a look is the same where no more is read of the network than it depends on.
 use Rattle.std.proofs.Common.{◌≡◌, ◌+◌, ◌++◌, ℕ, Bool, true, false, cond, List, [], ◌∷◌, Some, None, length, map}
 use Rattle.std.proofs.Common.{filter, codes, nat_lt, refl, ap, ◌∙◌}
-use Rattle.std.specs.Prelude.{count_by, fold, sum, not, ◌==◌, if◌then◌else◌}
+use Rattle.std.specs.Prelude.{count_by, fold, option_map, sum, not, ◌==◌, if◌then◌else◌}
 use Rattle.std.specs.List.{flat_map}
 use Rattle.std.proofs.lemmas.List.{length-map}
 use Rattle.dbc_sheet.specs.Pairs.{counts_of}
@@ -15,33 +15,36 @@ use Rattle.office_types.specs.State.{live_messages}
 use Rattle.office_types.specs.declared.block.BlockForm.{BlockForm}
 use Rattle.office_types.specs.declared.block.BlockForm.TheVariants as form
 use Rattle.office_types.specs.declared.book.SpnBook.{SpnBook}
+use Rattle.office_types.specs.declared.look.LookForm.{LookForm}
+use Rattle.office_types.specs.declared.look.LookForm.TheVariants.{Json, Lines}
 use Rattle.office_types.specs.declared.look.NetLook.{NetLook}
 use Rattle.office_types.specs.declared.look.NetLook.TheVariants as look
 use Rattle.office_types.specs.declared.state.GrantedBlock.{GrantedBlock}
 use Rattle.office_types.specs.declared.state.LiveMessage.{LiveMessage}
 use Rattle.office_types.specs.declared.state.Net.{Net}
-use Rattle.office_seen.specs.Lines.{number_fact, total}
 use Rattle.office_seen.specs.Since.{last_release}
 use Rattle.office_seen.specs.View.{blocks_of, view_of}
 use Rattle.office_seen.specs.declared.view.View.{View}
-use Rattle.office_blocks.specs.Blocks.{block_line, blocks_total, form_total, form_word, free_count}
-use Rattle.office_blocks.specs.Blocks.{ident_numbers, is_wanted, line_with, live_idents, live_numbers, spns_of}
-use Rattle.office_blocks.specs.Blocks.{taken_numbers}
-use Rattle.office_looks.specs.Looks.{text_of}
-use Rattle.office_looks.specs.Nodes.{counts_line, node_line, node_uses, received, received_lines}
-use Rattle.office_looks.specs.Nodes.{receives, receives_some, sends, sent_lines, use_line, uses_total}
+use Rattle.office_blocks.specs.Blocks.{block_row, free_count, free_of_form, ident_numbers, is_wanted, live_idents}
+use Rattle.office_blocks.specs.Blocks.{live_numbers, row_with, spns_of, taken_numbers}
+use Rattle.office_blocks.specs.declared.blocks.TheConstants.{BLOCKS, BLOCK_TOTALS}
+use Rattle.office_looks.specs.Looks.{list_in, shown_of, table_of, text_of}
+use Rattle.office_views.specs.Sending.{received, receives, receives_some, sends}
+use Rattle.office_looks.specs.Nodes.{counts_row, node_row, received_rows}
+use Rattle.office_looks.specs.Nodes.{sent_rows, use_row, uses_table}
 use Rattle.office_looks.specs.Reads.{AreRead, net_read, reads_of, received_of, row_of, with_signals}
-use Rattle.office_looks.specs.State.{change_facts, head_facts, office_facts, review_facts, sheet_facts}
+use Rattle.office_looks.specs.State.{state_row}
+use Rattle.office_looks.specs.declared.nodes.TheConstants.{NODES, NODE_TOTALS, USES, USE_TOTALS}
+use Rattle.office_looks.specs.declared.state.TheConstants.{STATE}
 use Rattle.office_looks.specs.declared.reads.MessagesRead.TheVariants.{Nothing, Received, Rows, Whole}
+use Rattle.rows.specs.Fact.{Fact, of_number}
+use Rattle.rows.specs.Table.{Listing, headed, plain}
 
 -- ---- lists
 
-flat_map_same : {A : Type 0} (f g : A → List ℕ) → ((a : A) → f a ≡ g a) → (items : List A)
-    → flat_map f items ≡ flat_map g items
-flat_map_same f g same [] = refl
-flat_map_same f g same (a ∷ items) =
-    ap (λ (t : List ℕ). t ++ flat_map f items) (same a)
-    ∙ ap (λ (t : List ℕ). g a ++ t) (flat_map_same f g same items)
+map_same : {A B : Type 0} (f g : A → B) → ((a : A) → f a ≡ g a) → (items : List A) → map f items ≡ map g items
+map_same f g same [] = refl
+map_same f g same (a ∷ items) = ap (λ b. b ∷ map f items) (same a) ∙ ap (λ bs. g a ∷ bs) (map_same f g same items)
 
 count_from : {A : Type 0} (part : A → A) (p : A → Bool) → ((a : A) → p (part a) ≡ p a) → (n : ℕ) (items : List A)
     → fold (λ k a. k + cond (p a) 1 0) n (map part items) ≡ fold (λ k a. k + cond (p a) 1 0) n items
@@ -55,20 +58,18 @@ count_same : {A : Type 0} (part : A → A) (p : A → Bool) → ((a : A) → p (
     → count_by p (map part items) ≡ count_by p items
 count_same part p same items = count_from part p same 0 items
 
--- the lines of those that pass the test are the same
-lines_of_same : {A : Type 0} (part : A → A) (p : A → Bool) (f : A → List ℕ) → ((a : A) → p (part a) ≡ p a)
-    → ((a : A) → f (part a) ≡ f a) → (items : List A)
-    → flat_map f (filter p (map part items)) ≡ flat_map f (filter p items)
-lines_of_same part p f tests lines [] = refl
-lines_of_same part p f tests lines (a ∷ items) =
-    ap (λ b. flat_map f (cond b (part a ∷ filter p (map part items)) (filter p (map part items)))) (tests a)
-    ∙ by_test (p a) (lines_of_same part p f tests lines items)
+-- the rows of those that pass the test are the same
+rows_of_same : {A B : Type 0} (part : A → A) (p : A → Bool) (f : A → B) → ((a : A) → p (part a) ≡ p a)
+    → ((a : A) → f (part a) ≡ f a) → (items : List A) → map f (filter p (map part items)) ≡ map f (filter p items)
+rows_of_same part p f tests rows [] = refl
+rows_of_same part p f tests rows (a ∷ items) =
+    ap (λ b. map f (cond b (part a ∷ filter p (map part items)) (filter p (map part items)))) (tests a)
+    ∙ by_test (p a) (rows_of_same part p f tests rows items)
   where
-    by_test : (b : Bool) → flat_map f (filter p (map part items)) ≡ flat_map f (filter p items)
-        → flat_map f (cond b (part a ∷ filter p (map part items)) (filter p (map part items)))
-        ≡ flat_map f (cond b (a ∷ filter p items) (filter p items))
-    by_test true rest =
-        ap (λ (t : List ℕ). t ++ flat_map f (filter p (map part items))) (lines a) ∙ ap (λ (t : List ℕ). f a ++ t) rest
+    by_test : (b : Bool) → map f (filter p (map part items)) ≡ map f (filter p items)
+        → map f (cond b (part a ∷ filter p (map part items)) (filter p (map part items)))
+        ≡ map f (cond b (a ∷ filter p items) (filter p items))
+    by_test true rest = ap (λ r. r ∷ map f (filter p (map part items))) (rows a) ∙ ap (λ rs. f a ∷ rs) rest
     by_test false rest = rest
 
 -- ---- messages with parts of their signals
@@ -124,28 +125,42 @@ taken_same form.Ext v w a = both_same form.Ext v w a
 taken_same form.Pgn v w a = both_same form.Pgn v w a
 taken_same form.Spn v w a = a.used
 
-line_same : (v w : View) → AreAlike v w → (g : GrantedBlock) → block_line v g ≡ block_line w g
-line_same v w a g =
-    ap (λ l. line_with l (taken_numbers g.block.form v) g) (live_same g.block.form v w a)
-    ∙ ap (λ t. line_with (live_numbers g.block.form w) t g) (taken_same g.block.form v w a)
+row_same : (v w : View) → AreAlike v w → (g : GrantedBlock) → block_row v g ≡ block_row w g
+row_same v w a g =
+    ap (λ l. row_with l (taken_numbers g.block.form v) g) (live_same g.block.form v w a)
+    ∙ ap (λ t. row_with (live_numbers g.block.form w) t g) (taken_same g.block.form v w a)
 
-total_same : (v w : View) → AreAlike v w → (blocks : List GrantedBlock) (f : BlockForm)
-    → form_total v blocks f ≡ form_total w blocks f
-total_same v w a blocks f =
-    ap (λ t. codes " " ++ total (form_word f)
-    (sum (map (λ (g : GrantedBlock). free_count t g.block)
-    (filter (λ (g : GrantedBlock). same_form g.block.form f) blocks))))
+free_same : (v w : View) → AreAlike v w → (blocks : List GrantedBlock) (f : BlockForm)
+    → free_of_form v blocks f ≡ free_of_form w blocks f
+free_same v w a blocks f =
+    ap (λ t. sum (map (λ (g : GrantedBlock). free_count t g.block)
+    (filter (λ (g : GrantedBlock). same_form g.block.form f) blocks)))
     (taken_same f v w a)
 
-blocks_same : (v w : View) → AreAlike v w → (blocks : List GrantedBlock)
-    → flat_map (block_line v) blocks ++ blocks_total v blocks ≡ flat_map (block_line w) blocks ++ blocks_total w blocks
+-- the list of these blocks
+abbrev blocks_list : View → List GrantedBlock → Listing
+blocks_list v blocks =
+    let free = free_of_form v blocks in
+    plain BLOCKS (map (block_row v) blocks) BLOCK_TOTALS
+    (of_number (length blocks) ∷ of_number (free form.Std) ∷ of_number (free form.Ext) ∷ of_number (free form.Pgn)
+    ∷ of_number (free form.Spn) ∷ [])
+
+abbrev counted_list : List GrantedBlock → List (List Fact) → (std ext pgn spn : ℕ) → Listing
+counted_list blocks rows std ext pgn spn = plain BLOCKS rows BLOCK_TOTALS
+    (of_number (length blocks) ∷ of_number std ∷ of_number ext ∷ of_number pgn ∷ of_number spn ∷ [])
+
+blocks_same : (v w : View) → AreAlike v w → (blocks : List GrantedBlock) → blocks_list v blocks ≡ blocks_list w blocks
 blocks_same v w a blocks =
-    ap (λ (t : List ℕ). t ++ blocks_total v blocks)
-    (flat_map_same (block_line v) (block_line w) (line_same v w a) blocks)
-    ∙ ap (λ (t : List ℕ). flat_map (block_line w) blocks
-    ++ (total (codes "blocks") (length blocks) ++ (codes " free" ++ (t ++ codes "\n"))))
-    (flat_map_same (form_total v blocks) (form_total w blocks) (total_same v w a blocks)
-    (form.Std ∷ form.Ext ∷ form.Pgn ∷ form.Spn ∷ []))
+    let free = free_of_form v blocks in
+    let free_w = free_of_form w blocks in
+    let list = counted_list blocks in
+    let rows = map (block_row w) blocks in
+    ap (λ r. list r (free form.Std) (free form.Ext) (free form.Pgn) (free form.Spn))
+    (map_same (block_row v) (block_row w) (row_same v w a) blocks)
+    ∙ ap (λ n. list rows n (free form.Ext) (free form.Pgn) (free form.Spn)) (free_same v w a blocks form.Std)
+    ∙ ap (λ n. list rows (free_w form.Std) n (free form.Pgn) (free form.Spn)) (free_same v w a blocks form.Ext)
+    ∙ ap (λ n. list rows (free_w form.Std) (free_w form.Ext) n (free form.Spn)) (free_same v w a blocks form.Pgn)
+    ∙ ap (list rows (free_w form.Std) (free_w form.Ext) (free_w form.Pgn)) (free_same v w a blocks form.Spn)
 
 rows_alike : (rs : List Sheet) (net : Net) (book : SpnBook)
     → AreAlike (view_of (net_read Rows rs net) book) (view_of net book)
@@ -167,54 +182,51 @@ received_same node m = count_same received_of (receives node) (λ s. refl) m.sig
 some_same : (node : List ℕ) (m : Message) → receives_some node (message_with received_of m) ≡ receives_some node m
 some_same node m = ap (nat_lt 0) (received_same node m)
 
-node_same : (ms : List Message) (node : Node) → node_line (map (message_with received_of) ms) node ≡ node_line ms node
+node_same : (ms : List Message) (node : Node) → node_row (map (message_with received_of) ms) node ≡ node_row ms node
 node_same ms node =
-    ap (λ n. counts_line n (count_by (receives_some node.name) (map (message_with received_of) ms)) node)
+    ap (λ n. counts_row n (count_by (receives_some node.name) (map (message_with received_of) ms)) node)
     (count_same (message_with received_of) (sends node.name) (λ m. refl) ms)
-    ∙ ap (λ n. counts_line (count_by (sends node.name) ms) n node)
+    ∙ ap (λ n. counts_row (count_by (sends node.name) ms) n node)
     (count_same (message_with received_of) (receives_some node.name) (some_same node.name) ms)
 
 sent_same : (node : List ℕ) (ms : List Message)
-    → sent_lines node (map (message_with received_of) ms) ≡ sent_lines node ms
+    → sent_rows node (map (message_with received_of) ms) ≡ sent_rows node ms
 sent_same node ms =
-    lines_of_same (message_with received_of) (sends node)
-    (λ (m : Message). use_line (codes "sends") m (length m.signals)) (λ m. refl)
-    (λ m. ap (use_line (codes "sends") m) (length-map m.signals received_of)) ms
+    rows_of_same (message_with received_of) (sends node)
+    (λ (m : Message). use_row (codes "sends") m (length m.signals)) (λ m. refl)
+    (λ m. ap (use_row (codes "sends") m) (length-map m.signals received_of)) ms
 
 receiving_same : (node : List ℕ) (ms : List Message)
-    → received_lines node (map (message_with received_of) ms) ≡ received_lines node ms
+    → received_rows node (map (message_with received_of) ms) ≡ received_rows node ms
 receiving_same node ms =
-    lines_of_same (message_with received_of) (receives_some node)
-    (λ (m : Message). use_line (codes "receives") m (received node m)) (some_same node)
-    (λ m. ap (use_line (codes "receives") m) (received_same node m)) ms
+    rows_of_same (message_with received_of) (receives_some node)
+    (λ (m : Message). use_row (codes "receives") m (received node m)) (some_same node)
+    (λ m. ap (use_row (codes "receives") m) (received_same node m)) ms
 
-totals_same : (node : List ℕ) (ms : List Message)
-    → uses_total node (map (message_with received_of) ms) ≡ uses_total node ms
-totals_same node ms =
-    ap (λ n. total (codes "sends") n ++ (codes " " ++ (total (codes "receives")
-    (count_by (receives_some node) (map (message_with received_of) ms)) ++ codes "\n")))
-    (count_same (message_with received_of) (sends node) (λ m. refl) ms)
-    ∙ ap (λ n. total (codes "sends") (count_by (sends node) ms)
-    ++ (codes " " ++ (total (codes "receives") n ++ codes "\n")))
-    (count_same (message_with received_of) (receives_some node) (some_same node) ms)
+abbrev uses_list : (sent got : List (List Fact)) → (sends receives : ℕ) → Listing
+uses_list sent got sends receives =
+    plain USES (sent ++ got) USE_TOTALS (of_number sends ∷ of_number receives ∷ [])
 
-uses_same : (node : List ℕ) (ms : List Message) → node_uses node (map (message_with received_of) ms) ≡ node_uses node ms
+uses_same : (node : List ℕ) (ms : List Message)
+    → uses_table node (map (message_with received_of) ms) ≡ uses_table node ms
 uses_same node ms =
-    ap (λ (t : List ℕ). t ++ (received_lines node (map (message_with received_of) ms)
-    ++ uses_total node (map (message_with received_of) ms))) (sent_same node ms)
-    ∙ ap (λ (t : List ℕ). sent_lines node ms ++ (t ++ uses_total node (map (message_with received_of) ms)))
+    let all = map (message_with received_of) ms in
+    let list = uses_list in
+    ap (λ sent. list sent (received_rows node all) (count_by (sends node) all) (count_by (receives_some node) all))
+    (sent_same node ms)
+    ∙ ap (λ got. list (sent_rows node ms) got (count_by (sends node) all) (count_by (receives_some node) all))
     (receiving_same node ms)
-    ∙ ap (λ (t : List ℕ). sent_lines node ms ++ (received_lines node ms ++ t)) (totals_same node ms)
+    ∙ ap (λ n. list (sent_rows node ms) (received_rows node ms) n (count_by (receives_some node) all))
+    (count_same (message_with received_of) (sends node) (λ m. refl) ms)
+    ∙ ap (list (sent_rows node ms) (received_rows node ms) (count_by (sends node) ms))
+    (count_same (message_with received_of) (receives_some node) (some_same node) ms)
 
 -- ---- the state
 
 -- of a network that has so many releases, and this as the last one
-abbrev state_with : View → ℕ → Sheet → List ℕ
+abbrev state_with : View → ℕ → Sheet → Listing
 state_with view count last =
-    head_facts view
-    ++ (review_facts view
-    ++ (number_fact (codes "releases") count
-    ++ (change_facts (counts_of last.messages view.sheet.messages) ++ (office_facts view ++ sheet_facts view.sheet))))
+    headed STATE (state_row view count (counts_of last.messages view.sheet.messages)) []
 
 -- ---- each look
 
@@ -224,33 +236,50 @@ all_read : (l : NetLook) (net : Net) (book : SpnBook) (rs : List Sheet) → rs �
 all_read l net book rs all =
     ap (λ (releases : List Sheet). text_of l (view_of (net_read Whole releases net) book)) all
 
-pub unread : (l : NetLook) (net : Net) (book : SpnBook) (rs : List Sheet)
-    → AreRead (reads_of l).releases net.releases rs
-    → text_of l (view_of (net_read (reads_of l).messages rs net) book) ≡ text_of l (view_of net book)
-unread look.State net book rs read =
+all_listed : (l : NetLook) (net : Net) (book : SpnBook) (rs : List Sheet) → rs ≡ net.releases
+    → table_of l (view_of (net_read Whole rs net) book) ≡ table_of l (view_of net book)
+all_listed l net book rs all =
+    ap (λ (releases : List Sheet). table_of l (view_of (net_read Whole releases net) book)) all
+
+-- the list
+listed : (l : NetLook) (net : Net) (book : SpnBook) (rs : List Sheet) → AreRead (reads_of l).releases net.releases rs
+    → table_of l (view_of (net_read (reads_of l).messages rs net) book) ≡ table_of l (view_of net book)
+listed look.State net book rs read =
     ap (λ n. Some (state_with (view_of net book) n (last_release rs))) read.0
     ∙ ap (λ s. Some (state_with (view_of net book) (length net.releases) s)) read.1
-unread (look.Blocks team) net book rs read =
+listed (look.Blocks team) net book rs read =
     ap Some
     (blocks_same (view_of (net_read Rows rs net) book) (view_of net book) (rows_alike rs net book)
     (filter (is_wanted team) (blocks_of net book)))
-unread (look.Messages team) net book rs read = all_read (look.Messages team) net book rs read
-unread (look.Message name) net book rs read = all_read (look.Message name) net book rs read
-unread look.Held net book rs read =
-    ap (λ (releases : List Sheet). text_of look.Held (view_of (net_read Nothing releases net) book)) read
-unread look.Releases net book rs read =
-    ap (λ (releases : List Sheet). text_of look.Releases (view_of (net_read Nothing releases net) book)) read
-unread look.Nodes net book rs read =
+listed (look.Messages team) net book rs read = all_listed (look.Messages team) net book rs read
+listed (look.Message name) net book rs read = all_listed (look.Message name) net book rs read
+listed look.Held net book rs read =
+    ap (λ (releases : List Sheet). table_of look.Held (view_of (net_read Nothing releases net) book)) read
+listed look.Releases net book rs read =
+    ap (λ (releases : List Sheet). table_of look.Releases (view_of (net_read Nothing releases net) book)) read
+listed look.Nodes net book rs read =
     let nodes = net.head.frame.nodes in
-    let last : List ℕ = total (codes "nodes") (length nodes) ++ codes "\n" in
-    ap (λ ms. Some (flat_map (node_line ms) nodes ++ last)) (messages_with received_of net.live)
-    ∙ ap (λ (t : List ℕ). Some (t ++ last))
-    (flat_map_same (node_line (map (message_with received_of) (live_messages net.live)))
-    (node_line (live_messages net.live)) (node_same (live_messages net.live)) nodes)
-unread (look.Node name) net book rs read =
+    let list = λ (rows : List (List Fact)). Some (plain NODES rows NODE_TOTALS (of_number (length nodes) ∷ [])) in
+    ap (λ ms. list (map (node_row ms) nodes)) (messages_with received_of net.live)
+    ∙ ap list
+    (map_same (node_row (map (message_with received_of) (live_messages net.live)))
+    (node_row (live_messages net.live)) (node_same (live_messages net.live)) nodes)
+listed (look.Node name) net book rs read =
     let there = has_node net.head.frame.nodes name in
-    ap (λ ms. if there then Some (node_uses name ms) else None) (messages_with received_of net.live)
-    ∙ ap (λ (t : List ℕ). if there then Some t else None) (uses_same name (live_messages net.live))
-unread look.Spns net book rs read = all_read look.Spns net book rs read
-unread (look.Who sought) net book rs read = all_read (look.Who sought) net book rs read
-unread (look.Compare old new) net book rs read = all_read (look.Compare old new) net book rs read
+    ap (λ ms. if there then Some (uses_table name ms) else None) (messages_with received_of net.live)
+    ∙ ap (λ (t : Listing). if there then Some t else None) (uses_same name (live_messages net.live))
+listed look.Spns net book rs read = all_listed look.Spns net book rs read
+listed (look.Who sought) net book rs read = all_listed (look.Who sought) net book rs read
+listed (look.Compare old new) net book rs read = all_listed (look.Compare old new) net book rs read
+
+-- its lines
+as_lines : (l : NetLook) (net : Net) (book : SpnBook) (rs : List Sheet) → AreRead (reads_of l).releases net.releases rs
+    → text_of l (view_of (net_read (reads_of l).messages rs net) book) ≡ text_of l (view_of net book)
+as_lines (look.Message name) net book rs read = all_read (look.Message name) net book rs read
+as_lines l net book rs read = ap (option_map (list_in Lines)) (listed l net book rs read)
+
+pub unread : (form : LookForm) (l : NetLook) (net : Net) (book : SpnBook) (rs : List Sheet)
+    → AreRead (reads_of l).releases net.releases rs
+    → shown_of form l (view_of (net_read (reads_of l).messages rs net) book) ≡ shown_of form l (view_of net book)
+unread Lines l net book rs read = as_lines l net book rs read
+unread Json l net book rs read = ap (option_map (list_in Json)) (listed l net book rs read)

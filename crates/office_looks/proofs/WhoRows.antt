@@ -1,7 +1,7 @@
 -- Who has a name or a number, computed on a small network.
 use Rattle.std.proofs.Common.{◌≡◌, false, ℕ, List, [], ◌∷◌, ◌++◌, None, Some, codes, refl}
 use Rattle.std.specs.Fmt.{digits}
-use Rattle.std.specs.Prelude.{pos}
+use Rattle.std.specs.Prelude.{option_map, pos}
 use Rattle.bitlayout.specs.declared.layout.Order.TheVariants.{Intel}
 use Rattle.bitlayout.specs.declared.place.Mux.TheVariants.{Always}
 use Rattle.can_id.specs.declared.ident.Ident.{Ident}
@@ -19,7 +19,8 @@ use Rattle.office_types.specs.declared.sought.Sought.TheVariants as sought
 use Rattle.office_types.specs.declared.state.GrantedBlock.{GrantedBlock}
 use Rattle.office_types.specs.declared.state.Phase.TheVariants.{Draft}
 use Rattle.office_seen.specs.declared.view.View.{View}
-use Rattle.office_looks.specs.Who.{numbers_sought, who_text}
+use Rattle.office_looks.specs.Who.{numbers_sought, who_table}
+use Rattle.rows.specs.Lines.{table_text}
 
 abbrev zero_value : Number
 zero_value = record { mantissa = pos 0; exponent = pos 0 }
@@ -73,7 +74,7 @@ truck = record {
 }
 
 -- the blocks of its identifier and of its group
-named : who_text (sought.Name (codes "TSC1")) truck
+named : option_map table_text (who_table (sought.Name (codes "TSC1")) truck)
     ≡ Some (codes "live  2348810251 ext 0c00000b      0    8    1 brakes           - new     - TSC1\n"
     ++ (codes "block ext 201326603 201326603 brakes       live    1 held   0 free     0 -\n"
     ++ (codes "block pgn         0         0 gearbox      live    1 held   0 free     0 -\n"
@@ -82,7 +83,7 @@ unfolding digits
 named = refl
 
 -- a group that a held identifier has
-group : who_text (sought.Decimal 65300) truck
+group : option_map table_text (who_table (sought.Decimal 65300) truck)
     ≡ Some (codes "held  2633962507 ext 1cff140b  65300 brakes           1 Pads\n"
     ++ (codes "block pgn     65300     65309 brakes       live    0 held   1 free     9 65301-65309\n"
     ++ codes "live 0 held 1 spns 0 blocks 1\n"))
@@ -90,21 +91,21 @@ unfolding digits
 group = refl
 
 -- the same number as an identifier, whose group is 0
-ident : who_text (sought.Hexadecimal 65300) truck
+ident : option_map table_text (who_table (sought.Hexadecimal 65300) truck)
     ≡ Some (codes "block pgn         0         0 gearbox      live    1 held   0 free     0 -\n"
     ++ codes "live 0 held 0 spns 0 blocks 1\n")
 unfolding digits
 ident = refl
 
 -- a suspect parameter number, and no group of this number
-spn : who_text (sought.Spn 516098) truck
+spn : option_map table_text (who_table (sought.Spn 516098) truck)
     ≡ Some (codes "spn   516098 live     - 2348810251 ext 0c00000b      0 TSC1 Limit\n"
     ++ (codes "block spn    516096    516105 engine       live    1 held   0 free     9 516096-516097,516099-516105\n"
     ++ codes "live 0 held 0 spns 1 blocks 1\n"))
 unfolding digits
 spn = refl
 
-nobody : who_text (sought.Name (codes "nobody")) truck ≡ None
+nobody : who_table (sought.Name (codes "nobody")) truck ≡ None
 nobody = refl
 
 -- what a DBC file writes for an identifier of 29 bits

@@ -1,7 +1,0 @@
-use Rattle.std.proofs.Common.{◌≡◌, drop}
-use Rattle.office_looks.specs.Held.{team_at}
-use Rattle.office_looks.proofs.held.team_at.Given as goal
-
--- the first one is among those that are left
-abbrev pub invariant-loop-granted : goal.invariant-loop-granted
-invariant-loop-granted l = team_at l.blocks l.form l.number ≡ team_at (drop l.granted-index l.blocks) l.form l.number

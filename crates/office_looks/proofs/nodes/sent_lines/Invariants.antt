@@ -1,6 +1,0 @@
-use Rattle.std.proofs.Common.{◌≡◌, take}
-use Rattle.office_looks.specs.Nodes.{sent_lines}
-use Rattle.office_looks.proofs.nodes.sent_lines.Given as goal
-
-abbrev pub invariant-loop-message : goal.invariant-loop-message
-invariant-loop-message l = l.lines.items ≡ sent_lines l.node (take l.message-index l.messages)

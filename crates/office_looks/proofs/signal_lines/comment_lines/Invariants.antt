@@ -1,7 +1,0 @@
-use Rattle.std.proofs.Common.{◌≡◌, take}
-use Rattle.std.specs.List.{flat_map}
-use Rattle.office_looks.specs.Message.{comment_line}
-use Rattle.office_looks.proofs.signal_lines.comment_lines.Given as goal
-
-abbrev pub invariant-loop-signal : goal.invariant-loop-signal
-invariant-loop-signal l = l.lines.items ≡ flat_map comment_line (take l.signal-index l.signals)

@@ -1,8 +1,0 @@
-use Rattle.std.proofs.Common.{◌≡◌, ℕ, List, take}
-use Rattle.std.specs.Prelude.{count_by}
-use Rattle.office_looks.specs.Nodes.{receives_some}
-use Rattle.office_looks.specs.Tally.{times}
-use Rattle.office_looks.proofs.tally.received_tally.Given as goal
-
-abbrev pub invariant-loop-message : goal.invariant-loop-message
-invariant-loop-message l = (n : List ℕ) → times l.tally n ≡ count_by (receives_some n) (take l.message-index l.messages)

@@ -1,9 +1,0 @@
-use Rattle.std.proofs.Common.{◌≡◌, ◌++◌, drop, filter}
-use Rattle.std.specs.List.{flat_map}
-use Rattle.office_looks.specs.Who.{is_spn_sought, spn_hit_lines, spn_lines_of}
-use Rattle.office_looks.proofs.who.spn_hit_lines.Given as goal
-
--- those so far, and those of the numbers that are left
-abbrev pub invariant-loop-number : goal.invariant-loop-number
-invariant-loop-number l = spn_hit_lines l.sought l.view
-    ≡ l.lines ++ flat_map (spn_lines_of l.view) (filter (is_spn_sought l.sought) (drop l.number-index l.number-items))

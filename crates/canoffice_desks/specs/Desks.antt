@@ -1,6 +1,7 @@
 -- What is known of the desks of this machine, and of what they are sent.
 use Rattle.std.specs.Prelude.{◌≡◌, ℕ, List, ◌++◌, Result, Err}
 use Rattle.desk_client.specs.Received.{Reception}
+use Rattle.office_types.specs.declared.look.LookForm.{LookForm}
 use Rattle.desk_client.specs.declared.fault.AskFault.{AskFault}
 use Rattle.desk_client.specs.declared.fault.AskFault.TheVariants.{Connect}
 
@@ -18,10 +19,10 @@ pub record Turn : Type 0 where
 abbrev pub turn : ℕ → List ℕ → Asked → Turn
 turn port bytes came = record { port = port; bytes = bytes; came = came }
 
--- what may come of asking the desk on a port for a target, and of sending it the bytes of a request; and the record:
--- the turns that were taken so far, the first one first
+-- what may come of asking the desk on a port for a target in a form, and of sending it the bytes of a request; and the
+-- record: the turns that were taken so far, the first one first
 pub record Desks : Type 1 where
-  pub asked : ℕ → List ℕ → Asked → Type 0
+  pub asked : ℕ → List ℕ → LookForm → Asked → Type 0
   pub sent : ℕ → List ℕ → Asked → Type 0
   pub taken : List Turn → Type 0
 
@@ -41,7 +42,7 @@ TakesNone before after = (earlier : List Turn) → before.taken earlier → afte
 -- nothing is known of any desk, nor of what it is sent
 abbrev pub unknown_desks : Desks
 unknown_desks = record {
-  asked = λ port target came. Unit {0};
+  asked = λ port target form came. Unit {0};
   sent = λ port request came. Unit {0};
   taken = λ turns. Unit {0};
 }
@@ -49,7 +50,7 @@ unknown_desks = record {
 -- no desk can be connected to, and no record is kept of what is tried
 abbrev pub no_desk : Desks
 no_desk = record {
-  asked = λ port target came. came ≡ Err Connect;
+  asked = λ port target form came. came ≡ Err Connect;
   sent = λ port request came. came ≡ Err Connect;
   taken = λ turns. Unit {0};
 }

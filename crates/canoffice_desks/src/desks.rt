@@ -6,6 +6,7 @@ ghost use Rattle.desk_client.specs.Request.{is_target, request_bytes};
 ghost use Rattle.canoffice_desks.specs.Desks.{AreStill, Desks as Known, Takes, TakesNone, turn};
 
 use desk_client::{AskFault, Received};
+use office_types::LookForm;
 use std::alloc::Global;
 
 /// Desks that are found by their ports, each of which serves an office.
@@ -13,14 +14,20 @@ pub trait Desks {
     /// What is known of them, with the record of what they were sent.
     ghost known: { Self → Known };
 
-    /// Asks the desk on the port for a target, and says what came back. The error is why nothing is known of that. It
-    /// is one turn, of the bytes of a GET.
-    fn ask(&mut self, alloc: Global, port: u16, target: &[u8]) -> Result<Received, AskFault>
+    /// Asks the desk on the port for a target in the form, and says what came back. The error is why nothing is known of
+    /// that. It is one turn, of the bytes of a GET.
+    fn ask(
+        &mut self,
+        alloc: Global,
+        port: u16,
+        target: &[u8],
+        form: LookForm,
+    ) -> Result<Received, AskFault>
         requires { IsTrue (is_target target.now) }
-        ensures came { (known self.old).asked port target.now
+        ensures came { (known self.old).asked port target.now form
             (result_map_both seen (λ fault. fault) result) }
         ensures takes { Takes (known self.old) (known self.new)
-            (turn port (request_bytes target.now) (result_map_both seen (λ fault. fault) result) ∷ []) };
+            (turn port (request_bytes target.now form) (result_map_both seen (λ fault. fault) result) ∷ []) };
 
     /// Sends the bytes of a request to the desk on the port, and says what came back. The error is why nothing is known
     /// of that: the desk may have carried the request out or not. It is one turn, of these bytes.
@@ -46,7 +53,13 @@ impl Desks for NoDesk {
 
     ghost known = { λ _. no_desk };
 
-    fn ask(&mut self, _alloc: Global, _port: u16, _target: &[u8]) -> Result<Received, AskFault> {
+    fn ask(
+        &mut self,
+        _alloc: Global,
+        _port: u16,
+        _target: &[u8],
+        _form: LookForm,
+    ) -> Result<Received, AskFault> {
         Err(AskFault::Connect)
     }
 

@@ -1,6 +1,7 @@
 //! The desks of the machine that the program runs on.
 use canoffice_desks::Desks;
 use desk_client::{AskFault, Received, ask, send};
+use office_types::LookForm;
 use std::alloc::Global;
 use std::thread;
 use std::time::Duration;
@@ -22,8 +23,14 @@ impl Desks for HostDesks<'_> {
 
     ghost known = { λ _. unknown_desks };
 
-    fn ask(&mut self, alloc: Global, port: u16, target: &[u8]) -> Result<Received, AskFault> {
-        ask(alloc, self.rt, port, target)
+    fn ask(
+        &mut self,
+        alloc: Global,
+        port: u16,
+        target: &[u8],
+        form: LookForm,
+    ) -> Result<Received, AskFault> {
+        ask(alloc, self.rt, port, target, form)
     }
 
     fn send(&mut self, alloc: Global, port: u16, request: &[u8]) -> Result<Received, AskFault> {

@@ -19,18 +19,20 @@ use Rattle.desk_types.specs.declared.problem.Problem.TheVariants.{NotFound, TryA
 use Rattle.desk_call.specs.Call.{Requested, ArrivalSeen, arrives, fails, shows}
 use Rattle.desk_call.specs.Read.{IsRequested}
 use Rattle.office_types.specs.declared.look.Look.{Look}
+use Rattle.office_types.specs.declared.look.LookForm.TheVariants as in_form
 use Rattle.office_types.specs.declared.look.Look.TheVariants as look
 use Rattle.store.specs.Calls.{OnHistory}
 use Rattle.desk_reply.specs.Response.{answer_response, problem_response, text_response}
 use Rattle.desk_reply.specs.declared.responses.BodyKind.{BodyKind}
-use Rattle.desk_reply.specs.declared.responses.BodyKind.TheVariants.{Bytes, Html, Plain}
+use Rattle.desk_reply.specs.declared.responses.BodyKind.TheVariants.{Bytes, Html, Json, Plain}
 
--- what its text is: DBC text, a page, or lines
+-- what its text is: DBC text, a page, JSON, or lines
 abbrev pub body_kind_of : Look → BodyKind
 body_kind_of (look.Live net) = Bytes
 body_kind_of (look.Release net number) = Bytes
 body_kind_of (look.Page net) = Html
 body_kind_of (look.ReleasePage net number) = Html
+body_kind_of (look.Net net l in_form.Json) = Json
 body_kind_of l = Plain
 
 -- the response that shows a text, or says that there is none

@@ -9,18 +9,19 @@ use desk_call::Call;
 use desk_reply::{BodyKind, answer_response, problem_response, text_response};
 use desk_types::Problem;
 use office_history::Arrival;
-use office_types::Look;
+use office_types::{Look, LookForm};
 use sqlite::Alter;
 use std::alloc::{AllocError, Global};
 use store::StoredOffice;
 
-/// What the text of a look is: DBC text, a page, or lines.
+/// What the text of a look is: DBC text, a page, JSON, or lines.
 fn body_kind_of(look: &Look) -> BodyKind
     ensures { result ≡ body_kind_of look.now }
 {
     match look {
         Look::Live(_) | Look::Release(_, _) => BodyKind::Bytes,
         Look::Page(_) | Look::ReleasePage(_, _) => BodyKind::Html,
+        Look::Net(_, _, LookForm::Json) => BodyKind::Json,
         _ => BodyKind::Plain,
     }
 }

@@ -21,7 +21,7 @@ fn net_of_look(look: &Look) -> Option<&NetName> {
         | Look::Live(net)
         | Look::Release(net, _)
         | Look::Chart(net, _)
-        | Look::Net(net, _)
+        | Look::Net(net, _, _)
         | Look::Page(net)
         | Look::ReleasePage(net, _) => Some(net),
     }

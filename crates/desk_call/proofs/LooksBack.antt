@@ -1,13 +1,16 @@
 -- What is read at the target of a look is that look.
 use Rattle.std.proofs.Common.{◌≡◌, ◌≤◌, ◌<◌, ◌^◌, ◌&&◌, ℕ, true, List, ◌∷◌, ◌++◌, length, Some, None}
-use Rattle.std.proofs.Common.{codes, refl, arith, nat_le}
+use Rattle.std.proofs.Common.{◌∙◌, Bool, false, map, ap, codes, refl, arith, nat_le}
 use Rattle.std.specs.Fmt.{decimal}
 use Rattle.std.specs.List.{list_all}
 use Rattle.std.proofs.lemmas.Bool.Decides.{nat_tests}
 use Rattle.httparse.specs.Grammar.{RequestHead}
+use Rattle.httparse.specs.Spans.{name_and_value}
 use Rattle.office_types.specs.PlainName.{IsPlainName}
 use Rattle.office_types.specs.declared.look.Look.{Look}
 use Rattle.office_types.specs.declared.look.Look.TheVariants as look
+use Rattle.office_types.specs.Look.{formed}
+use Rattle.office_types.specs.declared.look.LookForm.TheVariants.{Lines}
 use Rattle.office_types.specs.declared.look.NetLook.{NetLook}
 use Rattle.office_types.specs.declared.look.NetLook.TheVariants as of_net
 use Rattle.office_rules.specs.Reviewing.{release_limit}
@@ -17,8 +20,8 @@ use Rattle.desk_head.specs.Target.{second_parameter, third_parameter}
 use Rattle.desk_head.proofs.Leading.{targets_lead_there}
 use Rattle.desk_head.proofs.Parameters.{first_alone, first_before, second_alone, second_before, third_alone}
 use Rattle.desk_head.proofs.TargetParts.{IsPart, decimal_part, is_part_byte, name_part, plain_part, word_part}
-use Rattle.desk_call.specs.Asked.{CanBeAsked, CanBeAskedOfNet, LooksComeBack}
-use Rattle.desk_call.specs.Call.{call_of, look_of, net_in, release_number, shows}
+use Rattle.desk_call.specs.Asked.{AreOfForm, CanBeAsked, CanBeAskedOfNet, LooksComeBack}
+use Rattle.desk_call.specs.Call.{call_of, look_of, net_in, release_number, shows, wants_json}
 use Rattle.desk_call.proofs.SoughtBack.{whole_decimal, word_back}
 
 -- ---- parameters
@@ -83,7 +86,7 @@ release_back n small h =
     rw (whole_decimal n small, fits) refl
 
 net_back : (net : List ℕ) → IsPlainName net → (l : NetLook) → IsNetLook l → CanBeAskedOfNet l
-    → look_of (net_showing l) (net_target net (part_of l)) ≡ Some (look.Net net l)
+    → look_of (net_showing l) (net_target net (part_of l)) ≡ Some (look.Net net l Lines)
 net_back net is of_net.State h can = rw (net_before net (codes "state") is) refl
 net_back net is (of_net.Blocks None) h can = rw (net_before net (codes "blocks") is) refl
 net_back net is (of_net.Blocks (Some team)) h can =
@@ -137,7 +140,7 @@ net_back net is (of_net.Compare old new) h can =
     )
     refl
 
-reads_back : (l : Look) → IsLook l → CanBeAsked l → look_of (showing_of l) (target_of l) ≡ Some l
+reads_back : (l : Look) → IsLook l → CanBeAsked l → look_of (showing_of l) (target_of l) ≡ Some (formed false l)
 reads_back look.Nets is can = refl
 reads_back (look.Table net) is can = rw (net_alone net is) refl
 reads_back (look.Live net) is can = rw (net_before net (codes "live") is) refl
@@ -155,7 +158,7 @@ reads_back (look.Chart net message) is can =
       is.1,
     )
     refl
-reads_back (look.Net net l) is can = net_back net is.0 l is.1 can
+reads_back (look.Net net l form) is can = net_back net is.0 l is.1 can
 reads_back (look.Page net) is can = rw (net_before net (codes "page") is) refl
 reads_back (look.ReleasePage net n) is can =
     rw (
@@ -167,11 +170,17 @@ reads_back (look.ReleasePage net n) is can =
 reads_back (look.Requests team) is can =
     rw (first_alone (codes "requests") team requests (plain_part team is), is) refl
 
+-- whether JSON is wanted is said once
+formed_twice : (json : Bool) (l : Look) → formed json (formed false l) ≡ formed json l
+formed_twice json (look.Net net l form) = refl
+formed_twice json l = refl
+
 gets_back : (h : RequestHead) (rest : List ℕ) (l : Look) → h.method ≡ codes "GET" → h.target ≡ target_of l
-    → IsLook l → CanBeAsked l → call_of h rest ≡ shows l
+    → AreOfForm h l → IsLook l → CanBeAsked l → call_of h rest ≡ shows l
 unfolding call_of demand_of
-gets_back h rest l method target is can =
-    rw (target, targets_lead_there l is, method, reads_back l is can) refl
+gets_back h rest l method target form is can =
+    rw (target, targets_lead_there l is, method, reads_back l is can)
+    (ap shows (formed_twice (wants_json (map name_and_value h.fields)) l ∙ form))
 
 pub looks_come_back : LooksComeBack
 looks_come_back = record { reads = reads_back; gets = gets_back }

@@ -9,6 +9,7 @@ use Rattle.desk_head.specs.declared.endpoint.Posting.TheVariants.{Import}
 use Rattle.desk_head.specs.declared.endpoint.Showing.TheVariants as showing
 use Rattle.desk_call.specs.Call.{arrives, arrival_of, call_by, fails, look_of}
 use Rattle.office_types.specs.declared.look.Look.TheVariants as look
+use Rattle.office_types.specs.declared.look.LookForm.TheVariants.{Lines}
 use Rattle.office_types.specs.declared.look.NetLook.TheVariants as of_net
 use Rattle.office_types.specs.declared.sought.Sought.TheVariants as sought
 
@@ -67,11 +68,11 @@ of_a_network : look_of showing.State (codes "/nets/truck/state")
     ∷ look_of showing.Who (codes "/nets/truck/who/65300")
     ∷ look_of showing.Who (codes "/nets/truck/who/pgn=")
     ∷ []
-    ≡ Some (look.Net (codes "truck") of_net.State)
-    ∷ Some (look.Net (codes "truck") (of_net.Blocks (Some (codes "engine")))) ∷ None
-    ∷ Some (look.Net (codes "truck") (of_net.Who (sought.Group 65300)))
-    ∷ Some (look.Net (codes "truck") (of_net.Who (sought.Hexadecimal 419364864)))
-    ∷ Some (look.Net (codes "truck") (of_net.Who (sought.Decimal 65300))) ∷ None ∷ []
+    ≡ Some (look.Net (codes "truck") of_net.State Lines)
+    ∷ Some (look.Net (codes "truck") (of_net.Blocks (Some (codes "engine"))) Lines) ∷ None
+    ∷ Some (look.Net (codes "truck") (of_net.Who (sought.Group 65300)) Lines)
+    ∷ Some (look.Net (codes "truck") (of_net.Who (sought.Hexadecimal 419364864)) Lines)
+    ∷ Some (look.Net (codes "truck") (of_net.Who (sought.Decimal 65300)) Lines) ∷ None ∷ []
 unfolding is_name
 of_a_network = refl
 
@@ -80,14 +81,14 @@ of_a_team : look_of showing.Requests (codes "/requests/engine")
     ∷ look_of showing.TeamMessages (codes "/nets/truck/teams/engine/messages")
     ∷ []
     ≡ Some (look.Requests (codes "engine")) ∷ None
-    ∷ Some (look.Net (codes "truck") (of_net.Messages (Some (codes "engine")))) ∷ []
+    ∷ Some (look.Net (codes "truck") (of_net.Messages (Some (codes "engine"))) Lines) ∷ []
 of_a_team = refl
 
 compared : map (look_of showing.Compare) (codes "/nets/truck/compare/1/2" ∷ codes "/nets/truck/compare/0/65536"
     ∷ codes "/nets/truck/compare/01/2" ∷ codes "/nets/truck/compare/1/+2" ∷ codes "/nets/truck/compare/live/2"
     ∷ codes "/nets/truck/compare/1/4294967296" ∷ codes "/nets/Truck/compare/1/2" ∷ [])
-    ≡ Some (look.Net (codes "truck") (of_net.Compare 1 2)) ∷ Some (look.Net (codes "truck") (of_net.Compare 0 65536))
-    ∷ Some (look.Net (codes "truck") (of_net.Compare 1 2)) ∷ None ∷ None ∷ None ∷ None ∷ []
+    ≡ Some (look.Net (codes "truck") (of_net.Compare 1 2) Lines) ∷ Some (look.Net (codes "truck") (of_net.Compare 0 65536) Lines)
+    ∷ Some (look.Net (codes "truck") (of_net.Compare 1 2) Lines) ∷ None ∷ None ∷ None ∷ None ∷ []
 compared = refl
 
 releases : map (look_of showing.Release) (codes "/nets/truck/releases/1" ∷ codes "/nets/truck/releases/0065535"

@@ -1,5 +1,6 @@
 -- What a request is to the office: the ordered tests, on its head and on what follows the head.
-use Rattle.std.specs.Prelude.{ℕ, nat_le, ◌&&◌, List, ◌∷◌, ◌++◌, length, map, take, codes, cond, Option, Some, None}
+use Rattle.std.specs.Prelude.{ℕ, nat_le, ◌&&◌, Bool, false, List, [], ◌∷◌, ◌++◌, length, map, take, codes, cond}
+use Rattle.std.specs.Prelude.{Option, Some, None}
 use Rattle.std.specs.Option.{option_map}
 use Rattle.httparse.specs.Grammar.{RequestHead}
 use Rattle.httparse.specs.Spans.{name_and_value}
@@ -14,7 +15,7 @@ use Rattle.office_history.specs.declared.arrival.Arrival.{Arrival}
 use Rattle.desk_types.specs.declared.problem.Problem.{Problem}
 use Rattle.desk_types.specs.declared.problem.Problem.TheVariants.{BadRequest, NotFound}
 use Rattle.desk_head.specs.Demand.{demand_of}
-use Rattle.desk_head.specs.Fields.{Headers, named}
+use Rattle.desk_head.specs.Fields.{Headers, named, same_name}
 use Rattle.desk_head.specs.Target.{first_parameter, second_parameter, third_parameter}
 use Rattle.desk_head.specs.declared.demand.Demand.{Demand}
 use Rattle.desk_head.specs.declared.demand.Demand.TheVariants as demand
@@ -28,8 +29,10 @@ use Rattle.desk_call.specs.declared.call.Call as declared
 use Rattle.desk_call.specs.declared.call.Call.TheVariants as call
 use Rattle.office_types.specs.declared.look.Look.{Look}
 use Rattle.office_types.specs.declared.look.Look.TheVariants as look
+use Rattle.office_types.specs.declared.look.LookForm.TheVariants.{Lines}
 use Rattle.office_types.specs.declared.look.NetLook.{NetLook}
 use Rattle.office_types.specs.declared.look.NetLook.TheVariants as of_net
+use Rattle.office_types.specs.Look.{formed}
 use Rattle.office_types.specs.Sought.{sought_of}
 
 -- an arrival, as contracts see it
@@ -73,9 +76,9 @@ abbrev pub chart_in : List ℕ → Option Look
 chart_in target = net_in target >>= λ net. name_of (second_parameter target)
     >>= λ message. Some (look.Chart net message)
 
--- what is looked up of the network that a target names
+-- what is looked up of the network that a target names, as lines
 abbrev pub net_look_in : List ℕ → NetLook → Option Look
-net_look_in target l = option_map (λ net. look.Net net l) (net_in target)
+net_look_in target l = option_map (λ net. look.Net net l Lines) (net_in target)
 
 abbrev pub team_in : List ℕ → Option (List ℕ)
 team_in target = plain_name_of (second_parameter target)
@@ -127,6 +130,15 @@ look_of showing.TeamBlocks target = team_blocks_in target
 look_of showing.TeamMessages target = team_messages_in target
 look_of showing.Requests target = requests_in target
 
+-- JSON is wanted: there is one header Accept, and it names that alone
+abbrev pub json_by : List (List ℕ) → Bool
+json_by [] = false
+json_by (v ∷ []) = same_name v (codes "application/json")
+json_by (v ∷ w ∷ values) = false
+
+abbrev pub wants_json : Headers → Bool
+wants_json headers = json_by (named (codes "accept") headers)
+
 abbrev pub show_by : Option Look → Requested
 show_by None = fails NotFound
 show_by (Some l) = shows l
@@ -169,7 +181,7 @@ arrive_by (Some a) = arrives a
 
 abbrev pub call_by : Demand → List ℕ → Headers → List ℕ → Requested
 call_by (demand.Fails problem) target headers rest = fails problem
-call_by (demand.Shows s) target headers rest = show_by (look_of s target)
+call_by (demand.Shows s) target headers rest = show_by (option_map (formed (wants_json headers)) (look_of s target))
 call_by (demand.Does p n) target headers rest =
     cond (nat_le n (length rest)) (arrive_by (arrival_of p target headers (take n rest))) (fails BadRequest)
 

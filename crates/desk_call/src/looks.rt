@@ -7,7 +7,7 @@ ghost use Rattle.desk_call.specs.Call.{who_in};
 use crate::values::{name_of, net_in, number_of, release_number, sought_of};
 use desk_head::{Showing, first_parameter, second_parameter, third_parameter};
 use office_fields::{Unread, team_of};
-use office_types::{Look, NetLook, Team};
+use office_types::{Look, LookForm, NetLook, Team};
 use std::alloc::Global;
 
 fn release_in(alloc: Global, target: &[u8]) -> Result<Look, Unread>
@@ -39,7 +39,7 @@ fn net_look(alloc: Global, target: &[u8], look: NetLook) -> Result<Look, Unread>
     ensures { ReadsField (net_look_in target.now look) result }
 {
     let net = net_in(alloc, target)?;
-    Ok(Look::Net(net, look))
+    Ok(Look::Net(net, look, LookForm::Lines))
 }
 
 fn team_in(alloc: Global, target: &[u8]) -> Result<Team, Unread>
@@ -97,7 +97,7 @@ fn requests_in(alloc: Global, target: &[u8]) -> Result<Look, Unread>
     Ok(Look::Requests(team_of(alloc, first_parameter(target))?))
 }
 
-/// What the target shows. `Wrong` where a parameter hasn't its form.
+/// What the target shows, as lines where it has other forms. `Wrong` where a parameter hasn't its form.
 pub(crate) fn look_of(alloc: Global, showing: Showing, target: &[u8]) -> Result<Look, Unread>
     ensures { ReadsField (look_of showing target.now) result }
 {

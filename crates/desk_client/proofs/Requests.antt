@@ -11,9 +11,12 @@ use Rattle.std.specs.List.{All, list_all}
 use Rattle.httparse.specs.Grammar.{AllPass, IsField, IsRequestHead, print_request}
 use Rattle.httparse.specs.Grammar.{is_token_byte, is_uri_byte, is_value_byte}
 use Rattle.desk_head.specs.Head.{HasHead, IsSmall}
+use Rattle.desk_head.specs.Limits.{header_limit}
 use Rattle.desk_client.proofs.Heads.{is_field}
+use Rattle.office_types.specs.declared.look.LookForm.{LookForm}
+use Rattle.office_types.specs.declared.look.LookForm.TheVariants.{Json, Lines}
 use Rattle.desk_client.specs.Limits.{target_limit}
-use Rattle.desk_client.specs.Request.{get_head, header, is_target, request_bytes}
+use Rattle.desk_client.specs.Request.{accept_fields, get_head, head_end, header, is_target, request_bytes}
 
 -- what a target is, part by part
 record Parts (target : List ℕ) : Type 0 where
@@ -37,32 +40,57 @@ visible_ascii b h = grind (arith, nat_tests, h)
 regroup : (t a b c : List ℕ) → ((t ++ a) ++ b) ++ c ≡ t ++ (a ++ (b ++ c))
 regroup t a b c = simp append_assoc
 
-head_text : (target : List ℕ) → print_request (get_head target) ≡ request_bytes target
+head_text : (target : List ℕ) (form : LookForm) → print_request (get_head target form) ≡ request_bytes target form
 unfolding request_bytes print_request
-head_text target =
+head_text target Lines =
     ap (λ l. codes "GET " ++ l)
     (regroup target (codes " HTTP/1.1") (codes "\r\n") (codes "Host: 127.0.0.1\r\nConnection: close\r\n\r\n"))
+head_text target Json =
+    ap (λ l. codes "GET " ++ l)
+    (regroup target (codes " HTTP/1.1") (codes "\r\n")
+    (codes "Host: 127.0.0.1\r\nAccept: application/json\r\nConnection: close\r\n\r\n"))
 
-request_size : (target : List ℕ) → length (request_bytes target) ≡ length target + 53
+request_size : (target : List ℕ) (form : LookForm) → length (request_bytes target form) ≤ length target + 79
 unfolding request_bytes
-request_size target =
-    omega (arith, length-append target (codes " HTTP/1.1\r\nHost: 127.0.0.1\r\nConnection: close\r\n\r\n"))
+request_size target Lines = omega (arith, length-append target (head_end Lines))
+request_size target Json = omega (arith, length-append target (head_end Json))
 
 passes : (test : ℕ → Bool) (bytes : List ℕ) → list_all test bytes ≡ true → AllPass test bytes
 passes test bytes h = AllPass-from_list_all test bytes h
 
-fields_are : (target : List ℕ) → All IsField (get_head target).fields
+host_is : IsField (header (codes "Host") (codes " 127.0.0.1"))
 unfolding is_token_byte
-fields_are target =
-    let host : IsField (header (codes "Host") (codes " 127.0.0.1")) =
+host_is =
     is_field (codes "Host") (codes " 127.0.0.1") (omega arith) (passes is_token_byte (codes "Host") refl)
-    (passes is_value_byte (codes " 127.0.0.1") refl) in
-    let connection : IsField (header (codes "Connection") (codes " close")) =
-    is_field (codes "Connection") (codes " close") (omega arith) (passes is_token_byte (codes "Connection") refl)
-    (passes is_value_byte (codes " close") refl) in
+    (passes is_value_byte (codes " 127.0.0.1") refl)
+
+accept_is : IsField (header (codes "Accept") (codes " application/json"))
+unfolding is_token_byte
+accept_is =
+    is_field (codes "Accept") (codes " application/json") (omega arith) (passes is_token_byte (codes "Accept") refl)
+    (passes is_value_byte (codes " application/json") refl)
+
+-- the last header
+connection_is : All IsField (header (codes "Connection") (codes " close") ∷ [])
+unfolding is_token_byte
+connection_is =
+    All-cons IsField (header (codes "Connection") (codes " close")) []
+    (is_field (codes "Connection") (codes " close") (omega arith) (passes is_token_byte (codes "Connection") refl)
+    (passes is_value_byte (codes " close") refl)) (All-nil IsField)
+
+fields_are : (target : List ℕ) (form : LookForm) → All IsField (get_head target form).fields
+fields_are target Lines =
+    All-cons IsField (header (codes "Host") (codes " 127.0.0.1")) (header (codes "Connection") (codes " close") ∷ [])
+    host_is connection_is
+fields_are target Json =
     All-cons IsField (header (codes "Host") (codes " 127.0.0.1"))
-    (header (codes "Connection") (codes " close") ∷ []) host
-    (All-cons IsField (header (codes "Connection") (codes " close")) [] connection (All-nil IsField))
+    (header (codes "Accept") (codes " application/json") ∷ header (codes "Connection") (codes " close") ∷ []) host_is
+    (All-cons IsField (header (codes "Accept") (codes " application/json"))
+    (header (codes "Connection") (codes " close") ∷ []) accept_is connection_is)
+
+few_fields : (target : List ℕ) (form : LookForm) → length (get_head target form).fields ≤ header_limit
+few_fields target Lines = omega arith
+few_fields target Json = omega arith
 
 get_is_token : AllPass is_token_byte (codes "GET")
 unfolding is_token_byte
@@ -74,8 +102,8 @@ ascii_at (b ∷ bytes) h zero = visible_ascii b (and_parts (is_ascii_graphic b) 
 ascii_at (b ∷ bytes) h (suc i) =
     ascii_at bytes (and_parts (is_ascii_graphic b) (list_all is_ascii_graphic bytes) h).1 i
 
-is_head : (target : List ℕ) → Parts target → IsRequestHead (get_head target)
-is_head target p = record {
+is_head : (target : List ℕ) (form : LookForm) → Parts target → IsRequestHead (get_head target form)
+is_head target form p = record {
   method = (omega arith, get_is_token);
   target = (
     p.some,
@@ -84,14 +112,17 @@ is_head target p = record {
   );
   target_text = IsUtf8-from_ascii target (ascii_at target p.visible);
   minor = omega arith;
-  fields = fields_are target;
+  fields = fields_are target form;
 }
 
-pub asks : (target : List ℕ) → IsTrue (is_target target) → HasHead (request_bytes target) (get_head target) []
-asks target is =
+pub asks : (target : List ℕ) (form : LookForm) → IsTrue (is_target target)
+    → HasHead (request_bytes target form) (get_head target form) []
+asks target form is =
     let p = parts target is in
-    let small : IsSmall (get_head target) = record {
-      bytes = omega (arith, p.fits, ap length (head_text target), request_size target);
-      fields = omega arith;
-    } in
-    ((is_head target p, sym (head_text target) ∙ sym (append-nil (print_request (get_head target)))), small)
+    let small : IsSmall (get_head target form) = record {
+      bytes = omega (arith, p.fits, ap length (head_text target form), request_size target form);
+      fields = few_fields target form;
+    } in (
+      (is_head target form p, sym (head_text target form) ∙ sym (append-nil (print_request (get_head target form)))),
+      small,
+    )

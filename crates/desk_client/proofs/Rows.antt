@@ -10,15 +10,22 @@ use Rattle.httparse.specs.Grammar.{is_value_byte, print_response, trim_ows}
 use Rattle.desk_head.specs.Fields.{Headers, named}
 use Rattle.desk_client.specs.Received.{IsReceived, body_length, received_of, whole, cut, not_http}
 use Rattle.desk_client.specs.Request.{header, request_bytes}
+use Rattle.office_types.specs.declared.look.LookForm.TheVariants.{Json, Lines}
 use Rattle.desk_client.specs.declared.received.Status.TheVariants.{Success, NotFound, Other}
 use Rattle.desk_client.proofs.Heads.{is_field, never_http, short_has_none}
 
 -- ---- the request
 
-request : request_bytes (codes "/nets/truck/live")
+request : request_bytes (codes "/nets/truck/live") Lines
     ≡ codes "GET /nets/truck/live HTTP/1.1\r\nHost: 127.0.0.1\r\nConnection: close\r\n\r\n"
 unfolding request_bytes
 request = refl
+
+request_of_json : request_bytes (codes "/nets/truck/held") Json
+    ≡ codes "GET /nets/truck/held HTTP/1.1\r\nHost: 127.0.0.1\r\nAccept: application/json\r\n"
+    ++ codes "Connection: close\r\n\r\n"
+unfolding request_bytes
+request_of_json = refl
 
 -- ---- the length of a body
 

@@ -117,7 +117,7 @@ can_be_asked (look.Release net n) is =
 can_be_asked (look.Chart net message) is =
     in_a_net net (codes "/messages/" ++ message) is.0
     (after (codes "/messages/") message messages (name_part message is.1))
-can_be_asked (look.Net net l) is = in_a_net net (part_of l) is.0 (part_fits l is.1)
+can_be_asked (look.Net net l form) is = in_a_net net (part_of l) is.0 (part_fits l is.1)
 can_be_asked (look.Page net) is = in_a_net net (codes "/page") is (alone (codes "/page") (omega arith) refl)
 can_be_asked (look.ReleasePage net n) is =
     in_a_net net (codes "/releases/" ++ (decimal n ++ codes "/page")) is.0

@@ -10,6 +10,7 @@ use crate::reading::read_all;
 use crate::received::{Received, response_in};
 use crate::request::request_for;
 use desk_types::{DeskFault, Failed, Sink, Source, put_all};
+use office_types::LookForm;
 use std::alloc::Global;
 
 /// Writes the bytes of a request to the sink, reads the source to its end, and says what came. Whatever the source has,
@@ -43,8 +44,8 @@ pub fn exchange<W: Sink, R: Source>(
     Ok(response_in(text))
 }
 
-/// Writes a GET of the target to the sink, reads the source to its end, and says what came. Whatever the source has,
-/// no more is read of it than the greatest response and one byte.
+/// Writes a GET of the target in the form to the sink, reads the source to its end, and says what came. Whatever the
+/// source has, no more is read of it than the greatest response and one byte.
 ///
 /// `Write` if the sink failed: then nothing is read. `Read` if the source failed before its end: what came until then
 /// is lost. `Memory` if memory ran out, for the request, of which nothing is written then, or for what came.
@@ -53,11 +54,13 @@ pub fn asked<W: Sink, R: Source>(
     sink: &mut W,
     source: &mut R,
     target: &[u8],
+    form: LookForm,
 ) -> Result<Received, DeskFault>
     requires target { IsTrue (is_target target.now) }
     requires writes { W.failure_count sink.old < 2 ^ 64 - 1 }
     requires reads { R.failure_count source.old < 2 ^ 64 - 1 }
-    ensures asks { Asks result (W.reported sink.old) (W.reported sink.new) (request_bytes target.now)
+    ensures asks { Asks result (W.reported sink.old) (W.reported sink.new)
+        (request_bytes target.now form)
         ⊎ (IsErrOf result DeskFault.Memory × (sink.new ≡ sink.old)) }
     ensures receives { IfOk result (λ received. Receives (R.left source.old) (seen received)) }
     ensures most { GivesAtMost (R.left source.old) (R.left source.new) (response_limit + 1) }
@@ -67,7 +70,7 @@ pub fn asked<W: Sink, R: Source>(
     ensures failed_writes { CountsWrites result (W.failure_count sink.old)
         (W.failure_count sink.new) }
 {
-    let Ok(request) = request_for(alloc, target) else {
+    let Ok(request) = request_for(alloc, target, form) else {
         return Err(DeskFault::Memory);
     };
     exchange(alloc, sink, source, &request)

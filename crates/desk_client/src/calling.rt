@@ -6,6 +6,7 @@ use crate::asking::{asked, exchange};
 use crate::fault::AskFault;
 use crate::received::Received;
 use crate::side::Side;
+use office_types::LookForm;
 use std::alloc::Global;
 use std::io;
 use std::net::{Ipv4Addr, Net, SocketAddr, TcpStream};
@@ -42,8 +43,8 @@ fn begun<R: Net<Stream = TcpStream> + Clock>(
     }
 }
 
-/// Asks the desk at the port of 127.0.0.1 for a target, and says what came back, whatever it is. A connection is waited
-/// for 10 seconds, each read and write 90 seconds, and none begins later than 120 seconds after the connection.
+/// Asks the desk at the port of 127.0.0.1 for a target in the form, and says what came back, whatever it is. A connection
+/// is waited for 10 seconds, each read and write 90 seconds, and none begins later than 120 seconds after the connection.
 ///
 /// `Connect` if nothing takes a connection there, or its time can't be limited. `Connection` if the connection ended by
 /// a fault: `Write` and `Read` if a call of the socket failed or took too long, and `Memory` if memory ran out. No
@@ -53,13 +54,14 @@ pub fn ask<R: Net<Stream = TcpStream> + Clock>(
     rt: &R,
     port: u16,
     target: &[u8],
+    form: LookForm,
 ) -> Result<Received, AskFault>
     requires { IsTrue (is_target target.now) }
 {
     let (stream, began) = begun(rt, port)?;
     let mut sink = Side::new(&stream, rt, began);
     let mut source = Side::new(&stream, rt, began);
-    match asked(alloc, &mut sink, &mut source, target) {
+    match asked(alloc, &mut sink, &mut source, target, form) {
         Ok(received) => Ok(received),
         Err(fault) => Err(AskFault::Connection(fault)),
     }

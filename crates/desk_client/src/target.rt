@@ -90,7 +90,7 @@ fn text_of(alloc: Global, look: &Look) -> Result<Vec<u8>, AllocError>
             let part = joined(alloc, b"/messages/", message.as_bytes())?;
             net_target(alloc, net.as_bytes(), &part)
         }
-        Look::Net(net, look) => net_target(alloc, net.as_bytes(), &part_of(alloc, look)?),
+        Look::Net(net, look, _) => net_target(alloc, net.as_bytes(), &part_of(alloc, look)?),
         Look::Page(net) => net_target(alloc, net.as_bytes(), b"/page"),
         Look::ReleasePage(net, number) => {
             let part = format!(in alloc; "/releases/{number}/page")?;
@@ -163,7 +163,7 @@ fn is_look(look: &Look)
             net.as_bytes();
             message.as_bytes();
         }
-        Look::Net(net, look) => {
+        Look::Net(net, look, _) => {
             net.as_bytes();
             is_net_look(look);
         }
@@ -173,8 +173,9 @@ fn is_look(look: &Look)
     }
 }
 
-/// The target of the look, which can be asked for: `/nets/truck/state` for the state of `truck`. A desk reads it as
-/// that look, by the laws `targets_lead_there` and `looks_come_back`. The error is out of memory.
+/// The target of the look, which can be asked for: `/nets/truck/state` for the state of `truck`. A desk that is asked for
+/// it in the look's form reads that look, by the laws `targets_lead_there` and `looks_come_back`. The error is out of
+/// memory.
 #[tactic(auto, using(crate::proofs::Targets::can_be_asked))]
 pub fn target_of(alloc: Global, look: &Look) -> Result<Vec<u8>, AllocError>
     ensures text { IfOk result (λ target. target.items ≡ target_of look.now) }

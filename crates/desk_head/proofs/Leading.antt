@@ -321,7 +321,7 @@ targets_lead_there (look.Release net n) is =
     a_thing shown.Release net (codes "releases/") (decimal n) is.0 (decimal_part n is.1) releases_branch releases_end
 targets_lead_there (look.Chart net message) is =
     a_thing shown.Chart net (codes "messages/") message is.0 (name_part message is.1) messages_branch messages_end
-targets_lead_there (look.Net net l) is = in_a_net net is.0 l is.1
+targets_lead_there (look.Net net l form) is = in_a_net net is.0 l is.1
 targets_lead_there (look.Page net) is = ends_net shown.Page net (codes "page") is page_ends
 targets_lead_there (look.ReleasePage net n) is =
     more_of_it shown.ReleasePage net (codes "releases/") (decimal n) (codes "page") is.0 (decimal_part n is.1)

@@ -5,6 +5,7 @@ use Rattle.std.specs.Fmt.{digits}
 use Rattle.matchit.proofs.OnLiterals.{matchit_on_literals}
 use Rattle.dbc_words.specs.Name.{is_name}
 use Rattle.office_types.specs.declared.look.Look.TheVariants as look
+use Rattle.office_types.specs.declared.look.LookForm.TheVariants.{Lines}
 use Rattle.office_types.specs.declared.look.NetLook.TheVariants as of_net
 use Rattle.office_types.specs.declared.sought.Sought.TheVariants as sought
 use Rattle.office_fields.specs.declared.kind.ActionKind.TheVariants as act
@@ -83,18 +84,18 @@ of_a_team = refl
 -- by the law, since their search takes too many steps to compute
 of_a_message : endpoint_of (codes "/nets/truck/messages/E1/signals") ≡ Some (Shows showing.Message)
 unfolding is_name
-of_a_message = targets_lead_there (look.Net (codes "truck") (of_net.Message (codes "E1"))) (refl, refl)
+of_a_message = targets_lead_there (look.Net (codes "truck") (of_net.Message (codes "E1")) Lines) (refl, refl)
 
 blocks_of_a_team : endpoint_of (codes "/nets/truck/teams/engine/blocks") ≡ Some (Shows showing.TeamBlocks)
-blocks_of_a_team = targets_lead_there (look.Net (codes "truck") (of_net.Blocks (Some (codes "engine")))) (refl, refl)
+blocks_of_a_team = targets_lead_there (look.Net (codes "truck") (of_net.Blocks (Some (codes "engine"))) Lines) (refl, refl)
 
 messages_of_a_team : endpoint_of (codes "/nets/truck/teams/engine/messages") ≡ Some (Shows showing.TeamMessages)
 messages_of_a_team =
-    targets_lead_there (look.Net (codes "truck") (of_net.Messages (Some (codes "engine")))) (refl, refl)
+    targets_lead_there (look.Net (codes "truck") (of_net.Messages (Some (codes "engine"))) Lines) (refl, refl)
 
 compared : endpoint_of (codes "/nets/truck/compare/1/0") ≡ Some (Shows showing.Compare)
 unfolding digits
-compared = targets_lead_there (look.Net (codes "truck") (of_net.Compare 1 0)) (refl, (omega arith, omega arith))
+compared = targets_lead_there (look.Net (codes "truck") (of_net.Compare 1 0) Lines) (refl, (omega arith, omega arith))
 
 page_of_a_network : map endpoint_of (codes "/nets/truck/page" ∷ codes "/nets/page" ∷ codes "/nets/page/page" ∷ [])
     ≡ Some (Shows showing.Page) ∷ Some (Shows showing.Table) ∷ Some (Shows showing.Page) ∷ []
@@ -119,12 +120,12 @@ parameters = refl
 
 -- ---- the targets of looks
 
-targets : map target_of (look.Nets ∷ look.Release (codes "truck") 12 ∷ look.Net (codes "truck") of_net.State
-    ∷ look.Net (codes "truck") (of_net.Blocks (Some (codes "engine")))
-    ∷ look.Net (codes "truck") (of_net.Message (codes "E1"))
-    ∷ look.Net (codes "truck") (of_net.Who (sought.Hexadecimal 419364864))
-    ∷ look.Net (codes "truck") (of_net.Who (sought.Group 65300))
-    ∷ look.Net (codes "truck") (of_net.Compare 12 0) ∷ look.Page (codes "truck")
+targets : map target_of (look.Nets ∷ look.Release (codes "truck") 12 ∷ look.Net (codes "truck") of_net.State Lines
+    ∷ look.Net (codes "truck") (of_net.Blocks (Some (codes "engine"))) Lines
+    ∷ look.Net (codes "truck") (of_net.Message (codes "E1")) Lines
+    ∷ look.Net (codes "truck") (of_net.Who (sought.Hexadecimal 419364864)) Lines
+    ∷ look.Net (codes "truck") (of_net.Who (sought.Group 65300)) Lines
+    ∷ look.Net (codes "truck") (of_net.Compare 12 0) Lines ∷ look.Page (codes "truck")
     ∷ look.ReleasePage (codes "truck") 12 ∷ look.Requests (codes "engine") ∷ [])
     ≡ codes "/nets" ∷ codes "/nets/truck/releases/12" ∷ codes "/nets/truck/state"
     ∷ codes "/nets/truck/teams/engine/blocks" ∷ codes "/nets/truck/messages/E1/signals"

@@ -47,14 +47,14 @@ part_of (of_net.Compare old new) = codes "/compare/" ++ (decimal old ++ (codes "
 abbrev pub net_target : List ℕ → List ℕ → List ℕ
 net_target net part = codes "/nets/" ++ (net ++ part)
 
--- each look has a target
+-- each look has a target, whatever its form
 abbrev pub target_of : Look → List ℕ
 target_of look.Nets = codes "/nets"
 target_of (look.Table net) = codes "/nets/" ++ net
 target_of (look.Live net) = net_target net (codes "/live")
 target_of (look.Release net n) = net_target net (codes "/releases/" ++ decimal n)
 target_of (look.Chart net message) = net_target net (codes "/messages/" ++ message)
-target_of (look.Net net l) = net_target net (part_of l)
+target_of (look.Net net l form) = net_target net (part_of l)
 target_of (look.Page net) = net_target net (codes "/page")
 target_of (look.ReleasePage net n) = net_target net (codes "/releases/" ++ (decimal n ++ codes "/page"))
 target_of (look.Requests team) = codes "/requests/" ++ team
@@ -83,7 +83,7 @@ showing_of (look.Table net) = shown.Table
 showing_of (look.Live net) = shown.Live
 showing_of (look.Release net n) = shown.Release
 showing_of (look.Chart net message) = shown.Chart
-showing_of (look.Net net l) = net_showing l
+showing_of (look.Net net l form) = net_showing l
 showing_of (look.Page net) = shown.Page
 showing_of (look.ReleasePage net n) = shown.ReleasePage
 showing_of (look.Requests team) = shown.Requests
@@ -116,7 +116,7 @@ IsLook (look.Table net) = IsPlainName net
 IsLook (look.Live net) = IsPlainName net
 IsLook (look.Release net n) = IsPlainName net × (n < 2 ^ 32)
 IsLook (look.Chart net message) = IsPlainName net × IsName message
-IsLook (look.Net net l) = IsPlainName net × IsNetLook l
+IsLook (look.Net net l form) = IsPlainName net × IsNetLook l
 IsLook (look.Page net) = IsPlainName net
 IsLook (look.ReleasePage net n) = IsPlainName net × (n < 2 ^ 32)
 IsLook (look.Requests team) = IsPlainName team

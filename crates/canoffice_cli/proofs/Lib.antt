@@ -17,7 +17,6 @@ pub mod LongestLines
 pub mod Opened
 pub mod Applied
 pub mod LookRows
-pub mod Differing
 pub mod Requesting
 pub mod Unprinted
 pub mod Sent

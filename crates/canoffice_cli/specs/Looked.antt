@@ -1,5 +1,5 @@
 -- What a look at an office prints.
-use Rattle.std.specs.Prelude.{◌≡◌, ℕ, List, [], ◌∷◌, Option, Some, None, Result, Ok, Err, IfOk, IsErr, OnOk}
+use Rattle.std.specs.Prelude.{◌≡◌, ℕ, Bool, List, [], ◌∷◌, Option, Some, None, Result, Ok, Err, IfOk, IsErr, OnOk}
 use Rattle.canoffice_desks.specs.Desks.{Asked, Desks, Takes, TakesNone, turn}
 use Rattle.canoffice_jobs.specs.Words.{requests_look, show_look}
 use Rattle.canoffice_jobs.specs.declared.what.What.{What}
@@ -8,6 +8,7 @@ use Rattle.desk_head.specs.Asked.{target_of}
 use Rattle.office_types.specs.declared.state.Office.{Office}
 use Rattle.office_history.specs.History.{Answered, IsLegal}
 use Rattle.store.specs.declared.lost.Lost.{Lost}
+use Rattle.office_types.specs.Look.{look_form}
 use Rattle.office_types.specs.declared.look.Look.{Look}
 use Rattle.store.specs.Looking.{IsShown}
 use Rattle.canoffice_cli.specs.Answered.{lost_outcome}
@@ -39,12 +40,13 @@ pub record IsLookedUp (before after : Databases) (path : List ℕ) (look : Look)
   pub statistics : HasBegun before path → StatisticsStay before after path
   pub of_none : before.is_new path → (shown ≡ Ok None) × AreKept before after
 
--- The desk on the port was asked for the target of the look, once, and what came of it is printed. Nothing else was
--- sent.
+-- The desk on the port was asked for the target of the look in its form, once, and what came of it is printed. Nothing
+-- else was sent.
 abbrev pub IsAskedFor : Desks → Desks → ℕ → Look → Outcome → Type 0
 IsAskedFor earlier later port look o =
-    (asked : Asked) × earlier.asked port (target_of look) asked
-    × Takes earlier later (turn port (request_bytes (target_of look)) asked ∷ []) × (o ≡ asked_outcome port asked)
+    (asked : Asked) × earlier.asked port (target_of look) (look_form look) asked
+    × Takes earlier later (turn port (request_bytes (target_of look) (look_form look)) asked ∷ [])
+    × (o ≡ asked_outcome port asked)
 
 -- what the office at the place shows for the look is printed; a database is read without asking any desk
 abbrev pub IsLookedAt : Desks → Desks → Databases → Databases → Place → Look → Outcome → Type 0
@@ -60,9 +62,9 @@ IsLookOutcome earlier later before after place None o =
 IsLookOutcome earlier later before after place (Some look) o = IsLookedAt earlier later before after place look o
 
 abbrev pub IsShowOutcome : Desks → Desks → Databases → Databases → Place → Option (List ℕ) → What → Option (List ℕ)
-    → Outcome → Type 0
-IsShowOutcome earlier later before after place net what name o =
-    IsLookOutcome earlier later before after place (show_look net what name) o
+    → Bool → Outcome → Type 0
+IsShowOutcome earlier later before after place net what name json o =
+    IsLookOutcome earlier later before after place (show_look net what name json) o
 
 abbrev pub IsRequestsOutcome : Desks → Desks → Databases → Databases → Place → List ℕ → Outcome → Type 0
 IsRequestsOutcome earlier later before after place team o =

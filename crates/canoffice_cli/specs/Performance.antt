@@ -100,11 +100,11 @@ IsDone files input terminal earlier later before after (Chart length signals) o 
 IsDone files input terminal earlier later before after (Check file explain lint) o =
     IsFileOutcome files input before after
     (record { task = task.Check lint; path = file; advice = requested explain }) o × TakesNone earlier later
-IsDone files input terminal earlier later before after (Compare old new) o =
-    IsOfTwoFiles (IsCompareOutcome old.now new.now) files input old.now new.now o × AreKept before after
+IsDone files input terminal earlier later before after (Compare old new json) o =
+    IsOfTwoFiles (IsCompareOutcome json old.now new.now) files input old.now new.now o × AreKept before after
     × TakesNone earlier later
-IsDone files input terminal earlier later before after (CompareReleases place net old new) o =
-    IsReleasesOutcome earlier later before after place net.now old new o
+IsDone files input terminal earlier later before after (CompareReleases place net old new json) o =
+    IsReleasesOutcome earlier later before after place net.now old new json o
 IsDone files input terminal earlier later before after (Export database net number extras) o =
     IsExported files input before after database.now net.now number extras o × TakesNone earlier later
 IsDone files input terminal earlier later before after (Format file explain keep) o =
@@ -125,9 +125,9 @@ IsDone files input terminal earlier later before after (Send sending script) o =
     × AreKept before after
 IsDone files input terminal earlier later before after (Serve database port count explain) o =
     IsServeOutcome before after database.now count o × TakesNone earlier later
-IsDone files input terminal earlier later before after (Show place net what name) o =
+IsDone files input terminal earlier later before after (Show place net what name json) o =
     IsShowOutcome earlier later before after place (option_map (λ word. word.now) net) what
-    (option_map (λ word. word.now) name) o
+    (option_map (λ word. word.now) name) json o
 IsDone files input terminal earlier later before after (Table file) o =
     IsFileOutcome files input before after (record { task = task.Table; path = file; advice = requested false }) o
     × TakesNone earlier later

@@ -1,10 +1,9 @@
 //! Comparing two DBC texts, or two releases of a network.
-ghost use Rattle.std.specs.Prelude.{◌≡◌, ◌↔◌, ⊤, IfErr, IfOk, IsTrue, OnErr};
-ghost use Rattle.dbc_compare.specs.Lines.{compare_text};
+ghost use Rattle.std.specs.Prelude.{◌≡◌, ⊤, IfErr, IfOk, OnErr};
 ghost use Rattle.dbc_grammar.specs.Reads.{Reads};
 ghost use Rattle.dbc_read.specs.Reading.{IsReadFault};
 ghost use Rattle.canoffice_cli.specs.Compared.{IsCompareOutcome, IsComparedWith, IsComparison, IsReleasesOutcome};
-ghost use Rattle.canoffice_cli.specs.Compared.{compare_look, fault_in, has_no_difference, judged, status_by};
+ghost use Rattle.canoffice_cli.specs.Compared.{compare_look, fault_in, judged, status_by};
 ghost use Rattle.canoffice_cli.specs.Formatted.{fault_errors};
 ghost use Rattle.canoffice_cli.specs.Holding.{source_at};
 ghost use Rattle.canoffice_cli.specs.Outcome.{outcome_of};
@@ -19,10 +18,10 @@ use crate::report::{Report, Status};
 use canoffice_desks::Desks;
 use canoffice_jobs::Place;
 use dbc_advice::shown_path;
-use dbc_compare::{compare, differences_tell_apart};
+use dbc_compare::{compare, has_no_difference};
 use dbc_read::{ReadCode, ReadFault, Reading, read};
 use dbc_sheet::Sheet;
-use office_types::{Look, NetLook, NetName};
+use office_types::{Look, LookForm, NetLook, NetName};
 use std::alloc::{AllocError, Global};
 use std::mem::{forget, replace};
 
@@ -62,10 +61,10 @@ fn status_of(are_equal: bool) -> Status
 }
 
 /// The report on what changed from the one sheet to the other.
-fn sheets_report(alloc: Global, old: &Sheet, new: &Sheet) -> Result<Report, AllocError>
-    ensures { IfOk result (λ report. IsComparison old.now new.now (outcome_of report)) }
+fn sheets_report(alloc: Global, old: &Sheet, new: &Sheet, json: bool) -> Result<Report, AllocError>
+    ensures { IfOk result (λ report. IsComparison json old.now new.now (outcome_of report)) }
 {
-    let mut comparison = compare(alloc, old, new)?;
+    let mut comparison = compare(alloc, old, new, json)?;
     let status = status_of(comparison.are_equal);
     let text = replace(&mut comparison.text, Vec::new(alloc));
     Ok(Report::of_output(alloc, text, status))
@@ -77,12 +76,14 @@ fn compared_with(
     old: &Sheet,
     path: &str,
     source: &[u8],
+    json: bool,
 ) -> Result<Report, AllocError>
-    ensures { IfOk result (λ report. IsComparedWith old.now path.now source.now (outcome_of report)) }
+    ensures { IfOk result
+        (λ report. IsComparedWith json old.now path.now source.now (outcome_of report)) }
 {
     match reading_of(alloc, source)? {
         Ok(new) => {
-            let report = sheets_report(alloc, old, &new.sheet);
+            let report = sheets_report(alloc, old, &new.sheet, json);
             // As in a check, the sheet's blocks aren't given back.
             forget(new);
             report
@@ -99,13 +100,14 @@ fn texts_report(
     old: &[u8],
     new_path: &str,
     new: &[u8],
+    json: bool,
 ) -> Result<Report, AllocError>
-    ensures { IfOk result (λ report. IsCompareOutcome old_path.now new_path.now old.now new.now
-        (outcome_of report)) }
+    ensures { IfOk result (λ report. IsCompareOutcome json old_path.now new_path.now old.now
+        new.now (outcome_of report)) }
 {
     match reading_of(alloc, old)? {
         Ok(old) => {
-            let report = compared_with(alloc, &old.sheet, new_path, new);
+            let report = compared_with(alloc, &old.sheet, new_path, new, json);
             forget(old);
             report
         }
@@ -121,66 +123,67 @@ fn newer_report<F: FileSource + StandardInput>(
     old_path: &str,
     old: &[u8],
     new_path: &str,
+    json: bool,
 ) -> Result<Report, AllocError>
-    ensures { IfOk result (λ report. IsOfFile ⊤ (IsCompareOutcome old_path.now new_path.now old.now)
-        new_path.now
+    ensures { IfOk result (λ report. IsOfFile ⊤
+        (IsCompareOutcome json old_path.now new_path.now old.now) new_path.now
         (source_at (F.held files.now) (F.given files.now) new_path.now) (outcome_of report)) }
 {
     match bytes_at(alloc, files, new_path) {
-        Ok(new) => texts_report(alloc, old_path, old, new_path, &new),
+        Ok(new) => texts_report(alloc, old_path, old, new_path, &new, json),
         Err(fault) => unreadable_report(alloc, new_path, fault),
     }
 }
 
 /// Prints what changed from the DBC text in the one file to that in the other: a line for each difference and a last
-/// one that counts them, and the status says whether the sheets are equal. A text that reads as no sheet is reported
-/// with its fault and its path, and a file that can't be read as such: the first one of them. The error is out of
-/// memory.
+/// one that counts them, or the same as JSON, and the status says whether the sheets are equal. A text that reads as no
+/// sheet is reported with its fault and its path, and a file that can't be read as such: the first one of them. The
+/// error is out of memory.
 #[tactic(auto, using(crate::proofs::FileJobs::of_bytes, crate::proofs::FileJobs::unread))]
 pub fn compare_report<F: FileSource + StandardInput>(
     alloc: Global,
     files: &F,
     old: &str,
     new: &str,
+    json: bool,
 ) -> Result<Report, AllocError>
-    ensures { IfOk result (λ report. IsOfTwoFiles (IsCompareOutcome old.now new.now)
+    ensures { IfOk result (λ report. IsOfTwoFiles (IsCompareOutcome json old.now new.now)
         (F.held files.now)
         (F.given files.now) old.now new.now (outcome_of report)) }
 {
     match bytes_at(alloc, files, old) {
-        Ok(text) => newer_report(alloc, files, old, &text, new),
+        Ok(text) => newer_report(alloc, files, old, &text, new, json),
         Err(fault) => unreadable_report(alloc, old, fault),
     }
 }
 
-/// Whether a text of differences has none: then it begins with its last line.
-fn has_no_difference(text: &[u8]) -> bool
-    ensures { result ≡ has_no_difference text.now }
-{
-    match text {
-        [] => false,
-        [first, ..] => *first == b'd',
-    }
-}
-
-/// The report with the status of a comparison, where a text of differences was found.
-fn judged(report: Report) -> Report
-    ensures { outcome_of result ≡ judged (outcome_of report) }
+/// The report with the status of a comparison, where a list of differences was found.
+fn judged(report: Report, json: bool) -> Report
+    ensures { outcome_of result ≡ judged json (outcome_of report) }
 {
     let mut report = report;
     if report.status == Status::Success {
-        report.status = status_of(has_no_difference(&report.output));
+        report.status = status_of(has_no_difference(&report.output, json));
     }
     report
 }
 
 /// What is looked up: two releases of the network that the word names, by their numbers, 0 for the live sheet. `None`
 /// where it names none. The error is out of memory.
-fn compare_look(alloc: Global, net: &str, old: u32, new: u32) -> Result<Option<Look>, AllocError>
-    ensures { IfOk result (λ look. look ≡ compare_look net.now old new) }
+fn compare_look(
+    alloc: Global,
+    net: &str,
+    old: u32,
+    new: u32,
+    json: bool,
+) -> Result<Option<Look>, AllocError>
+    ensures { IfOk result (λ look. look ≡ compare_look json net.now old new) }
 {
     match NetName::of(alloc, net.as_bytes())? {
-        Some(net) => Ok(Some(Look::Net(net, NetLook::Compare(old, new)))),
+        Some(net) => {
+            let look = NetLook::Compare(old, new);
+            Ok(Some(Look::Net(net, look, LookForm::Lines).formed(json)))
+        }
         None => Ok(None),
     }
 }
@@ -197,22 +200,16 @@ pub fn compare_releases_report<D: Databases, K: Desks>(
     net: &str,
     old: u32,
     new: u32,
+    json: bool,
 ) -> Result<Report, AllocError>
     ensures shown { IfOk result (λ report. IsReleasesOutcome (K.known desks.old) (K.known desks.new)
-        (D.known databases.old) (D.known databases.new) place.entry net.now old new
+        (D.known databases.old) (D.known databases.new) place.entry net.now old new json
         (outcome_of report)) }
     ensures lost { OnErr result (IsUnprinted (K.known desks.old) (K.known desks.new)
         (IsReleasesOutcome (K.known desks.old) (K.known desks.new) (D.known databases.old)
-        (D.known databases.new) place.entry net.now old new)) }
+        (D.known databases.new) place.entry net.now old new json)) }
 {
-    let look = compare_look(alloc, net, old, new)?;
+    let look = compare_look(alloc, net, old, new, json)?;
     let report = look_report(alloc, databases, desks, place, look)?;
-    Ok(judged(report))
-}
-
-/// A text of differences says that there are none if and only if the sheets are equal. The function does nothing.
-pub fn texts_tell_apart(old: &Sheet, new: &Sheet)
-    ensures { IsTrue (has_no_difference (compare_text old.now new.now)) ↔ (old.now ≡ new.now) }
-{
-    differences_tell_apart(old, new);
+    Ok(judged(report, json))
 }

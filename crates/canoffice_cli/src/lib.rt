@@ -51,7 +51,7 @@ pub use canoffice_desks::{Desks, NoDesk};
 pub use canoffice_jobs::{Extras, Job, JobFault, Manner, Place, Sending, job_of, not_utf8_fault};
 pub use charting::chart_report;
 pub use checking::check_report;
-pub use comparing::{compare_releases_report, compare_report, texts_tell_apart};
+pub use comparing::{compare_releases_report, compare_report};
 pub use databases::{Databases, MemoryDatabase};
 pub use delivery::deliver;
 pub use exporting::export_report;

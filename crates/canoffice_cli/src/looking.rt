@@ -158,7 +158,8 @@ fn report_at<D: Databases, K: Desks>(
         Place::Database(path) => shown_report(alloc, databases.look(alloc, path, look)),
         Place::Desk(port) => {
             let target = target_of(alloc, look)?;
-            asked_report(alloc, port, desks.ask(alloc, port, &target))
+            let form = look.form();
+            asked_report(alloc, port, desks.ask(alloc, port, &target, form))
         }
     }
 }
@@ -184,9 +185,9 @@ pub(crate) fn look_report<D: Databases, K: Desks>(
 }
 
 /// Prints what the office at the place shows of the network that the word names, or its networks where there is no
-/// word; or that it isn't there. Where a word hasn't the form of what it names, no database is opened and no request
-/// is sent; where there is no database, none is made. The error is out of memory for the report, or for what a desk
-/// answers.
+/// word; or that it isn't there. It is JSON where that is wanted and there is any. Where a word hasn't the form of what
+/// it names, no database is opened and no request is sent; where there is no database, none is made. The error is out
+/// of memory for the report, or for what a desk answers.
 pub fn show_report<D: Databases, K: Desks>(
     alloc: Global,
     databases: &mut D,
@@ -195,17 +196,18 @@ pub fn show_report<D: Databases, K: Desks>(
     net: Option<&str>,
     what: What,
     name: Option<&str>,
+    json: bool,
 ) -> Result<Report, AllocError>
     ensures shown { IfOk result (λ report. IsShowOutcome (K.known desks.old) (K.known desks.new)
         (D.known databases.old) (D.known databases.new) place.entry
-        (option_map (λ w. w.now) net.entry) what (option_map (λ w. w.now) name.entry)
+        (option_map (λ w. w.now) net.entry) what (option_map (λ w. w.now) name.entry) json
         (outcome_of report)) }
     ensures lost { OnErr result (IsUnprinted (K.known desks.old) (K.known desks.new)
         (IsShowOutcome (K.known desks.old) (K.known desks.new) (D.known databases.old)
         (D.known databases.new) place.entry (option_map (λ w. w.now) net.entry) what
-        (option_map (λ w. w.now) name.entry))) }
+        (option_map (λ w. w.now) name.entry) json)) }
 {
-    let look = show_look(alloc, net, what, name)?;
+    let look = show_look(alloc, net, what, name, json)?;
     look_report(alloc, databases, desks, place, look)
 }
 

@@ -188,13 +188,14 @@ pub fn report_of<F: FileSource + StandardInput, D: Databases, K: Desks, W: Write
             let job = FileJob::new(FileTask::Check(*lint), file, Advice::requested(*explain));
             file_report(alloc, job, files, databases, progress)
         }
-        Job::Compare { old, new } => compare_report(alloc, files, old, new),
+        Job::Compare { old, new, json } => compare_report(alloc, files, old, new, *json),
         Job::CompareReleases {
             place,
             net,
             old,
             new,
-        } => compare_releases_report(alloc, databases, desks, *place, net, *old, *new),
+            json,
+        } => compare_releases_report(alloc, databases, desks, *place, net, *old, *new, *json),
         Job::Export {
             database,
             net,
@@ -233,7 +234,8 @@ pub fn report_of<F: FileSource + StandardInput, D: Databases, K: Desks, W: Write
             net,
             what,
             name,
-        } => show_report(alloc, databases, desks, *place, *net, *what, *name),
+            json,
+        } => show_report(alloc, databases, desks, *place, *net, *what, *name, *json),
         Job::Table { file } => {
             let job = FileJob::new(FileTask::Table, file, Advice::Nothing);
             file_report(alloc, job, files, databases, progress)

@@ -65,7 +65,10 @@ own_entered s called rest (inr (inr (inr (inl same)))) answers no_help passes =
       (λ never. absurd (true≢false (sym never))),
       (
         (λ never. absurd (true≢false (sym never))),
-        ((λ _. first), ((λ _. second), ((λ never. absurd (true≢false (sym never))), tt))),
+        (
+          (λ never. absurd (true≢false (sym never))),
+          ((λ _. first), ((λ _. second), ((λ never. absurd (true≢false (sym never))), tt))),
+        ),
       ),
     )
 own_entered s called rest (inr (inr (inr (inr (inl same))))) answers no_help passes =
@@ -131,7 +134,7 @@ own_entered s called rest (inr (inr (inr (inr (inr (inr (inr (inr (inr (inr (inr
           (λ never. absurd (true≢false (sym never))),
           (
             (λ never. absurd (true≢false (sym never))),
-            ((λ never. absurd (true≢false (sym never))), tt),
+            ((λ never. absurd (true≢false (sym never))), ((λ never. absurd (true≢false (sym never))), tt)),
           ),
         ),
       ),

@@ -182,6 +182,11 @@ a_look_at_a_desk : shown_words (subcommand_of canoffice_app (codes "canoffice" �
 unfolding clap_on_literals
 a_look_at_a_desk = refl
 
+shown_as_json : option_map (λ found. is_set found.1 (codes "json")) (subcommand_of canoffice_app (codes "canoffice"
+    ∷ codes "show" ∷ codes "--db=office.db" ∷ codes "truck" ∷ codes "held" ∷ codes "--json" ∷ [])) ≡ Some true
+unfolding clap_on_literals
+shown_as_json = refl
+
 too_many_words : line_faults (codes "canoffice" ∷ codes "show" ∷ codes "--db=office.db" ∷ codes "truck"
     ∷ codes "blocks" ∷ codes "brakes" ∷ codes "more" ∷ []) ≡ UnknownArgument ∷ []
 unfolding clap_on_literals
@@ -204,6 +209,11 @@ its_files : compared_words (subcommand_of canoffice_app two_files)
     ≡ Some (None ∷ None ∷ Some (codes "a.dbc") ∷ Some (codes "b.dbc") ∷ None ∷ [])
 unfolding clap_on_literals
 its_files = refl
+
+as_json : option_map (λ found. is_set found.1 (codes "json")) (subcommand_of canoffice_app (codes "canoffice"
+    ∷ codes "compare" ∷ codes "--json" ∷ codes "a.dbc" ∷ codes "b.dbc" ∷ [])) ≡ Some true
+unfolding clap_on_literals
+as_json = refl
 
 they_are_files : option_map (λ found. are_files found.1) (subcommand_of canoffice_app two_files) ≡ Some true
 unfolding clap_on_literals

@@ -1,41 +1,54 @@
 -- Worked examples, computed from the definitions.
-use Rattle.std.proofs.Common.{◌≡◌, [], ◌∷◌, Some, None, codes, refl}
+use Rattle.std.proofs.Common.{◌≡◌, ℕ, List, [], ◌∷◌, Option, Some, None, true, false, codes, refl}
 use Rattle.dbc_words.specs.Name.{is_name}
 use Rattle.office_types.specs.declared.look.Look.TheVariants as look
+use Rattle.office_types.specs.declared.look.LookForm.TheVariants.{Json, Lines}
 use Rattle.office_types.specs.declared.look.NetLook.TheVariants as of_net
 use Rattle.office_types.specs.declared.sought.Sought.TheVariants as sought
 use Rattle.canoffice_jobs.specs.What.{shown_by}
 use Rattle.canoffice_jobs.specs.Words.{page_look, requests_look, show_look}
+use Rattle.canoffice_jobs.specs.declared.what.What.{What}
 use Rattle.canoffice_jobs.specs.declared.what.What.TheVariants as what
 
 -- ---- what is shown
 
-state_is_left_out : shown_by None None ≡ Some what.State
+state_is_left_out : shown_by (Some (codes "truck")) None None false ≡ Some what.State
 state_is_left_out = refl
 
-of_words : shown_by (Some (codes "held")) None ∷ shown_by (Some (codes "blocks")) None
-    ∷ shown_by (Some (codes "blocks")) (Some (codes "brakes")) ∷ shown_by (Some (codes "message")) (Some (codes "EEC1"))
-    ∷ shown_by (Some (codes "who")) (Some (codes "pgn=65300")) ∷ []
+abbrev shown_of_truck : Option (List ℕ) → Option (List ℕ) → Option What
+shown_of_truck word name = shown_by (Some (codes "truck")) word name false
+
+of_words : shown_of_truck (Some (codes "held")) None ∷ shown_of_truck (Some (codes "blocks")) None
+    ∷ shown_of_truck (Some (codes "blocks")) (Some (codes "brakes"))
+    ∷ shown_of_truck (Some (codes "message")) (Some (codes "EEC1"))
+    ∷ shown_of_truck (Some (codes "who")) (Some (codes "pgn=65300")) ∷ []
     ≡ Some what.Held ∷ Some what.Blocks ∷ Some what.Blocks ∷ Some what.Message ∷ Some what.Who ∷ []
 of_words = refl
 
 -- no such word, a name too many, and none where one is needed
-of_wrong_words : shown_by (Some (codes "block")) None ∷ shown_by (Some (codes "")) None
-    ∷ shown_by (Some (codes "state")) (Some (codes "brakes")) ∷ shown_by (Some (codes "held")) (Some (codes ""))
-    ∷ shown_by (Some (codes "message")) None ∷ shown_by (Some (codes "who")) None ∷ []
+of_wrong_words : shown_of_truck (Some (codes "block")) None ∷ shown_of_truck (Some (codes "")) None
+    ∷ shown_of_truck (Some (codes "state")) (Some (codes "brakes"))
+    ∷ shown_of_truck (Some (codes "held")) (Some (codes ""))
+    ∷ shown_of_truck (Some (codes "message")) None ∷ shown_of_truck (Some (codes "who")) None ∷ []
     ≡ None ∷ None ∷ None ∷ None ∷ None ∷ None ∷ []
 of_wrong_words = refl
 
+-- of a network; the list of networks has none
+as_json : shown_by (Some (codes "truck")) (Some (codes "held")) None true ∷ shown_by (Some (codes "truck")) None None true
+    ∷ shown_by None None None true ∷ shown_by None None None false ∷ []
+    ≡ Some what.Held ∷ Some what.State ∷ None ∷ Some what.State ∷ []
+as_json = refl
+
 -- ---- what is looked up
 
-looks : show_look None what.State None ∷ show_look (Some (codes "truck")) what.State None
-    ∷ show_look (Some (codes "truck")) what.Messages (Some (codes "brakes"))
-    ∷ show_look (Some (codes "truck")) what.Nodes (Some (codes "Engine"))
-    ∷ show_look (Some (codes "truck")) what.Who (Some (codes "0x18FF0000")) ∷ []
-    ≡ Some look.Nets ∷ Some (look.Net (codes "truck") of_net.State)
-    ∷ Some (look.Net (codes "truck") (of_net.Messages (Some (codes "brakes"))))
-    ∷ Some (look.Net (codes "truck") (of_net.Node (codes "Engine")))
-    ∷ Some (look.Net (codes "truck") (of_net.Who (sought.Hexadecimal 419364864))) ∷ []
+looks : show_look None what.State None false ∷ show_look (Some (codes "truck")) what.State None false
+    ∷ show_look (Some (codes "truck")) what.Messages (Some (codes "brakes")) false
+    ∷ show_look (Some (codes "truck")) what.Nodes (Some (codes "Engine")) true
+    ∷ show_look (Some (codes "truck")) what.Who (Some (codes "0x18FF0000")) false ∷ []
+    ≡ Some look.Nets ∷ Some (look.Net (codes "truck") of_net.State Lines)
+    ∷ Some (look.Net (codes "truck") (of_net.Messages (Some (codes "brakes"))) Lines)
+    ∷ Some (look.Net (codes "truck") (of_net.Node (codes "Engine")) Json)
+    ∷ Some (look.Net (codes "truck") (of_net.Who (sought.Hexadecimal 419364864)) Lines) ∷ []
 unfolding is_name
 looks = refl
 
@@ -44,10 +57,10 @@ pages : page_look (codes "truck") 0 ∷ page_look (codes "truck") 2 ∷ page_loo
 pages = refl
 
 -- words that have no such form
-no_looks : show_look (Some (codes "Truck")) what.State None
-    ∷ show_look (Some (codes "truck")) what.Messages (Some (codes "Brakes"))
-    ∷ show_look (Some (codes "truck")) what.Nodes (Some (codes "1Engine"))
-    ∷ show_look (Some (codes "truck")) what.Who (Some (codes "pgn=")) ∷ requests_look (codes "") ∷ []
+no_looks : show_look (Some (codes "Truck")) what.State None false
+    ∷ show_look (Some (codes "truck")) what.Messages (Some (codes "Brakes")) false
+    ∷ show_look (Some (codes "truck")) what.Nodes (Some (codes "1Engine")) true
+    ∷ show_look (Some (codes "truck")) what.Who (Some (codes "pgn=")) false ∷ requests_look (codes "") ∷ []
     ≡ None ∷ None ∷ None ∷ None ∷ None ∷ []
 unfolding is_name
 no_looks = refl

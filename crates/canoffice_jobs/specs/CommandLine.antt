@@ -94,9 +94,9 @@ abbrev pub with_compared : App → App
 with_compared app = with_rule (with_rule (with_rule app (required_word (codes "A"))) (required_word (codes "B")))
     (optional_word (codes "N"))
 
--- compare A B, or compare (--db FILE | --port N) NET M N
+-- compare [--json] A B, or compare (--db FILE | --port N) [--json] NET M N
 abbrev pub compare_app : App
-compare_app = with_compared (with_place (new_app (codes "compare")))
+compare_app = with_compared (with_rule (with_place (new_app (codes "compare"))) (flag (codes "json")))
 
 -- [--keep ORIGINAL] [--j1939]
 abbrev pub with_besides : App → App
@@ -146,9 +146,9 @@ abbrev pub with_sought : App → App
 with_sought app = with_rule (with_rule (with_rule app (optional_word (codes "NET"))) (optional_word (codes "WHAT")))
     (optional_word (codes "NAME"))
 
--- show (--db FILE | --port N) [NET [WHAT [NAME]]]
+-- show (--db FILE | --port N) [--json] [NET [WHAT [NAME]]]
 abbrev pub show_app : App
-show_app = with_sought (with_place (new_app (codes "show")))
+show_app = with_sought (with_rule (with_place (new_app (codes "show"))) (flag (codes "json")))
 
 -- table FILE
 abbrev pub table_app : App
@@ -254,13 +254,13 @@ IsJobOf (Check file explain lint) name rows = (name ≡ codes "check") × HasVal
     × (explain ≡ is_set rows (codes "explain"))
     × (first_of (codes "lint") rows ≡ option_map (λ names. names.now) lint)
     × (option_and_then first_unknown (first_of (codes "lint") rows) ≡ None)
-IsJobOf (Compare old new) name rows =
+IsJobOf (Compare old new json) name rows =
     (name ≡ codes "compare") × (are_files rows ≡ true) × HasValue rows (codes "A") old.now
-    × HasValue rows (codes "B") new.now × (are_input old.now new.now ≡ false)
-IsJobOf (CompareReleases place net old new) name rows =
+    × HasValue rows (codes "B") new.now × (are_input old.now new.now ≡ false) × (json ≡ is_set rows (codes "json"))
+IsJobOf (CompareReleases place net old new json) name rows =
     (name ≡ codes "compare") × IsPlaceIn place rows × HasValue rows (codes "A") net.now
     × (option_and_then release_number (first_of (codes "B") rows) ≡ Some old)
-    × (option_and_then release_number (first_of (codes "N") rows) ≡ Some new)
+    × (option_and_then release_number (first_of (codes "N") rows) ≡ Some new) × (json ≡ is_set rows (codes "json"))
 IsJobOf (Export database net number extras) name rows =
     (name ≡ codes "export") × HasValue rows (codes "db") database.now × HasValue rows (codes "NET") net.now
     × (option_and_then release_number (first_of (codes "N") rows) ≡ Some number)
@@ -286,11 +286,13 @@ IsJobOf (Serve database port count explain) name rows =
     × (port_given (first_of (codes "port") rows) ≡ Some port)
     × (count_given (first_of (codes "count") rows) ≡ Some count)
     × (explain ≡ is_set rows (codes "explain"))
-IsJobOf (Show place net what named) name rows =
+IsJobOf (Show place net what named json) name rows =
     (name ≡ codes "show") × IsPlaceIn place rows
     × (first_of (codes "NET") rows ≡ option_map (λ word. word.now) net)
     × (first_of (codes "NAME") rows ≡ option_map (λ word. word.now) named)
-    × (shown_by (first_of (codes "WHAT") rows) (first_of (codes "NAME") rows) ≡ Some what)
+    × (shown_by (first_of (codes "NET") rows) (first_of (codes "WHAT") rows) (first_of (codes "NAME") rows) json
+    ≡ Some what)
+    × (json ≡ is_set rows (codes "json"))
 IsJobOf (Table file) name rows = (name ≡ codes "table") × HasValue rows (codes "FILE") file.now
 
 -- the job of the subcommand that was found, with its values
@@ -384,7 +386,8 @@ IsWrongPlace name rows look.Requests fault = (name ≡ codes "requests") × IsPl
 abbrev pub IsWrongWhat : Text → List Row → WhatFault → Type 0
 IsWrongWhat name rows fault =
     (name ≡ codes "show") × HasPlace rows
-    × IsWhatFault (first_of (codes "WHAT") rows) (first_of (codes "NAME") rows) fault
+    × IsWhatFault (first_of (codes "NET") rows) (first_of (codes "WHAT") rows) (first_of (codes "NAME") rows)
+    (is_set rows (codes "json")) fault
 
 -- the subcommand with these arguments is to print remarks, but this is the first of their names that no kind has
 abbrev pub IsUnknownRemark : Text → List Row → Text → Type 0

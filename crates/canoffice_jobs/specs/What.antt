@@ -1,5 +1,6 @@
 -- What `show` shows of a network: the words for it, and after which of them a name follows.
-use Rattle.std.specs.Prelude.{ℕ, Bool, true, not, List, [], ◌∷◌, Option, Some, None, is_some, codes, find}
+use Rattle.std.specs.Prelude.{ℕ, Bool, true, not, ◌&&◌, ◌||◌, List, [], ◌∷◌, Option, Some, None, is_some}
+use Rattle.std.specs.Prelude.{codes, find}
 use Rattle.std.specs.Str.{bytes_eq}
 use Rattle.office_fields.specs.Value.{◌>>=◌, where_true}
 use Rattle.canoffice_jobs.specs.declared.what.What.{What}
@@ -43,6 +44,8 @@ abbrev pub what_given : Option (List ℕ) → Option What
 what_given None = Some what.State
 what_given (Some word) = what_of word
 
--- what is shown by the word for it and the name after it, if there are any
-abbrev pub shown_by : Option (List ℕ) → Option (List ℕ) → Option What
-shown_by what name = what_given what >>= λ w. where_true (fits w (is_some name)) (Some w)
+-- what is shown by the network's name, the word for it and the name after it, if there are any, where JSON is wanted or
+-- not; the list of networks has none
+abbrev pub shown_by : Option (List ℕ) → Option (List ℕ) → Option (List ℕ) → Bool → Option What
+shown_by net what name json =
+    what_given what >>= λ w. where_true (fits w (is_some name) && (not json || is_some net)) (Some w)

@@ -1,11 +1,13 @@
 -- What the words of `show`, `page` and `requests` look up. A word that hasn't the form of what it names looks up
 -- nothing.
-use Rattle.std.specs.Prelude.{◌==◌, ℕ, List, Option, Some, None, if◌then◌else◌}
+use Rattle.std.specs.Prelude.{◌==◌, ℕ, Bool, List, Option, Some, None, if◌then◌else◌}
 use Rattle.std.specs.Option.{option_map}
 use Rattle.office_fields.specs.Value.{◌>>=◌, name_of, plain_name_of}
 use Rattle.office_types.specs.Sought.{sought_of}
 use Rattle.office_types.specs.declared.look.Look.{Look}
 use Rattle.office_types.specs.declared.look.Look.TheVariants as look
+use Rattle.office_types.specs.Look.{formed}
+use Rattle.office_types.specs.declared.look.LookForm.TheVariants.{Lines}
 use Rattle.office_types.specs.declared.look.NetLook.{NetLook}
 use Rattle.office_types.specs.declared.look.NetLook.TheVariants as of_net
 use Rattle.canoffice_jobs.specs.declared.what.What.{What}
@@ -43,10 +45,11 @@ net_look what.Nodes name = nodes_look name
 net_look what.Spns name = Some of_net.Spns
 net_look what.Who name = who_look name
 
--- the same of the network that a word names; without one the list of networks
-abbrev pub show_look : Option (List ℕ) → What → Option (List ℕ) → Option Look
-show_look None what name = Some look.Nets
-show_look (Some word) what name = plain_name_of word >>= λ net. option_map (look.Net net) (net_look what name)
+-- the same of the network that a word names, where JSON is wanted or not; without one the list of networks
+abbrev pub show_look : Option (List ℕ) → What → Option (List ℕ) → Bool → Option Look
+show_look None what name json = Some look.Nets
+show_look (Some word) what name json = plain_name_of word
+    >>= λ net. option_map (λ l. formed json (look.Net net l Lines)) (net_look what name)
 
 -- the page of release N of a network, or of the live network for 0
 abbrev pub page_requested : List ℕ → ℕ → Look

@@ -17,7 +17,7 @@ use clap::{Arg, ArgAction, Command};
 use std::alloc::{AllocError, Global};
 
 /// The program's version, which `--version` prints. A crate has no manifest here, so it is kept in this line.
-const VERSION: &str = "0.4.0";
+const VERSION: &str = "0.5.0";
 
 /// What the help says of the argument of `check`, `format` and `table`.
 const DBC_FILE: &str = "The DBC file, or - for standard input";
@@ -31,7 +31,7 @@ const SCRIPT: &str = "The script's file, or - for standard input";
 
 /// The two forms of `compare`.
 const COMPARE_USAGE: &str =
-    "canoffice compare <A> <B>\n       canoffice compare <--db <FILE>|--port <N>> <NET> <M> <N>";
+    "canoffice compare [--json] <A> <B>\n       canoffice compare <--db <FILE>|--port <N>> [--json] <NET> <M> <N>";
 
 /// A positional argument that may be left out.
 fn optional_argument<'a>(alloc: Global, id: &'a str, help: &'a str) -> Arg<'a>
@@ -208,14 +208,15 @@ fn with_compared<'a>(
     and_argument(with_newer, optional_argument(alloc, "N", number))
 }
 
-/// `compare A B`, or `compare (--db FILE | --port N) NET M N`
+/// `compare [--json] A B`, or `compare (--db FILE | --port N) [--json] NET M N`
 pub(crate) fn compare_command<'a>(alloc: Global) -> Result<Command<'a>, AllocError>
     ensures { IsBuilt result compare_app }
 {
     let about = "Prints what changed from one DBC file or release to another";
     let start = named_with_usage(alloc, "compare", about, COMPARE_USAGE);
     let placed = with_place(alloc, start);
-    with_compared(alloc, placed)
+    let with_json = and_argument(placed, flag(alloc, "json", "Prints it as JSON"));
+    with_compared(alloc, with_json)
 }
 
 /// The subcommand with `--keep ORIGINAL` and `--j1939`, what an export has besides the sheet.
@@ -378,15 +379,17 @@ fn with_sought<'a>(
     and_argument(with_what, optional_argument(alloc, "NAME", name))
 }
 
-/// `show (--db FILE | --port N) [NET [WHAT [NAME]]]`
+/// `show (--db FILE | --port N) [--json] [NET [WHAT [NAME]]]`
 pub(crate) fn show_command<'a>(alloc: Global) -> Result<Command<'a>, AllocError>
     ensures { IsBuilt result show_app }
 {
     let about = "Prints what a network has, or the list of networks";
-    let usage = "canoffice show <--db <FILE>|--port <N>> [NET [WHAT [NAME]]]";
+    let usage = "canoffice show <--db <FILE>|--port <N>> [--json] [NET [WHAT [NAME]]]";
+    let json = "Prints what the network has as JSON";
     let start = named_with_usage(alloc, "show", about, usage);
     let placed = with_place(alloc, start);
-    with_sought(alloc, placed)
+    let with_json = and_argument(placed, flag(alloc, "json", json));
+    with_sought(alloc, with_json)
 }
 
 /// `table FILE`

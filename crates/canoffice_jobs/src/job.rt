@@ -58,6 +58,8 @@ pub enum Job<'a> {
         old: &'a str,
         /// The path of the newer file, or `-`.
         new: &'a str,
+        /// Whether it is printed as JSON.
+        json: bool,
     },
     /// Print what changed from one release of a network to another.
     CompareReleases {
@@ -69,6 +71,8 @@ pub enum Job<'a> {
         old: u32,
         /// The same of the newer one.
         new: u32,
+        /// Whether it is printed as JSON.
+        json: bool,
     },
     /// Print a release of a network, or its live sheet.
     Export {
@@ -144,6 +148,8 @@ pub enum Job<'a> {
         what: What,
         /// The word after it, if there is one.
         name: Option<&'a str>,
+        /// Whether it is printed as JSON.
+        json: bool,
     },
     /// Print the table of the messages of the DBC text in the file of this name.
     Table {
@@ -492,7 +498,7 @@ fn are_input(old: &str, new: &str) -> bool
     old == "-" && new == "-"
 }
 
-/// `compare A B`, or `compare (--db FILE | --port N) NET M N`
+/// `compare [--json] A B`, or `compare (--db FILE | --port N) [--json] NET M N`
 #[tactic(auto, using(crate::proofs::CommandLine::value_in_rows, crate::proofs::CommandLine::optional_in_rows, crate::proofs::CommandLine::text_is_given))]
 fn compare_job<'a>(found: &ArgMatches<'a>) -> Result<Job<'a>, ValueFault<'a>>
     requires first { HasSome (rows_of (found_of found.now)) (codes "A") }
@@ -502,6 +508,7 @@ fn compare_job<'a>(found: &ArgMatches<'a>) -> Result<Job<'a>, ValueFault<'a>>
 {
     let first = found.get_str("A").unwrap();
     let second = found.get_str("B").unwrap();
+    let json = is_set(found, "json");
     if are_files(found) {
         if are_input(first, second) {
             return Err(ValueFault::InputTwice);
@@ -509,6 +516,7 @@ fn compare_job<'a>(found: &ArgMatches<'a>) -> Result<Job<'a>, ValueFault<'a>>
         return Ok(Job::Compare {
             old: first,
             new: second,
+            json,
         });
     }
     let place = match place_given(found.get_str("db"), found.get_str("port")) {
@@ -527,6 +535,7 @@ fn compare_job<'a>(found: &ArgMatches<'a>) -> Result<Job<'a>, ValueFault<'a>>
             net: first,
             old,
             new,
+            json,
         }),
         None => Err(ValueFault::WrongNumber(Number::NewerRelease, third)),
     }
@@ -679,7 +688,7 @@ fn serve_job<'a>(found: &ArgMatches<'a>) -> Result<Job<'a>, ValueFault<'a>>
     }
 }
 
-/// `show (--db FILE | --port N) [NET [WHAT [NAME]]]`
+/// `show (--db FILE | --port N) [--json] [NET [WHAT [NAME]]]`
 #[tactic(auto, using(crate::proofs::CommandLine::optional_in_rows))]
 fn show_job<'a>(found: &ArgMatches<'a>) -> Result<Job<'a>, ValueFault<'a>>
     ensures job { IfOk result (λ job. IsJobOf job (codes "show") (rows_of (found_of found.now))) }
@@ -691,12 +700,14 @@ fn show_job<'a>(found: &ArgMatches<'a>) -> Result<Job<'a>, ValueFault<'a>>
     };
     let net = found.get_str("NET");
     let name = found.get_str("NAME");
-    match shown_by(found.get_str("WHAT"), name) {
+    let json = is_set(found, "json");
+    match shown_by(net, found.get_str("WHAT"), name, json) {
         Ok(what) => Ok(Job::Show {
             place,
             net,
             what,
             name,
+            json,
         }),
         Err(fault) => Err(ValueFault::WrongWhat(fault)),
     }

@@ -88,6 +88,8 @@ pub enum WhatFault<'a> {
     NoName(What),
     /// This name follows something after which none may.
     NameAfter(What, &'a str),
+    /// JSON is wanted, and no network is named: the list of networks is shown as lines alone.
+    NoNet,
 }
 
 impl WhatFault<'_> {
@@ -106,6 +108,7 @@ impl WhatFault<'_> {
                 let what = what.word();
                 format!(in alloc; "unexpected value '{name}' for '[NAME]': '{what}' takes none")
             }
+            WhatFault::NoNet => format!(in alloc; "no value for '[NET]': '--json' needs one"),
         }
     }
 }
@@ -128,25 +131,33 @@ fn what_given<'a>(what: Option<&'a str>) -> Result<What, &'a str>
     }
 }
 
-/// What is shown of a network by these words after its name: the word for what it is, without which it is the state,
-/// and the name after it. The error is why they show nothing.
-pub fn shown_by<'a>(what: Option<&'a str>, name: Option<&'a str>) -> Result<What, WhatFault<'a>>
-    ensures given { IfOk result (λ shown. shown_by (option_map (λ w. w.now) what.entry)
-        (option_map (λ w. w.now) name.entry) ≡ Some shown) }
-    ensures wrong { IfErr result (λ fault. shown_by (option_map (λ w. w.now) what.entry)
-        (option_map (λ w. w.now) name.entry) ≡ None) }
-    ensures why { IfErr result (λ fault. IsWhatFault (option_map (λ w. w.now) what.entry)
-        (option_map (λ w. w.now) name.entry) fault) }
+/// What is shown by the network's name, the word for what it is, without which it is the state, and the name after it;
+/// and whether that is wanted as JSON. The error is why they show nothing.
+pub fn shown_by<'a>(
+    net: Option<&'a str>,
+    what: Option<&'a str>,
+    name: Option<&'a str>,
+    json: bool,
+) -> Result<What, WhatFault<'a>>
+    ensures given { IfOk result (λ shown. shown_by (option_map (λ w. w.now) net.entry)
+        (option_map (λ w. w.now) what.entry) (option_map (λ w. w.now) name.entry) json ≡ Some shown) }
+    ensures wrong { IfErr result (λ fault. shown_by (option_map (λ w. w.now) net.entry)
+        (option_map (λ w. w.now) what.entry) (option_map (λ w. w.now) name.entry) json ≡ None) }
+    ensures why { IfErr result (λ fault. IsWhatFault (option_map (λ w. w.now) net.entry)
+        (option_map (λ w. w.now) what.entry) (option_map (λ w. w.now) name.entry) json fault) }
 {
     let what = match what_given(what) {
         Ok(what) => what,
         Err(word) => return Err(WhatFault::Unknown(word)),
     };
-    if what.fits(name.is_some()) {
-        return Ok(what);
+    if !what.fits(name.is_some()) {
+        return match name {
+            Some(name) => Err(WhatFault::NameAfter(what, name)),
+            None => Err(WhatFault::NoName(what)),
+        };
     }
-    match name {
-        Some(name) => Err(WhatFault::NameAfter(what, name)),
-        None => Err(WhatFault::NoName(what)),
+    if json && net.is_none() {
+        return Err(WhatFault::NoNet);
     }
+    Ok(what)
 }

@@ -6,7 +6,7 @@ ghost use Rattle.canoffice_jobs.specs.Words.{page_look, page_requested, requests
 
 use crate::what::What;
 use dbc_words::Name;
-use office_types::{Look, NetLook, NetName, Sought, Team};
+use office_types::{Look, LookForm, NetLook, NetName, Sought, Team};
 use std::alloc::{AllocError, Global};
 
 fn blocks_look(alloc: Global, name: Option<&str>) -> Result<Option<NetLook>, AllocError>
@@ -86,18 +86,19 @@ fn net_look(alloc: Global, what: What, name: Option<&str>) -> Result<Option<NetL
     }
 }
 
-/// What `show` looks up: of the network that the first word names what comes next, by the name after that, if there
-/// is one; without a network the list of networks. `None` where a word hasn't the form of what it names: the network
-/// and a team 1 to 32 bytes of `a` to `z`, `0` to `9` and `-`, a message and a node a name of a DBC file, and what
-/// `who` looks for a word of [`Sought`]. The error is out of memory.
+/// What `show` looks up, as JSON where that is wanted and there is any: of the network that the first word names what
+/// comes next, by the name after that, if there is one; without a network the list of networks. `None` where a word
+/// hasn't the form of what it names: the network and a team 1 to 32 bytes of `a` to `z`, `0` to `9` and `-`, a message
+/// and a node a name of a DBC file, and what `who` looks for a word of [`Sought`]. The error is out of memory.
 pub fn show_look(
     alloc: Global,
     net: Option<&str>,
     what: What,
     name: Option<&str>,
+    json: bool,
 ) -> Result<Option<Look>, AllocError>
     ensures { IfOk result (λ look. look ≡ show_look (option_map (λ w. w.now) net.entry) what
-        (option_map (λ w. w.now) name.entry)) }
+        (option_map (λ w. w.now) name.entry) json) }
 {
     let Some(word) = net else {
         return Ok(Some(Look::Nets));
@@ -106,7 +107,7 @@ pub fn show_look(
         return Ok(None);
     };
     match net_look(alloc, what, name)? {
-        Some(look) => Ok(Some(Look::Net(net, look))),
+        Some(look) => Ok(Some(Look::Net(net, look, LookForm::Lines).formed(json))),
         None => Ok(None),
     }
 }

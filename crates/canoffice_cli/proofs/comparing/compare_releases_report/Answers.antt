@@ -13,6 +13,7 @@ returns-in_err-report-clause-lost g c =
     let place = c.args.place in
     whatever c.from_residual-in_err-report.result
     (done_as earlier later (IsLookOutcome earlier later before after place c.in_ok-look.look)
-    (IsReleasesOutcome earlier later before after place c.args.net.now c.args.old c.args.new) judged
+    (IsReleasesOutcome earlier later before after place c.args.net.now c.args.old c.args.new c.args.json)
+    (judged c.args.json)
     (λ o is. (o, subst (λ look. IsLookOutcome earlier later before after place look o) c.in_ok-look.ensures is, refl))
     c.in_err-report.ensures.lost)

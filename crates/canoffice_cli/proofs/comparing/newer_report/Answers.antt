@@ -9,5 +9,5 @@ returns-in-Ok g c =
     let files = g.F.FileSource.held c.args.files.now in
     let input = g.F.StandardInput.given c.args.files.now in
     let path = c.args.new_path.now in
-    of_bytes ⊤ (IsCompareOutcome c.args.old_path.now path c.args.old.now) path (source_at files input path)
+    of_bytes ⊤ (IsCompareOutcome c.args.json c.args.old_path.now path c.args.old.now) path (source_at files input path)
     c.in-Ok.new.items c.texts_report.result c.in-Ok.ensures.bytes (rw c.deref.ensures.value at c.texts_report.ensures)

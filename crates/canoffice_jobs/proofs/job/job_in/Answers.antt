@@ -26,12 +26,12 @@ check_job-requires c = (entered_by_name c.args.matches.now c.in-Some.name.now (r
 pub compare_job-requires-clause-first : goal.compare_job-requires-clause-first
 compare_job-requires-clause-first c =
     (entered_by_name c.args.matches.now c.in-Some.name.now (rows_of (found_of c.in-Some.found.now)) (codes "compare")
-    c.in-Some.ensures.name c.in-Some.ensures.rows (sym c.eq-4.ensures ∙ c.if-eq-4.true) c.requires).1.1.0 refl
+    c.in-Some.ensures.name c.in-Some.ensures.rows (sym c.eq-4.ensures ∙ c.if-eq-4.true) c.requires).1.1.1.0 refl
 
 pub compare_job-requires-clause-second : goal.compare_job-requires-clause-second
 compare_job-requires-clause-second c =
     (entered_by_name c.args.matches.now c.in-Some.name.now (rows_of (found_of c.in-Some.found.now)) (codes "compare")
-    c.in-Some.ensures.name c.in-Some.ensures.rows (sym c.eq-4.ensures ∙ c.if-eq-4.true) c.requires).1.1.1.0 refl
+    c.in-Some.ensures.name c.in-Some.ensures.rows (sym c.eq-4.ensures ∙ c.if-eq-4.true) c.requires).1.1.1.1.0 refl
 
 pub export_job-requires-clause-database : goal.export_job-requires-clause-database
 export_job-requires-clause-database c =

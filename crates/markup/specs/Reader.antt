@@ -182,8 +182,8 @@ abbrev pub within : List (List ℕ) → Reader
 within opened = at (content letters) opened
 
 -- Read from the beginning to the end, the bytes bring the reader to where no element is open: none is refused, and each
--- element that began has ended, in its place. It says nothing of which element may stand in which: a document type, or
--- a row outside of a table, may stand anywhere, and a browser passes over it. Nor that an attribute comes once.
+-- element that began has ended, in its place. It doesn't say where HTML allows an element: a document type, or a row of
+-- a table, may stand anywhere, and a browser ignores it where it doesn't belong. Nor that an attribute comes once.
 abbrev pub IsWellFormed : List ℕ → Type 0
 IsWellFormed bytes = read (within []) bytes ≡ within []
 

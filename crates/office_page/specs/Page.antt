@@ -128,7 +128,7 @@ pub record IsSheetPage (name text : List ℕ) (sheet : Sheet) (passed : List Pas
 abbrev pub release_at : List Sheet → ℕ → Option Sheet
 release_at releases number = if number == 0 then None else slice_get releases (number - 1)
 
--- a page of the release of this name, or none where there is none
+-- a page of the release of this name; nothing if there is no such release
 abbrev pub IsPageIf : List ℕ → Option Sheet → Option (List ℕ) → Type 0
 IsPageIf name None None = Unit {0}
 IsPageIf name None (Some page) = ⊥

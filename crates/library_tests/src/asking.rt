@@ -4,7 +4,7 @@ use desk_client::{
     target_of,
 };
 use desk_types::{Counted, DeskFault, Sink, Source};
-use office_types::{Look, NetLook, NetName, Sought, Team};
+use office_types::{Look, LookForm, NetLook, NetName, Sought, Team};
 use std::alloc::Global;
 use std::io::{self, ErrorKind, Read, Write};
 use std::net::{Ipv4Addr, TcpListener};
@@ -42,7 +42,7 @@ fn comes_back(alloc: Global, bytes: &[u8], wanted: Wanted) -> Option<bool> {
     if !is_target(TARGET) {
         return None;
     }
-    let received = asked(alloc, &mut sink, &mut source, TARGET).ok()?;
+    let received = asked(alloc, &mut sink, &mut source, TARGET, LookForm::Lines).ok()?;
     let sound = sink.failures() == 0 && source.failures() == 0;
     let sent = sink.into_inner().as_slice() == REQUEST;
     Some(is_wanted(&alone, wanted) && is_wanted(&received, wanted) && sound && sent)
@@ -158,7 +158,7 @@ fn ends(alloc: Global, writes: usize, reads: usize) -> Option<(Option<DeskFault>
     if !is_target(TARGET) {
         return None;
     }
-    let fault = asked(alloc, &mut sink, &mut source, TARGET).err();
+    let fault = asked(alloc, &mut sink, &mut source, TARGET, LookForm::Lines).err();
     Some((fault, sink.failures(), source.failures()))
 }
 
@@ -195,7 +195,11 @@ fn targets_are_visible_ascii(rt: HostRuntime) {
 fn target_of_word(alloc: Global, word: &[u8]) -> Option<Vec<u8>> {
     let net = NetName::of(alloc, b"truck").ok()??;
     let sought = Sought::of(alloc, word).ok()??;
-    target_of(alloc, &Look::Net(net, NetLook::Who(sought))).ok()
+    target_of(
+        alloc,
+        &Look::Net(net, NetLook::Who(sought), LookForm::Lines),
+    )
+    .ok()
 }
 
 #[test]
@@ -216,7 +220,11 @@ fn words_have_targets(rt: HostRuntime) {
 /// The target of what changed from release 12 to the live sheet.
 fn target_of_comparison(alloc: Global) -> Option<Vec<u8>> {
     let net = NetName::of(alloc, b"truck").ok()??;
-    target_of(alloc, &Look::Net(net, NetLook::Compare(12, 0))).ok()
+    target_of(
+        alloc,
+        &Look::Net(net, NetLook::Compare(12, 0), LookForm::Lines),
+    )
+    .ok()
 }
 
 #[test]
@@ -229,7 +237,11 @@ fn comparisons_have_targets(rt: HostRuntime) {
 fn target_of_blocks(alloc: Global) -> Option<Vec<u8>> {
     let net = NetName::of(alloc, b"truck").ok()??;
     let team = Team::of(alloc, b"engine").ok()??;
-    target_of(alloc, &Look::Net(net, NetLook::Blocks(Some(team)))).ok()
+    target_of(
+        alloc,
+        &Look::Net(net, NetLook::Blocks(Some(team)), LookForm::Lines),
+    )
+    .ok()
 }
 
 #[test]
@@ -246,7 +258,7 @@ fn nothing_answers_at_a_free_port(rt: HostRuntime) -> Result<(), Fail> {
     if !is_target(TARGET) {
         return Ok(());
     }
-    let fault = ask(rt.alloc(), &rt, free.port(), TARGET).err();
+    let fault = ask(rt.alloc(), &rt, free.port(), TARGET, LookForm::Lines).err();
     assert!(rt; fault == Some(AskFault::Connect));
     let text = format!(in rt.alloc(); "{}", AskFault::Connection(DeskFault::Read))?;
     assert!(rt; text.as_str() == "a read failed");

@@ -1,19 +1,21 @@
-//! Lines of a network's looks: pieces of them, its blocks, its SPNs, and what its releases say of a message.
+//! A network's looks: its blocks and SPNs, all of them as lines and as JSON, and what its releases say of a message.
 use crate::made::{message, signal};
 use base::Items;
 use bitlayout::Mux;
 use can_id::{Ident, IdentForm};
 use dbc_sheet::Sheet;
 use dbc_words::Spn;
-use office_blocks::{Numbers, block_line, blocks_text};
+use office_blocks::{Numbers, push_block};
+use office_looks::shown_of;
 use office_seen::{
-    FrozenSheets, View, counted, fact, has_number_in, last_of, last_release, number_fact,
-    releases_column, releases_text, since, team_column, total,
+    FrozenSheets, View, has_number_in, last_of, last_release, releases_runs, releases_text, since,
 };
-use office_spns::{SpnView, shown_spns, spn_lines, spns_text};
+use office_spns::{SpnView, push_spn, shown_spns};
 use office_types::{
-    BlockForm, FormBlock, GrantedBlock, NetKind, NetName, Phase, ReviewCount, Team, UsedSpns,
+    BlockForm, FormBlock, GrantedBlock, LookForm, NetKind, NetLook, NetName, Phase, ReviewCount,
+    Team, UsedSpns,
 };
+use rows::Rows;
 use std::alloc::{AllocError, Global};
 
 fn is_text(text: Result<Vec<u8>, AllocError>, wanted: &[u8]) -> bool {
@@ -82,37 +84,36 @@ fn truck(alloc: Global) -> Option<View> {
     })
 }
 
-#[test]
-fn pieces_of_lines(rt: HostRuntime) {
-    let alloc = rt.alloc();
-    let rows = [
-        is_text(counted(alloc, b"free", 5, 12), b"free    12"),
-        is_text(total(alloc, b"free", 12), b"free 12"),
-        is_text(fact(alloc, b"kind", b"can"), b"kind        can\n"),
-        is_text(number_fact(alloc, b"held", 3), b"held        3\n"),
-        is_text(team_column(alloc, b""), b"-           "),
-    ];
-    for right in rows {
-        assert!(rt; right);
+/// Whether the look has this text.
+fn is_look(alloc: Global, view: &View, look: &NetLook, wanted: &[u8]) -> bool {
+    match shown_of(alloc, view, look, LookForm::Lines) {
+        Ok(Some(text)) => text.as_slice() == wanted,
+        _ => false,
     }
 }
 
-const BLOCK: &[u8] =
-    b"std       256       511 engine       live    1 held   1 free   254 257-299,301-511\n";
+/// Whether the look has this JSON.
+fn is_json(alloc: Global, view: &View, look: &NetLook, wanted: &str) -> bool {
+    match shown_of(alloc, view, look, LookForm::Json) {
+        Ok(Some(text)) => text.as_slice() == wanted.as_bytes(),
+        _ => false,
+    }
+}
 
 const BLOCKS: &[u8] =
     b"std       256       511 engine       live    1 held   1 free   254 257-299,301-511\n\
 spn        84        99 engine       live    1 held   1 free    14 85-89,91-99\n\
 blocks 2 free std 254 ext 0 pgn 0 spn 14\n";
 
-/// Whether the first block has its line, and both have theirs.
+/// Whether the first block has a row, and both have their lines.
 fn are_blocks(alloc: Global) -> Option<bool> {
     let view = truck(alloc)?;
     let numbers = Numbers::of(alloc, &view).ok()?;
     let first = view.blocks.as_slice().first()?;
-    let line = is_text(block_line(alloc, &numbers, first), BLOCK);
-    let has = has_number_in(BlockForm::Std, 511, first);
-    Some(line && has && is_text(blocks_text(alloc, &view, None), BLOCKS))
+    let mut rows = Rows::new(alloc);
+    push_block(alloc, &mut rows, &numbers, first).ok()?;
+    let has = rows.count() == 1 && has_number_in(BlockForm::Std, 511, first);
+    Some(has && is_look(alloc, &view, &NetLook::Blocks(None), BLOCKS))
 }
 
 #[test]
@@ -124,19 +125,47 @@ const SPNS: &[u8] = b"    84 live     1        256 std 00000100      - Lamp On\n
 \x20   90 used     -          - -   -             - - -\n\
 spns 2 live 1 gone 0 used 1\n";
 
-/// Whether the SPNs have their lines, that of the first one by itself, too.
+/// Whether the SPNs have their lines, and the first one a row.
 fn are_spns(alloc: Global) -> Option<bool> {
     let view = truck(alloc)?;
     let indexed = SpnView::of(alloc, &view).ok()?;
     let shown = shown_spns(alloc, &indexed).ok()?;
-    let lines = spn_lines(alloc, &indexed, 84).ok()?;
-    let one = lines.as_slice().len() == 1 && shown.as_slice() == [84, 90].as_slice();
-    Some(one && is_text(spns_text(alloc, &view), SPNS))
+    let mut rows = Rows::new(alloc);
+    push_spn(alloc, &mut rows, &indexed, 84).ok()?;
+    let one = rows.count() == 1 && shown.as_slice() == [84, 90].as_slice();
+    Some(one && is_look(alloc, &view, &NetLook::Spns, SPNS))
 }
 
 #[test]
 fn lines_of_spns(rt: HostRuntime) {
     assert!(rt; are_spns(rt.alloc()) == Some(true));
+}
+
+const HELD_JSON: &str = "{\"columns\":[\"identifier\",\"team\",\"releases\",\"last_name\"],\
+\"rows\":[{\"identifier\":{\"dbc\":300,\"form\":\"std\",\"number\":300,\"pgn\":null},\
+\"last_name\":null,\"releases\":[],\"team\":\"engine\"}],\"totals\":{\"held\":1}}\n";
+
+const BLOCKS_JSON: &str =
+    "{\"columns\":[\"form\",\"first\",\"last\",\"team\",\"live\",\"held\",\"free\",\"numbers\"],\
+\"rows\":[],\"totals\":{\"blocks\":0,\"free_ext\":0,\"free_pgn\":0,\"free_spn\":0,\"free_std\":0}}\n";
+
+const STATE_JSON: &str =
+    "{\"added\":0,\"approved\":[],\"blocks\":2,\"changed\":0,\"held\":1,\"kind\":\"j1939\",\
+\"lacking\":{\"count\":1,\"of\":1},\"messages\":1,\"network\":\"truck\",\"nodes\":0,\
+\"phase\":\"draft\",\"releases\":1,\"removed\":0,\"signals\":1,\"submitted\":null}\n";
+
+/// Whether lists have their JSON.
+fn are_json(alloc: Global) -> Option<bool> {
+    let view = truck(alloc)?;
+    let brakes = NetLook::Blocks(Some(Team::of(alloc, b"brakes").ok()??));
+    let lists = is_json(alloc, &view, &NetLook::Held, HELD_JSON)
+        && is_json(alloc, &view, &brakes, BLOCKS_JSON);
+    Some(lists && is_json(alloc, &view, &NetLook::State, STATE_JSON))
+}
+
+#[test]
+fn lists_as_json(rt: HostRuntime) {
+    assert!(rt; are_json(rt.alloc()) == Some(true));
 }
 
 /// Whether the message is in the only release, and unchanged since.
@@ -148,8 +177,9 @@ fn is_released(alloc: Global) -> Option<bool> {
     let last = last_release(&frozen, &empty);
     let none = last_of(&[], &empty).messages().is_empty();
     let unchanged = since(last, &sheet, lamp) == b"-".as_slice();
-    let runs = is_text(releases_text(alloc, &frozen, 256), b"1");
-    Some(none && unchanged && runs && is_text(releases_column(alloc, &frozen, 256), b"    1"))
+    let runs = releases_runs(alloc, &frozen, 256).ok()?;
+    let one = runs.as_slice().len() == 1 && is_text(releases_text(alloc, &frozen, 256), b"1");
+    Some(none && unchanged && one)
 }
 
 #[test]

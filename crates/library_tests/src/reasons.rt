@@ -3,10 +3,10 @@
 ghost use Rattle.std.specs.Prelude.{IfOk};
 ghost use Rattle.office_rules.specs.Change.{AllFit};
 
-mod rows;
+mod given;
 mod stages;
 
-use crate::reasons::rows::{GIVEN, Given};
+use crate::reasons::given::{GIVEN, Given};
 use crate::reasons::stages::COACH;
 use base::Items;
 use office_decide::{Draft, change_all, decide};

@@ -7,10 +7,10 @@ use Rattle.std.proofs.lemmas.List.Concat.{flat_map-append}
 use Rattle.std.proofs.lemmas.List.FromFn.{get_or-enumerate_from, length-enumerate_from}
 
 -- the piece of one item more
-one_more : {X : Type 0} (f : X → List ℕ) (xs : List X) (x : X) → flat_map f (xs ++ x ∷ []) ≡ flat_map f xs ++ f x
+one_more : {X A : Type 0} (f : X → List A) (xs : List X) (x : X) → flat_map f (xs ++ x ∷ []) ≡ flat_map f xs ++ f x
 one_more f xs x = flat_map-append f xs (x ∷ []) ∙ ap (λ v. flat_map f xs ++ v) (append-nil (f x))
 
-pub items_more : {X : Type 0} (f : X → List ℕ) (xs : List X) (i : ℕ) (x : X) (before piece after : List ℕ)
+pub items_more : {X A : Type 0} (f : X → List A) (xs : List X) (i : ℕ) (x : X) (before piece after : List A)
     → i < length xs
     → before ≡ flat_map f (take i xs) → piece ≡ f (get_or xs i x) → after ≡ before ++ piece
     → after ≡ flat_map f (take (i + 1) xs)

@@ -9,11 +9,11 @@ use Rattle.dbc_sheet.specs.declared.sheet.Sheet.{Sheet}
 use Rattle.dbc_compare.specs.Differences.{differences}
 use Rattle.dbc_compare.specs.Laws.{ListTellsApart, TellsApart}
 use Rattle.dbc_compare.specs.List.{breaks, change_fact, difference_row, differences_table, has_no_difference, ident_at}
-use Rattle.dbc_compare.specs.List.{kind_word, list_text, name_fact}
+use Rattle.dbc_compare.specs.List.{kind_word, name_fact}
 use Rattle.dbc_compare.specs.declared.difference.Difference.{Difference}
 use Rattle.dbc_compare.specs.declared.list.TheConstants.{DIFFERENCES, DIFFERENCE_TOTALS}
 use Rattle.rows.specs.Fact.{Fact, of_ident, of_mark, of_name}
-use Rattle.rows.specs.Json.{table_json}
+use Rattle.rows.specs.Json.{list_text, table_json}
 use Rattle.rows.specs.Lines.{table_text}
 use Rattle.rows.specs.Table.{plain}
 use Rattle.serde_json.proofs.OnLiterals.{serde_json_on_literals}

@@ -15,8 +15,7 @@ use Rattle.dbc_compare.specs.declared.list.TheConstants.{DIFFERENCES, DIFFERENCE
 use Rattle.dbc_compare.specs.declared.place.Place.{Place}
 use Rattle.dbc_compare.specs.declared.place.Place.TheVariants as place
 use Rattle.rows.specs.Fact.{Fact, of_change, of_ident, of_mark, of_name, of_number, of_path}
-use Rattle.rows.specs.Json.{columns_data, table_json}
-use Rattle.rows.specs.Lines.{table_text}
+use Rattle.rows.specs.Json.{columns_data, list_text}
 use Rattle.rows.specs.Table.{Listing, plain}
 use Rattle.serde_json.specs.Written.{compact_text}
 
@@ -77,10 +76,6 @@ differences_table found counts = plain DIFFERENCES (map difference_row found) DI
 
 abbrev pub compare_table : Sheet → Sheet → Listing
 compare_table old new = differences_table (differences old new) (counts_of old.messages new.messages)
-
--- the list as lines, or as JSON
-abbrev pub list_text : Bool → Listing → List ℕ
-list_text json t = if json then table_json t else table_text t
 
 abbrev pub compare_text : Bool → Sheet → Sheet → List ℕ
 compare_text json old new = list_text json (compare_table old new)

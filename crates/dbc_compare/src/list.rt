@@ -1,7 +1,7 @@
 //! The differences of two sheets as a list.
 ghost use Rattle.std.specs.Prelude.{◌≡◌, ◌↔◌, ◌++◌, ◌∷◌, [], IfOk, IsTrue, OnOk, count_by};
 ghost use Rattle.dbc_compare.specs.List.{breaks, change_fact, compare_text, difference_row, differences_table};
-ghost use Rattle.dbc_compare.specs.List.{has_no_difference, ident_at, is_breaking, kind_word, list_text, name_fact};
+ghost use Rattle.dbc_compare.specs.List.{has_no_difference, ident_at, is_breaking, kind_word, name_fact};
 ghost use Rattle.dbc_compare.specs.List.{no_difference};
 ghost use Rattle.rows.specs.Fact.{fact_of, of_path};
 
@@ -12,7 +12,7 @@ use crate::sheets::differences;
 use can_id::Ident;
 use dbc_sheet::{Counts, Sheet, counts_of};
 use dbc_words::Name;
-use rows::{Cell, Column, Rows, Table, table_json, table_text};
+use rows::{Cell, Column, Rows, Table, list_text};
 use std::alloc::{AllocError, Global};
 
 /// The columns of a difference.
@@ -165,17 +165,6 @@ pub fn differences_table(
         Cell::Number(counts.changed as u128),
     ]?;
     Table::plain(alloc, &DIFFERENCES, rows, &DIFFERENCE_TOTALS, totals)
-}
-
-/// The list as lines, or as JSON.
-fn list_text(alloc: Global, table: &Table<'_>, json: bool) -> Result<Vec<u8>, AllocError>
-    ensures { IfOk result (λ text. text.items ≡ list_text json table.now) }
-{
-    if json {
-        table_json(alloc, table)
-    } else {
-        table_text(alloc, table)
-    }
 }
 
 /// How the list begins that has no difference: with the last line, or without rows.

@@ -19,7 +19,7 @@ use Rattle.office_seen.specs.declared.view.View.{View}
 use Rattle.office_looks.specs.Message.{field_facts, message_facts, message_table, message_text, signal_kinds}
 use Rattle.office_looks.specs.declared.message_whole.TheConstants.{MESSAGE}
 use Rattle.rows.specs.Fact.{of_maybe}
-use Rattle.rows.specs.Lines.{part_text, upright_text}
+use Rattle.rows.specs.Lines.{kind_text, upright_text}
 
 abbrev whole : ℕ → Number
 whole n = record { mantissa = pos n; exponent = pos 0 }
@@ -102,14 +102,14 @@ view = record {
   used = [];
 }
 
-two_signals : flat_map part_text (signal_kinds engine.signals)
+two_signals : flat_map kind_text (signal_kinds engine.signals)
     ≡ codes "signal          8|8@1+ -       513 Torque                 (1,-125)       [-125|125]     %25    Dash,Gateway\n"
     ++ codes "signal        24|16@1+ -       190 Speed                  (0.125,0)      [0|8031.875]   rpm    Dash\n"
     ++ codes "note        Speed                  Engine speed,%0aover two lines\n"
 unfolding digits unsigned_text
 two_signals = refl
 
-all_lines : flat_map part_text (signal_kinds (reason ∷ []))
+all_lines : flat_map kind_text (signal_kinds (reason ∷ []))
     ≡ codes "signal         7|32@0- m3        - DerateReason           (1,0)          [0|63]         -      -\n"
     ++ codes "type        DerateReason float\n"
     ++ codes "value       DerateReason                3 Exhaust fluid\n"

@@ -18,7 +18,7 @@ use Rattle.office_looks.specs.declared.signal_rows.TheConstants.{NOTES, SIGNALS,
 use Rattle.rows.specs.Fact.{Fact, of_decimal, of_digits, of_layout, of_maybe, of_mux, of_name, of_number, of_range}
 use Rattle.rows.specs.Fact.{of_rest, of_runs, of_scale, of_word, of_words}
 use Rattle.rows.specs.Lines.{table_text}
-use Rattle.rows.specs.Table.{Listing, Part, headed}
+use Rattle.rows.specs.Table.{Listing, Kind, headed}
 use Rattle.rows.specs.declared.cell.Column.{Column}
 
 -- ---- what it has once
@@ -78,10 +78,10 @@ value_rows s = map (value_row s) s.values
 abbrev pub note_rows : Signal → List (List Fact)
 note_rows s = if bytes_eq s.comment [] then [] else (of_name s.name ∷ of_rest s.comment ∷ []) ∷ []
 
-abbrev pub kind : List ℕ → List Column → List (List Fact) → Part
+abbrev pub kind : List ℕ → List Column → List (List Fact) → Kind
 kind name columns rows = record { name = name; columns = columns; rows = rows }
 
-abbrev pub signal_kinds : List Signal → List Part
+abbrev pub signal_kinds : List Signal → List Kind
 signal_kinds signals =
     kind (codes "signal      ") SIGNALS (map signal_row signals)
     ∷ kind (codes "type        ") TYPES (flat_map type_rows signals)

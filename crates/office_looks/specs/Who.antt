@@ -30,7 +30,7 @@ use Rattle.office_looks.specs.declared.held.TheConstants.{HELD}
 use Rattle.office_looks.specs.declared.messages.TheConstants.{MESSAGES}
 use Rattle.office_looks.specs.declared.who.TheConstants.{WHO_TOTALS}
 use Rattle.rows.specs.Fact.{Fact, of_number}
-use Rattle.rows.specs.Table.{Listing, Part, totalled}
+use Rattle.rows.specs.Table.{Listing, Kind, totalled}
 
 -- ---- what has what is looked for
 
@@ -136,7 +136,7 @@ spn_hit_rows s view = flat_map (spn_rows view) (spn_hits s view)
 abbrev pub block_rows : Sought → View → List (List Fact)
 block_rows s view = map (block_row view) (block_hits s view)
 
-abbrev pub kinds : (live held spns blocks : List (List Fact)) → List Part
+abbrev pub kinds : (live held spns blocks : List (List Fact)) → List Kind
 kinds live held spns blocks =
     kind (codes "live  ") MESSAGES live ∷ kind (codes "held  ") HELD held ∷ kind (codes "spn   ") SPNS spns
     ∷ kind (codes "block ") BLOCKS blocks ∷ []

@@ -10,7 +10,7 @@ ghost use Rattle.page_messages.specs.Layouts.{byte_words, head_row, layout_attri
 ghost use Rattle.page_messages.specs.Layouts.{value_if, value_words};
 
 use crate::bits::{Held, held_bits};
-use crate::rows::put_rows;
+use crate::byte_rows::put_rows;
 use crate::shown::Shown;
 use crate::whole_texts::{text_of, whole_texts};
 use bitlayout::Mux;

@@ -13,6 +13,7 @@
 #![tactic(auto)]
 
 mod bits;
+mod byte_rows;
 mod cells;
 mod each;
 mod facts;
@@ -22,7 +23,6 @@ mod names;
 mod nodes;
 mod receivers;
 mod remarks;
-mod rows;
 mod shown;
 mod signals;
 mod tables;

@@ -1,6 +1,6 @@
 -- The JSON of a list nests a few levels, and has no number with a fraction. So it reads back, and its text is computed.
 use Rattle.std.proofs.Common.{◌≡◌, ◌≤◌, ◌||◌, ◌∙◌, ℕ, suc, Bool, true, false, cond, List, [], ◌∷◌, Option, Some, None}
-use Rattle.std.proofs.Common.{map, nat_lt}
+use Rattle.std.proofs.Common.{◌++◌, map, nat_lt}
 use Rattle.std.proofs.Common.{refl, ap, arith}
 use Rattle.std.specs.Prelude.{max, decimal, codes, ◌^◌}
 use Rattle.std.specs.Option.{option_map}
@@ -16,15 +16,15 @@ use Rattle.can_id.specs.declared.ident.Ident.TheVariants as id
 use Rattle.columns.specs.IdentColumns.{form_word}
 use Rattle.columns.specs.declared.run.Run.{Run}
 use Rattle.decimal.specs.Number.{Number}
-use Rattle.rows.specs.Fact.{Fact, of_change, of_decimal, of_digits, of_free, of_ident, of_layout, of_mark, of_maybe}
-use Rattle.rows.specs.Fact.{of_mux, of_name, of_number, of_path, of_range, of_rest, of_runs, of_scale, of_share}
-use Rattle.rows.specs.Fact.{of_word, of_words}
+use Rattle.rows.specs.Fact.{Fact, of_change, of_decimal, of_digits, of_free, of_front, of_ident, of_layout, of_mark}
+use Rattle.rows.specs.Fact.{of_maybe, of_mux, of_name, of_number, of_path, of_position, of_range, of_rest, of_runs}
+use Rattle.rows.specs.Fact.{of_scale, of_share, of_word, of_words}
 use Rattle.rows.specs.Json.{change_data, columns_data, fact_data, group_data, ident_data, key_of, layout_data}
-use Rattle.rows.specs.Json.{name_data, number_data, pair_data, parts_members, row_data, run_data}
+use Rattle.rows.specs.Json.{name_data, number_data, pair_data, kinds_members, position_data, row_data, run_data}
 use Rattle.rows.specs.Json.{share_data, side_data, table_data, text_data, with_kind, with_row, with_rows, with_totals}
 use Rattle.rows.specs.Json.{written_data}
-use Rattle.rows.specs.Lines.{mux_text, path_text}
-use Rattle.rows.specs.Table.{Listing, Part}
+use Rattle.rows.specs.Lines.{mux_text, path_text, points}
+use Rattle.rows.specs.Table.{Listing, Kind}
 use Rattle.rows.specs.declared.cell.Column.{Column}
 use Rattle.serde_json.specs.Data.{Data, Members, array, depth, items_depth, member, members_depth, no_members, null}
 use Rattle.serde_json.specs.Data.{number, object, put, string, unsigned}
@@ -167,6 +167,9 @@ change_low word values =
 share_low : (n all : ℕ) → IsLow 1 (share_data n all)
 share_low n all = record { levels = omega arith; whole = refl }
 
+position_low : (line column : ℕ) → IsLow 1 (position_data line column)
+position_low line column = record { levels = omega arith; whole = refl }
+
 words_low : (texts : List (List ℕ)) → IsLow 1 (array (items_of (map text_data texts)))
 words_low texts = array_low 0 text_data texts (text_low 0)
 
@@ -186,6 +189,7 @@ fact_low (of_number n) = number_low 2 n
 fact_low (of_name name) = named_low 2 name
 fact_low (of_word text) = written_low 2 text
 fact_low (of_rest text) = written_low 2 text
+fact_low (of_front text goes_on) = text_low 2 (text ++ points goes_on)
 fact_low (of_runs runs) = runs_low runs
 fact_low (of_free runs) = runs_low runs
 fact_low (of_mark is) = record { levels = omega arith; whole = refl }
@@ -194,6 +198,7 @@ fact_low (of_change word values) = raised 1 2 (change_data word values) (omega a
 fact_low (of_maybe None) = none_low 2
 fact_low (of_maybe (Some n)) = number_low 2 n
 fact_low (of_share n all) = raised 1 2 (share_data n all) (omega arith) (share_low n all)
+fact_low (of_position line column) = raised 1 2 _ (omega arith) (position_low line column)
 fact_low (of_words texts) = raised 1 2 _ (omega arith) (words_low texts)
 fact_low (of_digits i) = raised 1 2 (ident_data i) (omega arith) (ident_low i)
 fact_low (of_layout l signed) = raised 1 2 (layout_data l signed) (omega arith) (layout_low l signed)
@@ -223,19 +228,19 @@ rows_low : (columns : List Column) (rows : List (List Fact))
     → IsLow 4 (array (items_of (map (row_data columns) rows)))
 rows_low columns rows = array_low 3 (row_data columns) rows (row_low columns)
 
-with_rows_low : (n : ℕ) (p : Part) (ms : Members) → 4 ≤ n → AreLow n ms → AreLow n (with_rows p ms)
+with_rows_low : (n : ℕ) (p : Kind) (ms : Members) → 4 ≤ n → AreLow n ms → AreLow n (with_rows p ms)
 with_rows_low n p ms enough low =
     put_low n _ _ _ (raised 4 n _ enough (rows_low p.columns p.rows))
     (put_low n _ _ ms (raised 1 n _ (more_low 1 4 n (omega arith) enough) (columns_low p.columns)) low)
 
-kind_low : (name : List ℕ) (p : Part) (ms : Members) → AreLow 5 ms → AreLow 5 (with_kind name p ms)
+kind_low : (name : List ℕ) (p : Kind) (ms : Members) → AreLow 5 ms → AreLow 5 (with_kind name p ms)
 kind_low [] p ms low = with_rows_low 5 p ms (omega arith) low
 kind_low (b ∷ name) p ms low =
     put_low 5 _ _ ms (object_low 4 _ (with_rows_low 4 p no_members (omega arith) tt)) low
 
-parts_low : (parts : List Part) → AreLow 5 (parts_members parts)
-parts_low [] = tt
-parts_low (p ∷ parts) = kind_low p.name p (parts_members parts) (parts_low parts)
+kinds_low : (kinds : List Kind) → AreLow 5 (kinds_members kinds)
+kinds_low [] = tt
+kinds_low (p ∷ kinds) = kind_low p.name p (kinds_members kinds) (kinds_low kinds)
 
 totals_low : (columns : List Column) (totals : List Fact) (ms : Members) → AreLow 5 ms
     → AreLow 5 (with_totals columns totals ms)
@@ -248,4 +253,4 @@ table_low t =
     raised 6 127 (table_data t) (omega arith)
     (object_low 5 _
     (with_row_low 5 t.head_columns t.head _ (omega arith)
-    (totals_low t.total_columns t.totals _ (parts_low t.parts))))
+    (totals_low t.total_columns t.totals _ (kinds_low t.kinds))))

@@ -10,9 +10,9 @@ use Rattle.can_id.specs.declared.ident.Ident.TheVariants.{Std, Ext}
 use Rattle.columns.specs.declared.run.Run.{Run}
 use Rattle.decimal.specs.Number.{Number}
 use Rattle.decimal.specs.Printing.{unsigned_text}
-use Rattle.rows.specs.Fact.{of_change, of_decimal, of_digits, of_free, of_ident, of_layout, of_mark, of_maybe, of_mux}
-use Rattle.rows.specs.Fact.{of_name, of_number, of_path, of_range, of_rest, of_runs, of_scale, of_share, of_word}
-use Rattle.rows.specs.Fact.{of_words}
+use Rattle.rows.specs.Fact.{of_change, of_decimal, of_digits, of_free, of_front, of_ident, of_layout, of_mark}
+use Rattle.rows.specs.Fact.{of_maybe, of_mux, of_name, of_number, of_path, of_position, of_range, of_rest, of_runs}
+use Rattle.rows.specs.Fact.{of_scale, of_share, of_word, of_words}
 use Rattle.rows.specs.Json.{table_json}
 use Rattle.rows.specs.Lines.{fact_text, table_text}
 use Rattle.rows.specs.Table.{Listing, headed, plain, totalled}
@@ -166,6 +166,24 @@ upright_as_json : table_json upright
     ++ codes "\"scale\":{\"factor\":\"1\",\"offset\":\"0\"},\"value\":\"3\"}]},\"submitted\":[]}\n"))))))))
 unfolding table_json digits unsigned_text utf8_lossy utf8_valid_len utf8_error_len is_utf8 chars serde_json_on_literals
 upright_as_json = refl
+
+-- how texts begin, and a place in a file
+abbrev begun : Listing
+begun = plain (column (codes "place       ") place.Plain ∷ column (codes "request     ") place.From ∷ [])
+    ((of_position 2 18 ∷ of_front (codes "bundle net=truck") true ∷ [])
+    ∷ (of_position 3 1 ∷ of_front (codes "a%b") false ∷ []) ∷ [])
+    [] []
+
+begun_as_lines : table_text begun ≡ codes "2:18 <- bundle net=truck ..\n3:1 <- a%25b\n"
+unfolding digits
+begun_as_lines = refl
+
+begun_as_json : table_json begun
+    ≡ codes "{\"columns\":[\"place\",\"request\"],\"rows\":["
+    ++ (codes "{\"place\":{\"column\":18,\"line\":2},\"request\":\"bundle net=truck ..\"},"
+    ++ codes "{\"place\":{\"column\":1,\"line\":3},\"request\":\"a%b\"}]}\n")
+unfolding table_json digits utf8_lossy utf8_valid_len utf8_error_len is_utf8 chars serde_json_on_literals
+begun_as_json = refl
 
 a_multiplexor : fact_text (of_mux Multiplexor) ≡ codes "M"
 a_multiplexor = refl

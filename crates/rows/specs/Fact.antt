@@ -17,6 +17,7 @@ pub data Fact : Type 0 where
   of_name : List ℕ → Fact
   of_word : List ℕ → Fact
   of_rest : List ℕ → Fact
+  of_front : List ℕ → Bool → Fact
   of_runs : List Run → Fact
   of_free : List Run → Fact
   of_mark : Bool → Fact
@@ -24,6 +25,7 @@ pub data Fact : Type 0 where
   of_change : List ℕ → Option (List ℕ × List ℕ) → Fact
   of_maybe : Option ℕ → Fact
   of_share : ℕ → ℕ → Fact
+  of_position : ℕ → ℕ → Fact
   of_words : List (List ℕ) → Fact
   of_digits : Ident → Fact
   of_layout : Layout → Bool → Fact
@@ -36,8 +38,10 @@ abbrev pub fact_of : Cell → Fact
 fact_of (cell.Ident ident) = of_ident ident
 fact_of (cell.Number n) = of_number n
 fact_of (cell.Name name) = of_name name.now
+fact_of (cell.Made name) = of_name name
 fact_of (cell.Word text) = of_word text.now
 fact_of (cell.Rest text) = of_rest text.now
+fact_of (cell.Front text goes_on) = of_front text.now goes_on
 fact_of (cell.Runs runs) = of_runs runs
 fact_of (cell.Free runs) = of_free runs
 fact_of (cell.Mark is) = of_mark is
@@ -45,6 +49,7 @@ fact_of (cell.Path name part) = of_path name.now (option_copied part)
 fact_of (cell.Change word values) = of_change word.now (option_map (λ v. (v.0.now, v.1.now)) values)
 fact_of (cell.Maybe n) = of_maybe n
 fact_of (cell.Share n all) = of_share n all
+fact_of (cell.Position line column) = of_position line column
 fact_of (cell.Words texts) = of_words (map (λ text. text.now) texts)
 fact_of (cell.Digits ident) = of_digits ident
 fact_of (cell.Layout layout signed) = of_layout layout signed

@@ -14,11 +14,11 @@ use Rattle.columns.specs.IdentColumns.{form_word}
 use Rattle.columns.specs.declared.run.Run.{Run}
 use Rattle.decimal.specs.Number.{Number}
 use Rattle.decimal.specs.Printing.{text_of}
-use Rattle.rows.specs.Fact.{Fact, name_of, of_change, of_decimal, of_digits, of_free, of_ident, of_layout, of_mark}
-use Rattle.rows.specs.Fact.{of_maybe, of_mux, of_name, of_number, of_path, of_range, of_rest, of_runs, of_scale}
-use Rattle.rows.specs.Fact.{of_share, of_word, of_words}
-use Rattle.rows.specs.Lines.{mux_text, path_text}
-use Rattle.rows.specs.Table.{Listing, Part}
+use Rattle.rows.specs.Fact.{Fact, name_of, of_change, of_decimal, of_digits, of_free, of_front, of_ident, of_layout}
+use Rattle.rows.specs.Fact.{of_mark, of_maybe, of_mux, of_name, of_number, of_path, of_position, of_range, of_rest}
+use Rattle.rows.specs.Fact.{of_runs, of_scale, of_share, of_word, of_words}
+use Rattle.rows.specs.Lines.{mux_text, path_text, points, table_text}
+use Rattle.rows.specs.Table.{Listing, Kind}
 use Rattle.rows.specs.declared.cell.Column.{Column}
 use Rattle.serde_json.specs.Data.{Data, Members, array, boolean, no_members, null, number, object, put, string, unsigned}
 use Rattle.serde_json.specs.View.{items_of}
@@ -74,6 +74,10 @@ abbrev pub share_data : ℕ → ℕ → Data
 share_data n all =
     object (put (codes "of") (number (unsigned all)) (put (codes "count") (number (unsigned n)) no_members))
 
+abbrev pub position_data : ℕ → ℕ → Data
+position_data line column =
+    object (put (codes "line") (number (unsigned line)) (put (codes "column") (number (unsigned column)) no_members))
+
 abbrev pub words_data : List (List ℕ) → Data
 words_data texts = array (items_of (map text_data texts))
 
@@ -100,6 +104,7 @@ fact_data (of_number n) = number_data n
 fact_data (of_name name) = name_data name
 fact_data (of_word text) = written_data text
 fact_data (of_rest text) = written_data text
+fact_data (of_front text goes_on) = text_data (text ++ points goes_on)
 fact_data (of_runs runs) = runs_data runs
 fact_data (of_free runs) = runs_data runs
 fact_data (of_mark is) = boolean is
@@ -107,6 +112,7 @@ fact_data (of_path name part) = name_data (path_text name part)
 fact_data (of_change word values) = change_data word values
 fact_data (of_maybe n) = option_map_or number_data n null
 fact_data (of_share n all) = share_data n all
+fact_data (of_position line column) = position_data line column
 fact_data (of_words texts) = words_data texts
 fact_data (of_digits ident) = ident_data ident
 fact_data (of_layout layout signed) = layout_data layout signed
@@ -133,19 +139,19 @@ abbrev pub columns_data : List Column → Data
 columns_data columns = array (items_of (map (λ (c : Column). text_data (name_of c.0)) columns))
 
 -- the names of the columns, and the rows
-abbrev pub with_rows : Part → Members → Members
+abbrev pub with_rows : Kind → Members → Members
 with_rows p members =
     put (codes "rows") (array (items_of (map (row_data p.columns) p.rows)))
     (put (codes "columns") (columns_data p.columns) members)
 
 -- those of a kind that has a name are under it
-abbrev pub with_kind : List ℕ → Part → Members → Members
+abbrev pub with_kind : List ℕ → Kind → Members → Members
 with_kind [] p members = with_rows p members
 with_kind (b ∷ name) p members = put (key_of (b ∷ name)) (object (with_rows p no_members)) members
 
-abbrev pub parts_members : List Part → Members
-parts_members [] = no_members
-parts_members (p ∷ parts) = with_kind p.name p (parts_members parts)
+abbrev pub kinds_members : List Kind → Members
+kinds_members [] = no_members
+kinds_members (p ∷ kinds) = with_kind p.name p (kinds_members kinds)
 
 -- no columns are no totals
 abbrev pub with_totals : List Column → List Fact → Members → Members
@@ -156,8 +162,12 @@ with_totals (c ∷ columns) totals members = put (codes "totals") (row_data (c �
 -- an object under the name of each; and its totals
 abbrev pub table_data : Listing → Data
 table_data t =
-    object (with_row t.head_columns t.head (with_totals t.total_columns t.totals (parts_members t.parts)))
+    object (with_row t.head_columns t.head (with_totals t.total_columns t.totals (kinds_members t.kinds)))
 
 -- the same as text, in one line
 unfoldable pub table_json : Listing → List ℕ
 table_json t = compact_text (table_data t) ++ codes "\n"
+
+-- as JSON or as lines
+abbrev pub list_text : Bool → Listing → List ℕ
+list_text json t = if json then table_json t else table_text t

@@ -15,12 +15,12 @@ use Rattle.columns.specs.Padding.{set_left, set_right}
 use Rattle.columns.specs.Run.{runs_text}
 use Rattle.columns.specs.Word.{rest, word, words}
 use Rattle.columns.specs.declared.run.Run.{Run}
-use Rattle.rows.specs.Fact.{Fact, name_of, of_change, of_decimal, of_digits, of_free, of_ident, of_layout, of_mark}
-use Rattle.rows.specs.Fact.{of_maybe, of_mux, of_name, of_number, of_path, of_range, of_rest, of_runs, of_scale}
-use Rattle.rows.specs.Fact.{of_share, of_word, of_words}
+use Rattle.rows.specs.Fact.{Fact, name_of, of_change, of_decimal, of_digits, of_free, of_front, of_ident, of_layout}
+use Rattle.rows.specs.Fact.{of_mark, of_maybe, of_mux, of_name, of_number, of_path, of_position, of_range, of_rest}
+use Rattle.rows.specs.Fact.{of_runs, of_scale, of_share, of_word, of_words}
 use Rattle.decimal.specs.Number.{Number}
 use Rattle.decimal.specs.Printing.{text_of}
-use Rattle.rows.specs.Table.{Listing, Part}
+use Rattle.rows.specs.Table.{Listing, Kind}
 use Rattle.rows.specs.declared.cell.Column.{Column}
 use Rattle.rows.specs.declared.cell.Place.{Place}
 use Rattle.rows.specs.declared.cell.Place.TheVariants as place
@@ -33,6 +33,10 @@ ident_text ident = option_map_or ident_columns ident no_ident_columns
 -- the first four runs, and `,..` where there are more
 abbrev pub first_runs : List Run → List ℕ
 first_runs runs = runs_text (take 4 runs) ++ (if nat_lt 4 (length runs) then codes ",.." else [])
+
+-- two points after what goes on
+abbrev pub points : Bool → List ℕ
+points goes_on = if goes_on then codes " .." else []
 
 abbrev pub mark_text : Bool → List ℕ
 mark_text is = if is then codes "!" else codes "."
@@ -49,6 +53,9 @@ change_text word (Some values) = word ++ (codes " " ++ (values.0 ++ (codes " -> 
 
 abbrev pub share_text : ℕ → ℕ → List ℕ
 share_text n all = decimal n ++ (codes " of " ++ decimal all)
+
+abbrev pub position_text : ℕ → ℕ → List ℕ
+position_text line column = decimal line ++ (codes ":" ++ decimal column)
 
 -- how many bits the identifier has, and its digits
 abbrev pub digits_text : Ident → List ℕ
@@ -79,6 +86,7 @@ fact_text (of_number n) = decimal n
 fact_text (of_name name) = name
 fact_text (of_word text) = word text
 fact_text (of_rest text) = rest text
+fact_text (of_front text goes_on) = rest text ++ points goes_on
 fact_text (of_runs runs) = runs_text runs
 fact_text (of_free runs) = first_runs runs
 fact_text (of_mark is) = mark_text is
@@ -86,6 +94,7 @@ fact_text (of_path name part) = path_text name part
 fact_text (of_change word values) = change_text word values
 fact_text (of_maybe n) = option_map_or decimal n (codes "-")
 fact_text (of_share n all) = share_text n all
+fact_text (of_position line column) = position_text line column
 fact_text (of_words texts) = words texts
 fact_text (of_digits ident) = digits_text ident
 fact_text (of_layout layout signed) = layout_text layout signed
@@ -118,6 +127,7 @@ set_in (place.Left width) name words = set_left width words
 set_in (place.Right width) name words = set_right width words
 set_in (place.Counted width) name words = counted (name_words name) width words
 set_in (place.Again width) name words = counted (later_words name) width words
+set_in place.From name words = codes "<- " ++ words
 
 abbrev pub set_text : Column → Fact → List ℕ
 set_text column fact = set_in column.1 column.0 (fact_text fact)
@@ -140,10 +150,10 @@ upright_text [] facts = []
 upright_text (c ∷ columns) [] = []
 upright_text (c ∷ columns) (f ∷ facts) = (c.0 ++ (fact_text f ++ codes "\n")) ++ upright_text columns facts
 
-abbrev pub part_text : Part → List ℕ
-part_text p = flat_map (λ row. p.name ++ line_text p.columns row) p.rows
+abbrev pub kind_text : Kind → List ℕ
+kind_text p = flat_map (λ row. p.name ++ line_text p.columns row) p.rows
 
 -- the lines of the first row, a line for each row, and that of the totals
 abbrev pub table_text : Listing → List ℕ
 table_text t =
-    upright_text t.head_columns t.head ++ (flat_map part_text t.parts ++ line_text t.total_columns t.totals)
+    upright_text t.head_columns t.head ++ (flat_map kind_text t.kinds ++ line_text t.total_columns t.totals)

@@ -4,7 +4,7 @@ use Rattle.rows.specs.Fact.{Fact}
 use Rattle.rows.specs.declared.cell.Column.{Column}
 
 -- rows of one kind; no name where a list has no other, and else with the spaces that a line has after it
-pub record Part : Type 0 where
+pub record Kind : Type 0 where
   pub name : List ℕ
   pub columns : List Column
   pub rows : List (List Fact)
@@ -14,16 +14,16 @@ pub record Part : Type 0 where
 pub record Listing : Type 0 where
   pub head_columns : List Column
   pub head : List Fact
-  pub parts : List Part
+  pub kinds : List Kind
   pub total_columns : List Column
   pub totals : List Fact
 
 -- kinds of rows, and totals
-abbrev pub totalled : List Part → List Column → List Fact → Listing
-totalled parts total_columns totals = record {
+abbrev pub totalled : List Kind → List Column → List Fact → Listing
+totalled kinds total_columns totals = record {
   head_columns = [];
   head = [];
-  parts = parts;
+  kinds = kinds;
   total_columns = total_columns;
   totals = totals;
 }
@@ -34,11 +34,11 @@ plain columns rows total_columns totals =
     totalled (record { name = []; columns = columns; rows = rows } ∷ []) total_columns totals
 
 -- a row that stands upright, and kinds of rows
-abbrev pub headed : List Column → List Fact → List Part → Listing
-headed head_columns head parts = record {
+abbrev pub headed : List Column → List Fact → List Kind → Listing
+headed head_columns head kinds = record {
   head_columns = head_columns;
   head = head;
-  parts = parts;
+  kinds = kinds;
   total_columns = [];
   totals = [];
 }

@@ -26,6 +26,8 @@ pub enum Place {
     Counted(usize),
     /// The same, where the line has the first word of the name already: after the rest of it.
     Again(usize),
+    /// After `<-`.
+    From,
 }
 
 /// A column: its name, and where its values stand in a line.
@@ -41,10 +43,14 @@ pub enum Cell<'a> {
     Number(u128),
     /// A name, or a word of ours, which needs no escapes. `-` is none.
     Name(&'a [u8]),
+    /// A name that the list owns. `-` is none.
+    Made(Items<u8>),
     /// What people wrote, as a word; no bytes are none.
     Word(&'a [u8]),
     /// What people wrote, up to the end of the line; no bytes are none.
     Rest(&'a [u8]),
+    /// The front of what people wrote, and whether there is more; two points say so.
+    Front(&'a [u8], bool),
     /// Numbers as runs.
     Runs(Items<Run>),
     /// Numbers as runs, of which a line has the first four.
@@ -59,6 +65,8 @@ pub enum Cell<'a> {
     Maybe(Option<u128>),
     /// So many of so many.
     Share(usize, usize),
+    /// A line of a file, and a column.
+    Position(usize, usize),
     /// What people wrote, as words.
     Words(Items<&'a [u8]>),
     /// An identifier, of which a line has the form and the digits.

@@ -1,5 +1,5 @@
 //! Lists as JSON.
-ghost use Rattle.std.specs.Prelude.{◌≡◌, IfOk, OnOk, Some, codes, map, string_bytes};
+ghost use Rattle.std.specs.Prelude.{◌≡◌, ◌++◌, IfOk, OnOk, Some, codes, map, string_bytes};
 ghost use Rattle.std.specs.Option.{option_copied, option_map};
 ghost use Rattle.std.specs.Str.Lossy.{utf8_lossy};
 ghost use Rattle.serde_json.specs.Data.{put as with_member};
@@ -7,13 +7,15 @@ ghost use Rattle.serde_json.specs.Read.{read};
 ghost use Rattle.serde_json.specs.View.{members_view, view};
 ghost use Rattle.serde_json.specs.Written.{compact_text};
 ghost use Rattle.rows.specs.Fact.{fact_of, name_of};
-ghost use Rattle.rows.specs.Json.{change_data, decimal_data, fact_data, group_data, ident_data, layout_data, name_data};
-ghost use Rattle.rows.specs.Json.{number_data, order_word, pair_data, parts_members, row_data, run_data};
+ghost use Rattle.rows.specs.Json.{change_data, decimal_data, fact_data, group_data, ident_data, layout_data, list_text};
+ghost use Rattle.rows.specs.Json.{name_data};
+ghost use Rattle.rows.specs.Json.{number_data, order_word, pair_data, kinds_members, position_data, row_data, run_data};
 ghost use Rattle.rows.specs.Json.{share_data, side_data, table_data, table_json, text_data, with_kind, with_row};
 ghost use Rattle.rows.specs.Json.{with_rows, with_totals, written_data};
+ghost use Rattle.rows.specs.Lines.{points};
 
 use crate::cell::{Cell, Column};
-use crate::lines::{mux_text, name_of, path_text};
+use crate::lines::{mux_text, name_of, path_text, points, table_text};
 use crate::table::{Kind, Table};
 use base::Items;
 use bitlayout::{Layout, Order};
@@ -48,6 +50,15 @@ fn written_value(alloc: Global, text: &[u8]) -> Result<Value, AllocError>
         [] => Ok(Value::Null),
         [_, ..] => text_value(alloc, text),
     }
+}
+
+/// How a text begins, and two points if it goes on.
+fn front_value(alloc: Global, front: &[u8], goes_on: bool) -> Result<Value, AllocError>
+    ensures { IfOk result (λ v. view v ≡ text_data (front.now ++ points goes_on)) }
+{
+    let mut text = Vec::from_slice(alloc, front)?;
+    text.extend_from_slice(points(goes_on))?;
+    text_value(alloc, &text)
 }
 
 /// A name; `-` is null.
@@ -126,6 +137,12 @@ fn share_value(alloc: Global, number: usize, all: usize) -> Result<Value, AllocE
     json!(in alloc; {"count": number, "of": all})
 }
 
+fn position_value(alloc: Global, line: usize, column: usize) -> Result<Value, AllocError>
+    ensures { IfOk result (λ v. view v ≡ position_data line column) }
+{
+    json!(in alloc; {"column": column, "line": line})
+}
+
 fn text_values(alloc: Global, texts: &[&[u8]]) -> Result<Vec<Value>, AllocError>
     ensures { IfOk result (λ values. map view values.items
         ≡ map text_data (map (λ text. text.now) texts.now)) }
@@ -188,6 +205,8 @@ fn fact_value(alloc: Global, cell: &Cell<'_>) -> Result<Value, AllocError>
         Cell::Ident(Some(ident)) => ident_value(alloc, ident),
         Cell::Number(number) => number_value(alloc, *number),
         Cell::Name(name) => name_value(alloc, name),
+        Cell::Made(name) => name_value(alloc, name.as_slice()),
+        Cell::Front(front, goes_on) => front_value(alloc, front, *goes_on),
         Cell::Word(text) | Cell::Rest(text) => written_value(alloc, text),
         Cell::Runs(runs) | Cell::Free(runs) => {
             Ok(Value::Array(run_values(alloc, runs.as_slice())?))
@@ -201,6 +220,7 @@ fn fact_value(alloc: Global, cell: &Cell<'_>) -> Result<Value, AllocError>
         Cell::Maybe(None) => Ok(Value::Null),
         Cell::Maybe(Some(number)) => number_value(alloc, *number),
         Cell::Share(number, all) => share_value(alloc, *number, *all),
+        Cell::Position(line, column) => position_value(alloc, *line, *column),
         Cell::Words(texts) => Ok(Value::Array(text_values(alloc, texts.as_slice())?)),
         Cell::Digits(ident) => ident_value(alloc, ident),
         Cell::Layout(layout, signed) => layout_value(alloc, layout, *signed),
@@ -309,13 +329,13 @@ fn put_kind(
 }
 
 /// The members of the kinds, from the last one on.
-fn parts_members(alloc: Global, kinds: &[Kind<'_>]) -> Result<Map<String, Value>, AllocError>
-    ensures { IfOk result (λ members. members_view members.entries ≡ parts_members kinds.now) }
+fn kinds_members(alloc: Global, kinds: &[Kind<'_>]) -> Result<Map<String, Value>, AllocError>
+    ensures { IfOk result (λ members. members_view members.entries ≡ kinds_members kinds.now) }
 {
     match kinds {
         [] => Ok(Map::new(alloc)),
         [kind, kinds @ ..] => {
-            let mut members = parts_members(alloc, kinds)?;
+            let mut members = kinds_members(alloc, kinds)?;
             put_kind(alloc, &mut members, kind)?;
             Ok(members)
         }
@@ -342,7 +362,7 @@ fn put_totals(
 fn table_value(alloc: Global, table: &Table<'_>) -> Result<Value, AllocError>
     ensures { IfOk result (λ v. view v ≡ table_data table.now) }
 {
-    let mut members = parts_members(alloc, table.kinds.as_slice())?;
+    let mut members = kinds_members(alloc, table.kinds.as_slice())?;
     put_totals(
         alloc,
         &mut members,
@@ -372,4 +392,15 @@ pub fn table_json(alloc: Global, table: &Table<'_>) -> Result<Vec<u8>, AllocErro
     let mut text = compact_json(alloc, table)?.into_bytes();
     text.push(b'\n')?;
     Ok(text)
+}
+
+/// The list as JSON where that is wanted, and else as lines. The error is out of memory.
+pub fn list_text(alloc: Global, table: &Table<'_>, json: bool) -> Result<Vec<u8>, AllocError>
+    ensures { IfOk result (λ text. text.items ≡ list_text json table.now) }
+{
+    if json {
+        table_json(alloc, table)
+    } else {
+        table_text(alloc, table)
+    }
 }

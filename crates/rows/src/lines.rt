@@ -1,11 +1,11 @@
 //! Lists as lines.
 ghost use Rattle.std.specs.Prelude.{◌≡◌, ◌++◌, ◌∷◌, [], IfOk, OnOk, map, string_bytes};
 ghost use Rattle.std.specs.Option.{option_copied, option_map};
-ghost use Rattle.columns.specs.Word.{later_words as more_words, words};
+ghost use Rattle.columns.specs.Word.{later_words as more_words, rest, words};
 ghost use Rattle.rows.specs.Fact.{fact_of, name_of};
 ghost use Rattle.rows.specs.Lines.{after, change_text, counted, digits_text, fact_text, first_runs, ident_text};
 ghost use Rattle.rows.specs.Lines.{later_words, layout_text, line_text, mark_text, mux_text, name_words};
-ghost use Rattle.rows.specs.Lines.{part_text, path_text, set_in, set_text, spaced, table_text, upright_text};
+ghost use Rattle.rows.specs.Lines.{kind_text, path_text, points, set_in, set_text, spaced, table_text, upright_text};
 
 use crate::cell::{Cell, Column, Name, Place};
 use crate::table::{Kind, Table};
@@ -72,6 +72,21 @@ fn first_runs(alloc: Global, runs: &[Run]) -> Result<Vec<u8>, AllocError>
         return Ok(text);
     }
     runs_text(alloc, runs)
+}
+
+/// Two points after what goes on.
+pub(crate) fn points(goes_on: bool) -> &'static [u8]
+    ensures { result.now ≡ points goes_on }
+{
+    if goes_on { b" .." } else { b"" }
+}
+
+/// How a text begins, and two points if it goes on.
+fn front_text(alloc: Global, front: &[u8], goes_on: bool) -> Result<Vec<u8>, AllocError>
+    ensures { IfOk result (λ text. text.items ≡ rest front.now ++ points goes_on) }
+{
+    let front = rest(alloc, front)?;
+    concat(alloc, &[&front, points(goes_on)])
 }
 
 fn mark_text(is: bool) -> &'static [u8]
@@ -176,8 +191,10 @@ fn fact_text(alloc: Global, cell: &Cell<'_>) -> Result<Vec<u8>, AllocError>
         Cell::Ident(ident) => ident_text(alloc, ident),
         Cell::Number(number) => Ok(format!(in alloc; "{number}")?.into_bytes()),
         Cell::Name(name) => Vec::from_slice(alloc, name),
+        Cell::Made(name) => Vec::from_slice(alloc, name.as_slice()),
         Cell::Word(text) => word(alloc, text),
         Cell::Rest(text) => rest(alloc, text),
+        Cell::Front(front, goes_on) => front_text(alloc, front, *goes_on),
         Cell::Runs(runs) => runs_text(alloc, runs.as_slice()),
         Cell::Free(runs) => first_runs(alloc, runs.as_slice()),
         Cell::Mark(is) => Vec::from_slice(alloc, mark_text(*is)),
@@ -186,6 +203,7 @@ fn fact_text(alloc: Global, cell: &Cell<'_>) -> Result<Vec<u8>, AllocError>
         Cell::Maybe(None) => Vec::from_slice(alloc, b"-"),
         Cell::Maybe(Some(number)) => Ok(format!(in alloc; "{number}")?.into_bytes()),
         Cell::Share(number, all) => Ok(format!(in alloc; "{number} of {all}")?.into_bytes()),
+        Cell::Position(line, column) => Ok(format!(in alloc; "{line}:{column}")?.into_bytes()),
         Cell::Words(words) => words_text(alloc, words.as_slice()),
         Cell::Digits(ident) => digits_text(alloc, ident),
         Cell::Layout(layout, signed) => Ok(layout_text(alloc, layout, *signed)?.into_bytes()),
@@ -217,6 +235,7 @@ fn set_in(alloc: Global, column: &Column, words: &[u8]) -> Result<Vec<u8>, Alloc
             counted(alloc, &name, width, words)
         }
         Place::Again(width) => counted(alloc, later_words(&column.0), width, words),
+        Place::From => concat(alloc, &[b"<- ", words]),
     }
 }
 
@@ -294,8 +313,8 @@ fn push_upright(
 }
 
 /// Appends the rows, each as a line.
-fn push_part(alloc: Global, text: &mut Vec<u8>, kind: &Kind<'_>) -> Result<(), AllocError>
-    ensures { OnOk result (text.new.items ≡ text.old.items ++ part_text kind.now) }
+fn push_kind(alloc: Global, text: &mut Vec<u8>, kind: &Kind<'_>) -> Result<(), AllocError>
+    ensures { OnOk result (text.new.items ≡ text.old.items ++ kind_text kind.now) }
 {
     for row in kind.rows.as_slice() {
         text.extend_from_slice(kind.name)?;
@@ -312,7 +331,7 @@ pub fn table_text(alloc: Global, table: &Table<'_>) -> Result<Vec<u8>, AllocErro
     let mut text = Vec::new(alloc);
     push_upright(alloc, &mut text, table.head_columns, table.head.as_slice())?;
     for kind in table.kinds.as_slice() {
-        push_part(alloc, &mut text, kind)?;
+        push_kind(alloc, &mut text, kind)?;
     }
     push_cells(
         alloc,

@@ -69,9 +69,9 @@ pub struct Kind<'a> {
 }
 
 impl<'a> Model for Kind<'a> {
-    ghost use Rattle.rows.specs.Table.{Part};
+    ghost use Rattle.rows.specs.Table.{Kind};
 
-    ghost Value = { Part };
+    ghost Value = { Kind };
 
     ghost view = { λ k. record { name = k.name.now; columns = k.columns.now; rows = k.rows } };
 }
@@ -119,7 +119,7 @@ impl<'a> Model for Table<'a> {
     ghost view = { λ t. record {
       head_columns = t.head_columns.now;
       head = map fact_of t.head;
-      parts = t.kinds;
+      kinds = t.kinds;
       total_columns = t.total_columns.now;
       totals = map fact_of t.totals;
     } };

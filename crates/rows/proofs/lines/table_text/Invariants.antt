@@ -1,8 +1,8 @@
 use Rattle.std.proofs.Common.{◌≡◌, ◌++◌, take}
 use Rattle.std.specs.List.{flat_map}
-use Rattle.rows.specs.Lines.{part_text, upright_text}
+use Rattle.rows.specs.Lines.{kind_text, upright_text}
 use Rattle.rows.proofs.lines.table_text.Given as goal
 
 abbrev pub invariant-loop-kind : goal.invariant-loop-kind
 invariant-loop-kind l = l.text.items
-    ≡ upright_text l.table.head_columns l.table.head ++ flat_map part_text (take l.kind-index l.kind-items)
+    ≡ upright_text l.table.head_columns l.table.head ++ flat_map kind_text (take l.kind-index l.kind-items)

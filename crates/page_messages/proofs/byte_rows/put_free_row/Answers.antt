@@ -3,7 +3,7 @@ use Rattle.page_messages.specs.Layouts.{free_row, free_rows}
 use Rattle.page_messages.proofs.Adding.{added_as, back}
 use Rattle.page_messages.proofs.RowsDrawn.{less_true}
 use Rattle.page_messages.proofs.Runs.{run}
-use Rattle.page_messages.proofs.rows.put_free_row.Goals as goal
+use Rattle.page_messages.proofs.byte_rows.put_free_row.Goals as goal
 
 pub returns-then-first-end : goal.returns-then-first-end
 returns-then-first-end c =

@@ -2,7 +2,7 @@ use Rattle.std.proofs.Common.{◌≡◌, ◌++◌, map, take}
 use Rattle.std.specs.List.{flat_map}
 use Rattle.rows.specs.Fact.{fact_of}
 use Rattle.rows.specs.Lines.{line_text}
-use Rattle.rows.proofs.lines.push_part.Given as goal
+use Rattle.rows.proofs.lines.push_kind.Given as goal
 
 abbrev pub invariant-loop-row : goal.invariant-loop-row
 invariant-loop-row l = l.text.items

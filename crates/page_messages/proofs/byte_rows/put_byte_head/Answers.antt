@@ -1,6 +1,6 @@
 use Rattle.std.proofs.Common.{append_assoc}
 use Rattle.page_messages.proofs.Adding.{back}
-use Rattle.page_messages.proofs.rows.put_byte_head.Goals as goal
+use Rattle.page_messages.proofs.byte_rows.put_byte_head.Goals as goal
 
 pub returns : goal.returns
 returns c = λ kept.

@@ -3,8 +3,8 @@ use Rattle.markup.specs.Writing.{Becomes, adding}
 use Rattle.page_messages.specs.Layouts.{free_rows}
 use Rattle.page_messages.specs.declared.bits.Held.{Held}
 use Rattle.page_messages.proofs.RowsDrawn.{draws, ends, goes_on}
-use Rattle.page_messages.proofs.rows.put_rows.Goals as goal
-use Rattle.page_messages.proofs.rows.put_rows.Goals.{then-byte-next+in_ok-put_byte_row, else-byte-next}
+use Rattle.page_messages.proofs.byte_rows.put_rows.Goals as goal
+use Rattle.page_messages.proofs.byte_rows.put_rows.Goals.{then-byte-next+in_ok-put_byte_row, else-byte-next}
 
 pub loop-bit-preserved : goal.loop-bit-preserved
 loop-bit-preserved c = λ order.

@@ -6,17 +6,19 @@ ghost use Rattle.canoffice_cli.specs.Tabled.{IsTableOutcome};
 use crate::checking::fault_line;
 use crate::report::{Report, Status};
 use dbc_read::{ReadCode, read};
-use office_views::table_of;
+use office_views::sheet_table;
+use rows::list_text;
 use std::alloc::{AllocError, Global};
 
-/// The table of the messages of the sheet that the DBC text reads as, whether it is clear or not; or, if the text reads
-/// as no sheet, the fault's code and offset on standard error, with the status `FaultFound`.
-pub fn table_report(alloc: Global, source: &[u8]) -> Result<Report, AllocError>
-    ensures { IfOk result (λ report. IsTableOutcome source.now (outcome_of report)) }
+/// The table of the messages of the sheet that the DBC text reads as, whether it is clear or not, as JSON where that is
+/// wanted; or, if the text reads as no sheet, the fault's code and offset on standard error, with the status `FaultFound`.
+pub fn table_report(alloc: Global, source: &[u8], json: bool) -> Result<Report, AllocError>
+    ensures { IfOk result (λ report. IsTableOutcome json source.now (outcome_of report)) }
 {
     match read(alloc, source) {
         Ok(reading) => {
-            let output = table_of(alloc, &reading.sheet)?;
+            let table = sheet_table(alloc, &reading.sheet)?;
+            let output = list_text(alloc, &table, json)?;
             Ok(Report::of_output(alloc, output, Status::Success))
         }
         Err(fault) => match fault.code {

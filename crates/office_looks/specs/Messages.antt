@@ -9,9 +9,9 @@ use Rattle.office_views.specs.Table.{signal_count}
 use Rattle.office_seen.specs.Since.{last_release, releases_runs, since}
 use Rattle.office_seen.specs.View.{owned}
 use Rattle.office_seen.specs.declared.view.View.{View}
-use Rattle.office_looks.specs.declared.messages.TheConstants.{MESSAGES, MESSAGE_TOTALS}
+use Rattle.office_views.specs.declared.table.TheConstants.{MESSAGE_TOTALS, TABLE}
+use Rattle.office_looks.specs.declared.messages.TheConstants.{MESSAGES}
 use Rattle.rows.specs.Fact.{Fact, of_ident, of_name, of_number, of_runs, of_word}
-use Rattle.rows.specs.Lines.{line_text}
 use Rattle.rows.specs.Table.{Listing, plain}
 
 -- identifier, length, count of signals; owner, releases that have the number, what has become of it since the last one;
@@ -43,7 +43,7 @@ messages_table team view = plain MESSAGES (map (message_row view) (wanted team v
 abbrev pub without_put_in : {X : Type 0} → List X → List X
 without_put_in xs = take 3 xs ++ drop 6 xs
 
--- without those that are put in, a line is that of the table
-abbrev pub IsTableWithColumns : Type 0
-IsTableWithColumns = (view : View) (p : Message × List ℕ)
-    → table.message_line p.0 ≡ line_text (without_put_in MESSAGES) (without_put_in (message_row view p))
+-- without those that are put in, the columns and the row are those of the table
+pub record IsTableWithColumns : Type 0 where
+  pub columns : TABLE ≡ without_put_in MESSAGES
+  pub row : (view : View) (p : Message × List ℕ) → table.message_row p.0 ≡ without_put_in (message_row view p)

@@ -9,6 +9,7 @@ ghost use Rattle.office_looks.specs.Messages.{is_wanted, message_row, messages_t
 use dbc_sheet::{Message, Sheet};
 use office_seen::{View, last_release, releases_runs, since};
 use office_types::Team;
+use office_views::{MESSAGE_TOTALS, transmitter};
 use rows::{Cell, Column, Place, Rows, Table};
 use std::alloc::{AllocError, Global};
 
@@ -23,22 +24,6 @@ pub const MESSAGES: [Column; 8] = [
     Column(*b"transmitter ", Place::Plain),
     Column(*b"message     ", Place::Plain),
 ];
-
-/// How many there are, and how many signals they have altogether.
-pub const MESSAGE_TOTALS: [Column; 2] = [
-    Column(*b"messages    ", Place::Counted(0)),
-    Column(*b"signals     ", Place::Counted(0)),
-];
-
-/// The message's transmitter, `-` where it has none.
-pub(crate) fn transmitter(message: &Message) -> &[u8]
-    ensures { result.now ≡ unwrap_or message.now.transmitter (codes "-") }
-{
-    match &message.transmitter {
-        Some(name) => name.as_bytes(),
-        None => b"-",
-    }
-}
 
 /// Adds the row of a live message of this owner, where the sheet before is that of the last release. The error is out of
 /// memory.

@@ -4,7 +4,7 @@ use Rattle.std.specs.declared.alloc.Global.{Global}
 use Rattle.dbc_advice.specs.Clashes.{bytes_of, clash_sentence, clashes_of}
 use Rattle.dbc_advice.specs.Limits.{clashes_reported}
 use Rattle.dbc_lint.specs.Kind.{kind_name}
-use Rattle.dbc_lint.specs.Lines.{AreRemarks}
+use Rattle.dbc_lint.specs.Listing.{AreRemarks}
 use Rattle.dbc_lint.specs.declared.remark.Remark.{Remark}
 use Rattle.dbc_read.specs.declared.passed.Passed.{Passed}
 use Rattle.dbc_sheet.specs.declared.sheet.Sheet.{Sheet}

@@ -6,8 +6,8 @@
 //! ([`first_clash_of`]) by the number and name of its [`SheetCode`](dbc_words::SheetCode). [`message_chart`] is the
 //! chart of a message of a sheet. [`signal_of`] and [`length_of`] read the arguments of the subcommand `chart`.
 //!
-//! [`table_of`] is the table: a line for each message of a sheet, and a last line with the counts of messages and of
-//! signals ([`signal_count`]); [`size_columns`] are two of its columns. [`net_line`] is the line of a network in the
+//! [`sheet_table`] is the list of a sheet's messages, with the counts of messages and of signals ([`signal_count`]), and
+//! [`table_of`] is that as lines. [`net_line`] is the line of a network in the
 //! list: its name, kind ([`kind_word`]), phase ([`phase_word`]) and count of releases.
 //!
 //! [`sends`] and [`receives`] say what a node has to do with a message or a signal; [`sent_tally`] and [`received_tally`]
@@ -15,7 +15,7 @@
 //!
 //! The definitions are in `specs/`: `Text.antt` is the chart, line by line, in terms of the positions of bits of
 //! `bitlayout` and the numbers and names of clashes of `dbc_words`; `Message.antt` is that of a message; `Table.antt`
-//! is the table, line by line, in terms of the identifiers of `can_id`; `Word.antt` is the form of the arguments;
+//! is the table, as rows; `Word.antt` is the form of the arguments;
 //! `NetList.antt` is the list of networks; `Sending.antt` is what a node sends and receives, and `Tally.antt` how often.
 #![tactic(auto)]
 
@@ -34,7 +34,7 @@ pub use networks::{kind_word, net_line, phase_word};
 pub use number::whole_between;
 pub use sending::{received, receives, sends};
 pub use signal::{ChartSignal, first_clash_of};
-pub use table::{signal_count, size_columns, table_of};
+pub use table::{MESSAGE_TOTALS, TABLE, sheet_table, signal_count, table_of, transmitter};
 pub use tally::{Tally, received_tally, sent_tally};
 pub use text::chart_text;
 pub use word::{length_of, signal_of};

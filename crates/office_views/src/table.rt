@@ -1,25 +1,28 @@
 //! The table of a sheet's messages.
-ghost use Rattle.std.specs.Prelude.{◌≡◌, IfOk, codes, string_bytes, unwrap_or};
-ghost use Rattle.std.specs.List.{flat_map};
-ghost use Rattle.office_views.specs.Table.{counts_line, message_line};
-ghost use Rattle.office_views.specs.Table.{signal_count, size_columns, table_of};
+ghost use Rattle.std.specs.Prelude.{◌≡◌, ◌++◌, ◌∷◌, [], IfOk, OnOk, codes, unwrap_or};
+ghost use Rattle.office_views.specs.Table.{message_row, sheet_table, signal_count, table_of};
 
-use columns::{concat, ident_columns, number_right};
 use dbc_sheet::{Message, Sheet};
+use rows::{Cell, Column, Place, Rows, Table, table_text};
 use std::alloc::{AllocError, Global};
 
-/// The columns of the message's length and its count of signals, each right-aligned in 4, with a space between. The error
-/// is out of memory.
-pub fn size_columns(alloc: Global, message: &Message) -> Result<Vec<u8>, AllocError>
-    ensures { IfOk result (λ text. text.items ≡ size_columns message.now) }
-{
-    let length = number_right(alloc, 4, usize::from(message.length.bytes()))?;
-    let count = number_right(alloc, 4, message.signals.as_slice().len())?;
-    concat(alloc, &[&length, b" ", &count])
-}
+/// The columns of a message.
+pub const TABLE: [Column; 5] = [
+    Column(*b"identifier  ", Place::Plain),
+    Column(*b"length      ", Place::Right(4)),
+    Column(*b"signals     ", Place::Right(4)),
+    Column(*b"transmitter ", Place::Plain),
+    Column(*b"message     ", Place::Plain),
+];
+
+/// How many there are, and how many signals they have altogether.
+pub const MESSAGE_TOTALS: [Column; 2] = [
+    Column(*b"messages    ", Place::Counted(0)),
+    Column(*b"signals     ", Place::Counted(0)),
+];
 
 /// The message's transmitter, `-` where it has none.
-fn transmitter(message: &Message) -> &[u8]
+pub fn transmitter(message: &Message) -> &[u8]
     ensures { result.now ≡ unwrap_or message.now.transmitter (codes "-") }
 {
     match &message.transmitter {
@@ -28,29 +31,22 @@ fn transmitter(message: &Message) -> &[u8]
     }
 }
 
-/// The line of a message.
-fn message_line(alloc: Global, message: &Message) -> Result<Vec<u8>, AllocError>
-    ensures { IfOk result (λ text. text.items ≡ message_line message.now) }
+/// Adds the row of a message.
+fn push_message<'a>(
+    alloc: Global,
+    rows: &mut Rows<'a>,
+    message: &'a Message,
+) -> Result<(), AllocError>
+    ensures { OnOk result (rows.new ≡ rows.old ++ message_row message.now ∷ []) }
 {
-    let ident = ident_columns(alloc, &message.ident)?;
-    let sizes = size_columns(alloc, message)?;
-    let (transmitter, name) = (transmitter(message), message.name.as_bytes());
-    concat(
-        alloc,
-        &[&ident, b" ", &sizes, b" ", transmitter, b" ", name, b"\n"],
-    )
-}
-
-/// The lines of the messages.
-fn message_lines(alloc: Global, messages: &[Message]) -> Result<Vec<u8>, AllocError>
-    ensures { IfOk result (λ text. text.items ≡ flat_map message_line messages.now) }
-{
-    let mut lines = Vec::new(alloc);
-    for message in messages {
-        let line = message_line(alloc, message)?;
-        lines.extend_from_slice(&line)?;
-    }
-    Ok(lines)
+    let cells = vec![in alloc;
+        Cell::Ident(Some(message.ident)),
+        Cell::Number(u128::from(message.length.bytes())),
+        Cell::Number(message.signals.as_slice().len() as u128),
+        Cell::Name(transmitter(message)),
+        Cell::Name(message.name.as_bytes()),
+    ]?;
+    rows.push(cells)
 }
 
 /// How many signals the sheet's messages have altogether.
@@ -64,13 +60,20 @@ pub fn signal_count(sheet: &Sheet) -> usize
     count
 }
 
-/// The line of the counts.
-fn counts_line(alloc: Global, sheet: &Sheet) -> Result<String, AllocError>
-    ensures { IfOk result (λ line. string_bytes line ≡ counts_line sheet.now) }
+/// The sheet's messages as a list: of each, in ascending order of the DBC numbers, its identifier, length, count of
+/// signals, transmitter and name; and how many messages and signals there are. The error is out of memory.
+pub fn sheet_table(alloc: Global, sheet: &Sheet) -> Result<Table<'_>, AllocError>
+    ensures { IfOk result (λ table. table ≡ sheet_table sheet.now) }
 {
-    let messages = sheet.messages().len();
-    let signals = signal_count(sheet);
-    format!(in alloc; "messages {messages} signals {signals}\n")
+    let mut rows = Rows::new(alloc);
+    for message in sheet.messages() {
+        push_message(alloc, &mut rows, message)?;
+    }
+    let totals = vec![in alloc;
+        Cell::Number(sheet.messages().len() as u128),
+        Cell::Number(signal_count(sheet) as u128),
+    ]?;
+    Table::plain(alloc, &TABLE, rows, &MESSAGE_TOTALS, totals)
 }
 
 /// The table of the sheet's messages, as lines that end with LF.
@@ -83,8 +86,6 @@ fn counts_line(alloc: Global, sheet: &Sheet) -> Result<String, AllocError>
 pub fn table_of(alloc: Global, sheet: &Sheet) -> Result<Vec<u8>, AllocError>
     ensures { IfOk result (λ text. text.items ≡ table_of sheet.now) }
 {
-    let counts = counts_line(alloc, sheet)?;
-    let mut text = message_lines(alloc, sheet.messages())?;
-    text.extend_from_slice(counts.as_bytes())?;
-    Ok(text)
+    let table = sheet_table(alloc, sheet)?;
+    table_text(alloc, &table)
 }

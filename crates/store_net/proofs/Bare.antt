@@ -10,7 +10,7 @@ use Rattle.dbc_sheet.specs.Messages.{by_number}
 use Rattle.dbc_sheet.specs.declared.message.Message.{Message}
 use Rattle.dbc_sheet.specs.declared.sheet.Sheet.{Sheet}
 use Rattle.dbc_sheet.specs.declared.signal.Signal.{Signal}
-use Rattle.office_views.specs.Table.{message_line, signal_count, table_of}
+use Rattle.office_views.specs.Table.{message_row, signal_count, table_of}
 use Rattle.office_types.specs.State.{live_messages, sheet_with}
 use Rattle.office_types.specs.declared.state.Head.{Head}
 use Rattle.office_types.specs.declared.state.LiveMessage.{LiveMessage}
@@ -121,10 +121,10 @@ unfolding IsStrictlySortedBy
 numbers_ascend detail [] ascend = tt
 numbers_ascend detail (m ∷ live) ascend = (number_above detail m live ascend.0, numbers_ascend detail live ascend.1)
 
-lines_alike : (live : List LiveMessage) → flat_map message_line (live_messages (map bare live))
-    ≡ flat_map message_line (live_messages live)
-lines_alike [] = refl
-lines_alike (m ∷ live) = rw (length-map m.message.signals bare_signal, lines_alike live) refl
+rows_alike : (live : List LiveMessage) → map message_row (live_messages (map bare live))
+    ≡ map message_row (live_messages live)
+rows_alike [] = refl
+rows_alike (m ∷ live) = rw (length-map m.message.signals bare_signal, rows_alike live) refl
 
 counts_alike : (live : List LiveMessage)
     → signal_count (live_messages (map bare live)) ≡ signal_count (live_messages live)
@@ -141,7 +141,7 @@ many_alike (m ∷ live) = ap suc (many_alike live)
 
 table_alike : (frame : Sheet) (live : List LiveMessage)
     → table_of (sheet_with frame (map bare live)) ≡ table_of (sheet_with frame live)
-table_alike frame live = rw (lines_alike live, many_alike live, counts_alike live) refl
+table_alike frame live = rw (rows_alike live, many_alike live, counts_alike live) refl
 
 -- the table of the sheet that is built of the messages without them is that of the live sheet
 pub bare_table : (name : List ℕ) (t : Tables) (net : Option Net) (head : Head) (live : List LiveMessage) (sheet : Sheet)

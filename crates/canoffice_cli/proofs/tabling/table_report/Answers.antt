@@ -3,6 +3,7 @@ use Rattle.dbc_read.specs.Passed.{start_and_keyword}
 use Rattle.dbc_read.proofs.ReadFaults.{read_fault}
 use Rattle.canoffice_cli.specs.Formatted.{fault_errors}
 use Rattle.canoffice_cli.specs.Outcome.{success}
+use Rattle.rows.specs.Json.{list_text}
 use Rattle.canoffice_cli.proofs.tabling.table_report.Goals as goal
 
 pub returns-in_ok-output-in-Ok : goal.returns-in_ok-output-in-Ok
@@ -10,7 +11,8 @@ returns-in_ok-output-in-Ok c =
     inl (
       c.in-Ok.reading.sheet,
       (map start_and_keyword c.in-Ok.reading.passed, c.in-Ok.ensures.reads),
-      c.of_output.ensures ∙ ap success c.in_ok-output-in-Ok.ensures,
+      c.of_output.ensures
+          ∙ ap success (c.in_ok-output-in-Ok.ensures ∙ ap (list_text c.args.json) c.in_ok-table-in-Ok.ensures),
     )
 
 pub returns-in_ok-line-in_default : goal.returns-in_ok-line-in_default

@@ -4,6 +4,8 @@ use Rattle.dbc_words.specs.Name.{is_name}
 use Rattle.office_types.specs.declared.look.Look.TheVariants as look
 use Rattle.office_types.specs.declared.look.LookForm.TheVariants.{Json, Lines}
 use Rattle.office_types.specs.declared.look.NetLook.TheVariants as of_net
+use Rattle.office_types.specs.declared.overview.Overview.TheVariants as overview
+use Rattle.office_types.specs.declared.overview.TeamOverview.TheVariants as of_team
 use Rattle.office_types.specs.declared.sought.Sought.TheVariants as sought
 use Rattle.canoffice_jobs.specs.What.{shown_by}
 use Rattle.canoffice_jobs.specs.Words.{page_look, requests_look, show_look}
@@ -12,7 +14,7 @@ use Rattle.canoffice_jobs.specs.declared.what.What.TheVariants as what
 
 -- ---- what is shown
 
-state_is_left_out : shown_by (Some (codes "truck")) None None false ≡ Some what.State
+state_is_left_out : shown_by (Some (codes "truck")) None None false ≡ Some (what.Overview overview.State)
 state_is_left_out = refl
 
 abbrev shown_of_truck : Option (List ℕ) → Option (List ℕ) → Option What
@@ -22,7 +24,8 @@ of_words : shown_of_truck (Some (codes "held")) None ∷ shown_of_truck (Some (c
     ∷ shown_of_truck (Some (codes "blocks")) (Some (codes "brakes"))
     ∷ shown_of_truck (Some (codes "message")) (Some (codes "EEC1"))
     ∷ shown_of_truck (Some (codes "who")) (Some (codes "pgn=65300")) ∷ []
-    ≡ Some what.Held ∷ Some what.Blocks ∷ Some what.Blocks ∷ Some what.Message ∷ Some what.Who ∷ []
+    ≡ Some (what.Overview overview.Held) ∷ Some (what.Overview overview.Blocks)
+    ∷ Some (what.Overview overview.Blocks) ∷ Some what.Message ∷ Some what.Who ∷ []
 of_words = refl
 
 -- no such word, a name too many, and none where one is needed
@@ -36,17 +39,19 @@ of_wrong_words = refl
 -- of a network; the list of networks has none
 as_json : shown_by (Some (codes "truck")) (Some (codes "held")) None true ∷ shown_by (Some (codes "truck")) None None true
     ∷ shown_by None None None true ∷ shown_by None None None false ∷ []
-    ≡ Some what.Held ∷ Some what.State ∷ None ∷ Some what.State ∷ []
+    ≡ Some (what.Overview overview.Held) ∷ Some (what.Overview overview.State) ∷ None
+    ∷ Some (what.Overview overview.State) ∷ []
 as_json = refl
 
 -- ---- what is looked up
 
-looks : show_look None what.State None false ∷ show_look (Some (codes "truck")) what.State None false
-    ∷ show_look (Some (codes "truck")) what.Messages (Some (codes "brakes")) false
-    ∷ show_look (Some (codes "truck")) what.Nodes (Some (codes "Engine")) true
+looks : show_look None (what.Overview overview.State) None false
+    ∷ show_look (Some (codes "truck")) (what.Overview overview.State) None false
+    ∷ show_look (Some (codes "truck")) (what.Overview overview.Messages) (Some (codes "brakes")) false
+    ∷ show_look (Some (codes "truck")) (what.Overview overview.Nodes) (Some (codes "Engine")) true
     ∷ show_look (Some (codes "truck")) what.Who (Some (codes "0x18FF0000")) false ∷ []
-    ≡ Some look.Nets ∷ Some (look.Net (codes "truck") of_net.State Lines)
-    ∷ Some (look.Net (codes "truck") (of_net.Messages (Some (codes "brakes"))) Lines)
+    ≡ Some look.Nets ∷ Some (look.Net (codes "truck") (of_net.Overview overview.State) Lines)
+    ∷ Some (look.Net (codes "truck") (of_net.OfTeam of_team.Messages (codes "brakes")) Lines)
     ∷ Some (look.Net (codes "truck") (of_net.Node (codes "Engine")) Json)
     ∷ Some (look.Net (codes "truck") (of_net.Who (sought.Hexadecimal 419364864)) Lines) ∷ []
 unfolding is_name
@@ -57,10 +62,10 @@ pages : page_look (codes "truck") 0 ∷ page_look (codes "truck") 2 ∷ page_loo
 pages = refl
 
 -- words that have no such form
-no_looks : show_look (Some (codes "Truck")) what.State None false
-    ∷ show_look (Some (codes "truck")) what.Messages (Some (codes "Brakes")) false
-    ∷ show_look (Some (codes "truck")) what.Nodes (Some (codes "1Engine")) true
-    ∷ show_look (Some (codes "truck")) what.Who (Some (codes "pgn=")) false ∷ requests_look (codes "") ∷ []
+no_looks : show_look (Some (codes "Truck")) (what.Overview overview.State) None false
+    ∷ show_look (Some (codes "truck")) (what.Overview overview.Messages) (Some (codes "Brakes")) false
+    ∷ show_look (Some (codes "truck")) (what.Overview overview.Nodes) (Some (codes "1Engine")) true
+    ∷ show_look (Some (codes "truck")) what.Who (Some (codes "pgn=")) false ∷ requests_look (codes "") false ∷ []
     ≡ None ∷ None ∷ None ∷ None ∷ None ∷ []
 unfolding is_name
 no_looks = refl

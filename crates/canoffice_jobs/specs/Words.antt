@@ -6,43 +6,45 @@ use Rattle.office_fields.specs.Value.{◌>>=◌, name_of, plain_name_of}
 use Rattle.office_types.specs.Sought.{sought_of}
 use Rattle.office_types.specs.declared.look.Look.{Look}
 use Rattle.office_types.specs.declared.look.Look.TheVariants as look
-use Rattle.office_types.specs.Look.{formed}
+use Rattle.office_types.specs.Look.{form_of, formed}
 use Rattle.office_types.specs.declared.look.LookForm.TheVariants.{Lines}
 use Rattle.office_types.specs.declared.look.NetLook.{NetLook}
 use Rattle.office_types.specs.declared.look.NetLook.TheVariants as of_net
+use Rattle.office_types.specs.declared.overview.Overview.{Overview}
+use Rattle.office_types.specs.declared.overview.Overview.TheVariants as overview
+use Rattle.office_types.specs.declared.overview.TeamOverview.{TeamOverview}
+use Rattle.office_types.specs.declared.overview.TeamOverview.TheVariants as of_team
 use Rattle.canoffice_jobs.specs.declared.what.What.{What}
 use Rattle.canoffice_jobs.specs.declared.what.What.TheVariants as what
 
--- the blocks and the messages: all, or those of the team of the name
-abbrev pub blocks_look : Option (List ℕ) → Option NetLook
-blocks_look None = Some (of_net.Blocks None)
-blocks_look (Some word) = option_map (λ team. of_net.Blocks (Some team)) (plain_name_of word)
+-- an overview of what is the team's of the name, or of the node of the name; all else has no names
+abbrev pub of_team_look : TeamOverview → List ℕ → Option NetLook
+of_team_look o word = option_map (λ team. of_net.OfTeam o team) (plain_name_of word)
 
-abbrev pub messages_look : Option (List ℕ) → Option NetLook
-messages_look None = Some (of_net.Messages None)
-messages_look (Some word) = option_map (λ team. of_net.Messages (Some team)) (plain_name_of word)
+abbrev pub node_look : List ℕ → Option NetLook
+node_look word = option_map of_net.Node (name_of word)
+
+abbrev pub named_look : Overview → List ℕ → Option NetLook
+named_look overview.Blocks word = of_team_look of_team.Blocks word
+named_look overview.Messages word = of_team_look of_team.Messages word
+named_look overview.Nodes word = node_look word
+named_look o word = Some (of_net.Overview o)
+
+-- all, or those of the name
+abbrev pub overview_look : Overview → Option (List ℕ) → Option NetLook
+overview_look o None = Some (of_net.Overview o)
+overview_look o (Some word) = named_look o word
 
 abbrev pub message_look : Option (List ℕ) → Option NetLook
 message_look name = option_map of_net.Message (name >>= name_of)
-
--- the nodes: all, or the one of the name
-abbrev pub nodes_look : Option (List ℕ) → Option NetLook
-nodes_look None = Some of_net.Nodes
-nodes_look (Some word) = option_map of_net.Node (name_of word)
 
 abbrev pub who_look : Option (List ℕ) → Option NetLook
 who_look name = option_map of_net.Who (name >>= sought_of)
 
 -- what is looked up of a network, by the name after it, if there is one
 abbrev pub net_look : What → Option (List ℕ) → Option NetLook
-net_look what.State name = Some of_net.State
-net_look what.Blocks name = blocks_look name
-net_look what.Messages name = messages_look name
+net_look (what.Overview o) name = overview_look o name
 net_look what.Message name = message_look name
-net_look what.Held name = Some of_net.Held
-net_look what.Releases name = Some of_net.Releases
-net_look what.Nodes name = nodes_look name
-net_look what.Spns name = Some of_net.Spns
 net_look what.Who name = who_look name
 
 -- the same of the network that a word names, where JSON is wanted or not; without one the list of networks
@@ -59,6 +61,6 @@ page_requested net number = if number == 0 then look.Page net else look.ReleaseP
 abbrev pub page_look : List ℕ → ℕ → Option Look
 page_look word number = option_map (λ net. page_requested net number) (plain_name_of word)
 
--- the requests of the team that a word names
-abbrev pub requests_look : List ℕ → Option Look
-requests_look word = option_map look.Requests (plain_name_of word)
+-- the requests of the team that a word names, where JSON is wanted or not
+abbrev pub requests_look : List ℕ → Bool → Option Look
+requests_look word json = option_map (λ team. look.Requests team (form_of json)) (plain_name_of word)

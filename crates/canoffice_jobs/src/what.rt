@@ -4,41 +4,31 @@ ghost use Rattle.std.specs.Option.{option_map};
 ghost use Rattle.canoffice_jobs.specs.What.{fits, shown_by, what_given, what_of, word_of};
 ghost use Rattle.canoffice_jobs.specs.WhatFault.{IsWhatFault};
 
+use office_types::Overview;
 use std::alloc::{AllocError, Global};
 
 /// What is shown of a network.
-#[derive(Clone, Copy, PartialEq, Eq)]
+#[derive(Clone, Copy)]
 pub enum What {
-    /// What it has once, and how many there are of each kind of thing.
-    State,
-    /// Its blocks: all, or those of the team whose name follows.
-    Blocks,
-    /// Its live messages: all, or those of the team whose name follows.
-    Messages,
+    /// An overview: of blocks and messages all, or those of the team whose name follows; of nodes all, or what the one
+    /// whose name follows sends and receives.
+    Overview(Overview),
     /// The live message whose name follows.
     Message,
-    /// The identifiers that are held.
-    Held,
-    /// The releases.
-    Releases,
-    /// The nodes, or what the one whose name follows sends and receives.
-    Nodes,
-    /// The suspect parameter numbers.
-    Spns,
     /// Who has the name or the number that follows.
     Who,
 }
 
 /// All that can be shown.
-const ALL: [What; 9] = [
-    What::State,
-    What::Blocks,
-    What::Messages,
+pub const SHOWN: [What; 9] = [
+    What::Overview(Overview::State),
+    What::Overview(Overview::Blocks),
+    What::Overview(Overview::Messages),
     What::Message,
-    What::Held,
-    What::Releases,
-    What::Nodes,
-    What::Spns,
+    What::Overview(Overview::Held),
+    What::Overview(Overview::Releases),
+    What::Overview(Overview::Nodes),
+    What::Overview(Overview::Spns),
     What::Who,
 ];
 
@@ -48,14 +38,8 @@ impl What {
         ensures { result.now ≡ word_of self }
     {
         match self {
-            What::State => "state",
-            What::Blocks => "blocks",
-            What::Messages => "messages",
+            What::Overview(overview) => overview.word(),
             What::Message => "message",
-            What::Held => "held",
-            What::Releases => "releases",
-            What::Nodes => "nodes",
-            What::Spns => "spns",
             What::Who => "who",
         }
     }
@@ -64,7 +48,7 @@ impl What {
     pub fn of_word(word: &str) -> Option<What>
         ensures { result ≡ what_of word.now }
     {
-        ALL.iter().copied().find(|what| what.word() == word)
+        SHOWN.iter().copied().find(|what| what.word() == word)
     }
 
     /// Whether it can be shown where a name follows, or where none does.
@@ -72,8 +56,8 @@ impl What {
         ensures { result ≡ fits self is_named }
     {
         match self {
-            What::State | What::Held | What::Releases | What::Spns => !is_named,
-            What::Blocks | What::Messages | What::Nodes => true,
+            What::Overview(Overview::Blocks | Overview::Messages | Overview::Nodes) => true,
+            What::Overview(_) => !is_named,
             What::Message | What::Who => is_named,
         }
     }
@@ -123,7 +107,7 @@ fn what_given<'a>(what: Option<&'a str>) -> Result<What, &'a str>
         × (what_of word.now ≡ None)) }
 {
     let Some(word) = what else {
-        return Ok(What::State);
+        return Ok(What::Overview(Overview::State));
     };
     match What::of_word(word) {
         Some(what) => Ok(what),

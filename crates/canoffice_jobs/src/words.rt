@@ -1,34 +1,23 @@
 //! What words look up.
 ghost use Rattle.std.specs.Prelude.{◌≡◌, IfOk};
 ghost use Rattle.std.specs.Option.{option_map};
-ghost use Rattle.canoffice_jobs.specs.Words.{blocks_look, message_look, messages_look, net_look, nodes_look};
+ghost use Rattle.canoffice_jobs.specs.Words.{message_look, named_look, net_look, node_look, of_team_look, overview_look};
 ghost use Rattle.canoffice_jobs.specs.Words.{page_look, page_requested, requests_look, show_look, who_look};
 
 use crate::what::What;
 use dbc_words::Name;
-use office_types::{Look, LookForm, NetLook, NetName, Sought, Team};
+use office_types::{Look, LookForm, NetLook, NetName, Overview, Sought, Team, TeamOverview};
 use std::alloc::{AllocError, Global};
 
-fn blocks_look(alloc: Global, name: Option<&str>) -> Result<Option<NetLook>, AllocError>
-    ensures { IfOk result (λ look. look ≡ blocks_look (option_map (λ w. w.now) name.entry)) }
+fn of_team_look(
+    alloc: Global,
+    overview: TeamOverview,
+    word: &str,
+) -> Result<Option<NetLook>, AllocError>
+    ensures { IfOk result (λ look. look ≡ of_team_look overview word.now) }
 {
-    let Some(word) = name else {
-        return Ok(Some(NetLook::Blocks(None)));
-    };
     match Team::of(alloc, word.as_bytes())? {
-        Some(team) => Ok(Some(NetLook::Blocks(Some(team)))),
-        None => Ok(None),
-    }
-}
-
-fn messages_look(alloc: Global, name: Option<&str>) -> Result<Option<NetLook>, AllocError>
-    ensures { IfOk result (λ look. look ≡ messages_look (option_map (λ w. w.now) name.entry)) }
-{
-    let Some(word) = name else {
-        return Ok(Some(NetLook::Messages(None)));
-    };
-    match Team::of(alloc, word.as_bytes())? {
-        Some(team) => Ok(Some(NetLook::Messages(Some(team)))),
+        Some(team) => Ok(Some(NetLook::OfTeam(overview, team))),
         None => Ok(None),
     }
 }
@@ -45,15 +34,37 @@ fn message_look(alloc: Global, name: Option<&str>) -> Result<Option<NetLook>, Al
     }
 }
 
-fn nodes_look(alloc: Global, name: Option<&str>) -> Result<Option<NetLook>, AllocError>
-    ensures { IfOk result (λ look. look ≡ nodes_look (option_map (λ w. w.now) name.entry)) }
+fn node_look(alloc: Global, word: &str) -> Result<Option<NetLook>, AllocError>
+    ensures { IfOk result (λ look. look ≡ node_look word.now) }
 {
-    let Some(word) = name else {
-        return Ok(Some(NetLook::Nodes));
-    };
     match Name::of(alloc, word.as_bytes())? {
         Some(node) => Ok(Some(NetLook::Node(node))),
         None => Ok(None),
+    }
+}
+
+/// An overview of what has a name.
+fn named_look(alloc: Global, overview: Overview, word: &str) -> Result<Option<NetLook>, AllocError>
+    ensures { IfOk result (λ look. look ≡ named_look overview word.now) }
+{
+    match overview {
+        Overview::Blocks => of_team_look(alloc, TeamOverview::Blocks, word),
+        Overview::Messages => of_team_look(alloc, TeamOverview::Messages, word),
+        Overview::Nodes => node_look(alloc, word),
+        _ => Ok(Some(NetLook::Overview(overview))),
+    }
+}
+
+fn overview_look(
+    alloc: Global,
+    overview: Overview,
+    name: Option<&str>,
+) -> Result<Option<NetLook>, AllocError>
+    ensures { IfOk result (λ look. look ≡ overview_look overview (option_map (λ w. w.now) name.entry)) }
+{
+    match name {
+        Some(word) => named_look(alloc, overview, word),
+        None => Ok(Some(NetLook::Overview(overview))),
     }
 }
 
@@ -74,14 +85,8 @@ fn net_look(alloc: Global, what: What, name: Option<&str>) -> Result<Option<NetL
     ensures { IfOk result (λ look. look ≡ net_look what (option_map (λ w. w.now) name.entry)) }
 {
     match what {
-        What::State => Ok(Some(NetLook::State)),
-        What::Blocks => blocks_look(alloc, name),
-        What::Messages => messages_look(alloc, name),
+        What::Overview(overview) => overview_look(alloc, overview, name),
         What::Message => message_look(alloc, name),
-        What::Held => Ok(Some(NetLook::Held)),
-        What::Releases => Ok(Some(NetLook::Releases)),
-        What::Nodes => nodes_look(alloc, name),
-        What::Spns => Ok(Some(NetLook::Spns)),
         What::Who => who_look(alloc, name),
     }
 }
@@ -133,13 +138,13 @@ fn page_requested(net: NetName, number: u32) -> Look
     }
 }
 
-/// What `requests` looks up: the requests of the team that the word names. `None` where it names none: a team is 1 to
-/// 32 bytes of `a` to `z`, `0` to `9` and `-`. The error is out of memory.
-pub fn requests_look(alloc: Global, team: &str) -> Result<Option<Look>, AllocError>
-    ensures { IfOk result (λ look. look ≡ requests_look team.now) }
+/// What `requests` looks up, as JSON where that is wanted: the requests of the team that the word names. `None` where it
+/// names none: a team is 1 to 32 bytes of `a` to `z`, `0` to `9` and `-`. The error is out of memory.
+pub fn requests_look(alloc: Global, team: &str, json: bool) -> Result<Option<Look>, AllocError>
+    ensures { IfOk result (λ look. look ≡ requests_look team.now json) }
 {
     match Team::of(alloc, team.as_bytes())? {
-        Some(team) => Ok(Some(Look::Requests(team))),
+        Some(team) => Ok(Some(Look::Requests(team, LookForm::of(json)))),
         None => Ok(None),
     }
 }

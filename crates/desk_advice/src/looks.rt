@@ -34,7 +34,7 @@ fn second_of(showing: Showing) -> Second {
         Showing::Chart | Showing::Message => Second::Message,
         Showing::Node => Second::Node,
         Showing::Who => Second::Word,
-        Showing::TeamBlocks | Showing::TeamMessages => Second::Team,
+        Showing::OfTeam(_) => Second::Team,
         _ => Second::Nothing,
     }
 }

@@ -16,7 +16,7 @@ use std::alloc::{AllocError, Global};
 /// The network that a look is on, if it is on one.
 fn net_of_look(look: &Look) -> Option<&NetName> {
     match look {
-        Look::Nets | Look::Requests(_) => None,
+        Look::Nets | Look::Requests(_, _) => None,
         Look::Table(net)
         | Look::Live(net)
         | Look::Release(net, _)

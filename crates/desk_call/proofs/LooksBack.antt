@@ -6,6 +6,7 @@ use Rattle.std.specs.List.{list_all}
 use Rattle.std.proofs.lemmas.Bool.Decides.{nat_tests}
 use Rattle.httparse.specs.Grammar.{RequestHead}
 use Rattle.httparse.specs.Spans.{name_and_value}
+use Rattle.office_types.specs.Overview.{of_all_teams, overview_word}
 use Rattle.office_types.specs.PlainName.{IsPlainName}
 use Rattle.office_types.specs.declared.look.Look.{Look}
 use Rattle.office_types.specs.declared.look.Look.TheVariants as look
@@ -87,21 +88,12 @@ release_back n small h =
 
 net_back : (net : List ℕ) → IsPlainName net → (l : NetLook) → IsNetLook l → CanBeAskedOfNet l
     → look_of (net_showing l) (net_target net (part_of l)) ≡ Some (look.Net net l Lines)
-net_back net is of_net.State h can = rw (net_before net (codes "state") is) refl
-net_back net is (of_net.Blocks None) h can = rw (net_before net (codes "blocks") is) refl
-net_back net is (of_net.Blocks (Some team)) h can =
+net_back net is (of_net.Overview o) h can = rw (net_before net (overview_word o) is) refl
+net_back net is (of_net.OfTeam o team) h can =
     rw (
-      between_words net (codes "teams") team (codes "blocks") is teams (plain_part team h),
+      between_words net (codes "teams") team (overview_word (of_all_teams o)) is teams (plain_part team h),
       h,
-      net_before net (codes "teams/" ++ (team ++ codes "/blocks")) is,
-    )
-    refl
-net_back net is (of_net.Messages None) h can = rw (net_before net (codes "messages") is) refl
-net_back net is (of_net.Messages (Some team)) h can =
-    rw (
-      between_words net (codes "teams") team (codes "messages") is teams (plain_part team h),
-      h,
-      net_before net (codes "teams/" ++ (team ++ codes "/messages")) is,
+      net_before net (codes "teams/" ++ (team ++ (codes "/" ++ overview_word (of_all_teams o)))) is,
     )
     refl
 net_back net is (of_net.Message name) h can =
@@ -111,9 +103,6 @@ net_back net is (of_net.Message name) h can =
       net_before net (codes "messages/" ++ (name ++ codes "/signals")) is,
     )
     refl
-net_back net is of_net.Held h can = rw (net_before net (codes "held") is) refl
-net_back net is of_net.Releases h can = rw (net_before net (codes "releases") is) refl
-net_back net is of_net.Nodes h can = rw (net_before net (codes "nodes") is) refl
 net_back net is (of_net.Node name) h can =
     rw (
       after_word net (codes "nodes") name is nodes (name_part name h),
@@ -121,7 +110,6 @@ net_back net is (of_net.Node name) h can =
       net_before net (codes "nodes/" ++ name) is,
     )
     refl
-net_back net is of_net.Spns h can = rw (net_before net (codes "spns") is) refl
 net_back net is (of_net.Who wanted) h can =
     rw (
       after_word net (codes "who") (word_of wanted) is who (word_part wanted h),
@@ -167,12 +155,13 @@ reads_back (look.ReleasePage net n) is can =
       release_back n is.1 can,
     )
     refl
-reads_back (look.Requests team) is can =
+reads_back (look.Requests team form) is can =
     rw (first_alone (codes "requests") team requests (plain_part team is), is) refl
 
 -- whether JSON is wanted is said once
 formed_twice : (json : Bool) (l : Look) → formed json (formed false l) ≡ formed json l
 formed_twice json (look.Net net l form) = refl
+formed_twice json (look.Requests team form) = refl
 formed_twice json l = refl
 
 gets_back : (h : RequestHead) (rest : List ℕ) (l : Look) → h.method ≡ codes "GET" → h.target ≡ target_of l

@@ -10,6 +10,8 @@ use Rattle.desk_head.specs.declared.endpoint.Showing.TheVariants as showing
 use Rattle.desk_call.specs.Call.{arrives, arrival_of, call_by, fails, look_of}
 use Rattle.office_types.specs.declared.look.Look.TheVariants as look
 use Rattle.office_types.specs.declared.look.LookForm.TheVariants.{Lines}
+use Rattle.office_types.specs.declared.overview.Overview.TheVariants as overview
+use Rattle.office_types.specs.declared.overview.TeamOverview.TheVariants as of_team
 use Rattle.office_types.specs.declared.look.NetLook.TheVariants as of_net
 use Rattle.office_types.specs.declared.sought.Sought.TheVariants as sought
 
@@ -60,16 +62,16 @@ looks : look_of showing.Nets (codes "/nets")
 unfolding is_name
 looks = refl
 
-of_a_network : look_of showing.State (codes "/nets/truck/state")
-    ∷ look_of showing.TeamBlocks (codes "/nets/truck/teams/engine/blocks")
-    ∷ look_of showing.TeamBlocks (codes "/nets/truck/teams/Engine/blocks")
+of_a_network : look_of (showing.Overview overview.State) (codes "/nets/truck/state")
+    ∷ look_of (showing.OfTeam of_team.Blocks) (codes "/nets/truck/teams/engine/blocks")
+    ∷ look_of (showing.OfTeam of_team.Blocks) (codes "/nets/truck/teams/Engine/blocks")
     ∷ look_of showing.Who (codes "/nets/truck/who/pgn=65300")
     ∷ look_of showing.Who (codes "/nets/truck/who/0x18ff0000")
     ∷ look_of showing.Who (codes "/nets/truck/who/65300")
     ∷ look_of showing.Who (codes "/nets/truck/who/pgn=")
     ∷ []
-    ≡ Some (look.Net (codes "truck") of_net.State Lines)
-    ∷ Some (look.Net (codes "truck") (of_net.Blocks (Some (codes "engine"))) Lines) ∷ None
+    ≡ Some (look.Net (codes "truck") (of_net.Overview overview.State) Lines)
+    ∷ Some (look.Net (codes "truck") (of_net.OfTeam of_team.Blocks (codes "engine")) Lines) ∷ None
     ∷ Some (look.Net (codes "truck") (of_net.Who (sought.Group 65300)) Lines)
     ∷ Some (look.Net (codes "truck") (of_net.Who (sought.Hexadecimal 419364864)) Lines)
     ∷ Some (look.Net (codes "truck") (of_net.Who (sought.Decimal 65300)) Lines) ∷ None ∷ []
@@ -78,10 +80,10 @@ of_a_network = refl
 
 of_a_team : look_of showing.Requests (codes "/requests/engine")
     ∷ look_of showing.Requests (codes "/requests/Engine")
-    ∷ look_of showing.TeamMessages (codes "/nets/truck/teams/engine/messages")
+    ∷ look_of (showing.OfTeam of_team.Messages) (codes "/nets/truck/teams/engine/messages")
     ∷ []
-    ≡ Some (look.Requests (codes "engine")) ∷ None
-    ∷ Some (look.Net (codes "truck") (of_net.Messages (Some (codes "engine"))) Lines) ∷ []
+    ≡ Some (look.Requests (codes "engine") Lines) ∷ None
+    ∷ Some (look.Net (codes "truck") (of_net.OfTeam of_team.Messages (codes "engine")) Lines) ∷ []
 of_a_team = refl
 
 compared : map (look_of showing.Compare) (codes "/nets/truck/compare/1/2" ∷ codes "/nets/truck/compare/0/65536"

@@ -32,6 +32,7 @@ use Rattle.office_types.specs.declared.look.Look.TheVariants as look
 use Rattle.office_types.specs.declared.look.LookForm.TheVariants.{Lines}
 use Rattle.office_types.specs.declared.look.NetLook.{NetLook}
 use Rattle.office_types.specs.declared.look.NetLook.TheVariants as of_net
+use Rattle.office_types.specs.declared.overview.TeamOverview.{TeamOverview}
 use Rattle.office_types.specs.Look.{formed}
 use Rattle.office_types.specs.Sought.{sought_of}
 
@@ -97,14 +98,11 @@ abbrev pub compare_in : List ℕ → Option Look
 compare_in target = whole_of (second_parameter target) >>= λ old. whole_of (third_parameter target)
     >>= λ new. net_look_in target (of_net.Compare old new)
 
-abbrev pub team_blocks_in : List ℕ → Option Look
-team_blocks_in target = team_in target >>= λ team. net_look_in target (of_net.Blocks (Some team))
-
-abbrev pub team_messages_in : List ℕ → Option Look
-team_messages_in target = team_in target >>= λ team. net_look_in target (of_net.Messages (Some team))
+abbrev pub of_team_in : List ℕ → TeamOverview → Option Look
+of_team_in target o = team_in target >>= λ team. net_look_in target (of_net.OfTeam o team)
 
 abbrev pub requests_in : List ℕ → Option Look
-requests_in target = option_map look.Requests (plain_name_of (first_parameter target))
+requests_in target = option_map (λ team. look.Requests team Lines) (plain_name_of (first_parameter target))
 
 -- what a target shows, where its parameters have their forms: else there can be nothing there
 abbrev pub look_of : Showing → List ℕ → Option Look
@@ -113,21 +111,14 @@ look_of showing.Table target = option_map look.Table (net_in target)
 look_of showing.Live target = option_map look.Live (net_in target)
 look_of showing.Release target = release_in target
 look_of showing.Chart target = chart_in target
-look_of showing.State target = net_look_in target of_net.State
-look_of showing.Blocks target = net_look_in target (of_net.Blocks None)
-look_of showing.Messages target = net_look_in target (of_net.Messages None)
-look_of showing.Held target = net_look_in target of_net.Held
-look_of showing.Releases target = net_look_in target of_net.Releases
-look_of showing.Nodes target = net_look_in target of_net.Nodes
-look_of showing.Spns target = net_look_in target of_net.Spns
+look_of (showing.Overview o) target = net_look_in target (of_net.Overview o)
+look_of (showing.OfTeam o) target = of_team_in target o
 look_of showing.Message target = message_in target
 look_of showing.Node target = node_in target
 look_of showing.Who target = who_in target
 look_of showing.Compare target = compare_in target
 look_of showing.Page target = option_map look.Page (net_in target)
 look_of showing.ReleasePage target = release_page_in target
-look_of showing.TeamBlocks target = team_blocks_in target
-look_of showing.TeamMessages target = team_messages_in target
 look_of showing.Requests target = requests_in target
 
 -- JSON is wanted: there is one header Accept, and it names that alone

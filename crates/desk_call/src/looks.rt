@@ -1,13 +1,13 @@
 //! What targets show.
 ghost use Rattle.office_fields.specs.Reading.{ReadsField};
-ghost use Rattle.desk_call.specs.Call.{chart_in, compare_in, look_of, message_in, net_look_in, node_in, release_in};
-ghost use Rattle.desk_call.specs.Call.{release_page_in, requests_in, team_blocks_in, team_in, team_messages_in};
+ghost use Rattle.desk_call.specs.Call.{chart_in, compare_in, look_of, message_in, net_look_in, node_in, of_team_in};
+ghost use Rattle.desk_call.specs.Call.{release_in, release_page_in, requests_in, team_in};
 ghost use Rattle.desk_call.specs.Call.{who_in};
 
 use crate::values::{name_of, net_in, number_of, release_number, sought_of};
 use desk_head::{Showing, first_parameter, second_parameter, third_parameter};
 use office_fields::{Unread, team_of};
-use office_types::{Look, LookForm, NetLook, Team};
+use office_types::{Look, LookForm, NetLook, Team, TeamOverview};
 use std::alloc::Global;
 
 fn release_in(alloc: Global, target: &[u8]) -> Result<Look, Unread>
@@ -77,24 +77,18 @@ fn compare_in(alloc: Global, target: &[u8]) -> Result<Look, Unread>
     net_look(alloc, target, NetLook::Compare(old, new))
 }
 
-fn team_blocks_in(alloc: Global, target: &[u8]) -> Result<Look, Unread>
-    ensures { ReadsField (team_blocks_in target.now) result }
+fn of_team_in(alloc: Global, target: &[u8], overview: TeamOverview) -> Result<Look, Unread>
+    ensures { ReadsField (of_team_in target.now overview) result }
 {
     let team = team_in(alloc, target)?;
-    net_look(alloc, target, NetLook::Blocks(Some(team)))
-}
-
-fn team_messages_in(alloc: Global, target: &[u8]) -> Result<Look, Unread>
-    ensures { ReadsField (team_messages_in target.now) result }
-{
-    let team = team_in(alloc, target)?;
-    net_look(alloc, target, NetLook::Messages(Some(team)))
+    net_look(alloc, target, NetLook::OfTeam(overview, team))
 }
 
 fn requests_in(alloc: Global, target: &[u8]) -> Result<Look, Unread>
     ensures { ReadsField (requests_in target.now) result }
 {
-    Ok(Look::Requests(team_of(alloc, first_parameter(target))?))
+    let team = team_of(alloc, first_parameter(target))?;
+    Ok(Look::Requests(team, LookForm::Lines))
 }
 
 /// What the target shows, as lines where it has other forms. `Wrong` where a parameter hasn't its form.
@@ -107,21 +101,14 @@ pub(crate) fn look_of(alloc: Global, showing: Showing, target: &[u8]) -> Result<
         Showing::Live => Ok(Look::Live(net_in(alloc, target)?)),
         Showing::Release => release_in(alloc, target),
         Showing::Chart => chart_in(alloc, target),
-        Showing::State => net_look(alloc, target, NetLook::State),
-        Showing::Blocks => net_look(alloc, target, NetLook::Blocks(None)),
-        Showing::Messages => net_look(alloc, target, NetLook::Messages(None)),
-        Showing::Held => net_look(alloc, target, NetLook::Held),
-        Showing::Releases => net_look(alloc, target, NetLook::Releases),
-        Showing::Nodes => net_look(alloc, target, NetLook::Nodes),
-        Showing::Spns => net_look(alloc, target, NetLook::Spns),
+        Showing::Overview(overview) => net_look(alloc, target, NetLook::Overview(overview)),
+        Showing::OfTeam(overview) => of_team_in(alloc, target, overview),
         Showing::Message => message_in(alloc, target),
         Showing::Node => node_in(alloc, target),
         Showing::Who => who_in(alloc, target),
         Showing::Compare => compare_in(alloc, target),
         Showing::Page => Ok(Look::Page(net_in(alloc, target)?)),
         Showing::ReleasePage => release_page_in(alloc, target),
-        Showing::TeamBlocks => team_blocks_in(alloc, target),
-        Showing::TeamMessages => team_messages_in(alloc, target),
         Showing::Requests => requests_in(alloc, target),
     }
 }

@@ -1,5 +1,5 @@
 -- The target of a look can be asked for.
-use Rattle.std.proofs.Common.{◌≡◌, ◌≤◌, ◌<◌, ◌^◌, ◌+◌, ℕ, true, List, ◌∷◌, ◌++◌, length, None, Some, IsTrue, codes}
+use Rattle.std.proofs.Common.{◌≡◌, ◌≤◌, ◌<◌, ◌^◌, ◌+◌, ℕ, true, List, ◌∷◌, ◌++◌, length, IsTrue, codes}
 use Rattle.std.proofs.Common.{refl, arith, length-append}
 use Rattle.std.specs.Char.{is_ascii_graphic}
 use Rattle.std.specs.Fmt.{decimal}
@@ -7,7 +7,10 @@ use Rattle.std.specs.List.{list_all}
 use Rattle.std.proofs.lemmas.Bool.Decides.{nat_tests}
 use Rattle.std.proofs.lemmas.Fmt.{length-decimal-le}
 use Rattle.std.proofs.lemmas.List.Folds.{list_all-append}
+use Rattle.office_types.specs.Overview.{of_all_teams, overview_word}
 use Rattle.office_types.specs.PlainName.{IsPlainName}
+use Rattle.office_types.specs.declared.overview.Overview.{Overview}
+use Rattle.office_types.specs.declared.overview.Overview.TheVariants as overview
 use Rattle.office_types.specs.declared.look.Look.{Look}
 use Rattle.office_types.specs.declared.look.Look.TheVariants as look
 use Rattle.office_types.specs.declared.look.NetLook.{NetLook}
@@ -69,25 +72,21 @@ teams = a_word (codes "/teams/") (omega arith) refl
 messages : Fits 20 (codes "/messages/")
 messages = a_word (codes "/messages/") (omega arith) refl
 
+overview_fits : (o : Overview) → Fits 20 (codes "/" ++ overview_word o)
+overview_fits overview.State = a_word (codes "/state") (omega arith) refl
+overview_fits o = a_word (codes "/" ++ overview_word o) (omega arith) refl
+
 part_fits : (l : NetLook) → IsNetLook l → Fits 200 (part_of l)
-part_fits of_net.State h = alone (codes "/state") (omega arith) refl
-part_fits (of_net.Blocks None) h = alone (codes "/blocks") (omega arith) refl
-part_fits (of_net.Blocks (Some team)) h =
-    between (codes "/teams/") team (codes "/blocks") teams (plain_part team h)
-    (a_word (codes "/blocks") (omega arith) refl)
-part_fits (of_net.Messages None) h = alone (codes "/messages") (omega arith) refl
-part_fits (of_net.Messages (Some team)) h =
-    between (codes "/teams/") team (codes "/messages") teams (plain_part team h)
-    (a_word (codes "/messages") (omega arith) refl)
+part_fits (of_net.Overview o) h =
+    record { few = omega (arith, (overview_fits o).few); visible = (overview_fits o).visible }
+part_fits (of_net.OfTeam o team) h =
+    between (codes "/teams/") team (codes "/" ++ overview_word (of_all_teams o)) teams (plain_part team h)
+    (overview_fits (of_all_teams o))
 part_fits (of_net.Message name) h =
     between (codes "/messages/") name (codes "/signals") messages (name_part name h)
     (a_word (codes "/signals") (omega arith) refl)
-part_fits of_net.Held h = alone (codes "/held") (omega arith) refl
-part_fits of_net.Releases h = alone (codes "/releases") (omega arith) refl
-part_fits of_net.Nodes h = alone (codes "/nodes") (omega arith) refl
 part_fits (of_net.Node name) h =
     after (codes "/nodes/") name (a_word (codes "/nodes/") (omega arith) refl) (name_part name h)
-part_fits of_net.Spns h = alone (codes "/spns") (omega arith) refl
 part_fits (of_net.Who wanted) h =
     after (codes "/who/") (word_of wanted) (a_word (codes "/who/") (omega arith) refl) (word_part wanted h)
 part_fits (of_net.Compare old new) h =
@@ -123,5 +122,5 @@ can_be_asked (look.ReleasePage net n) is =
     in_a_net net (codes "/releases/" ++ (decimal n ++ codes "/page")) is.0
     (between (codes "/releases/") (decimal n) (codes "/page") (a_word (codes "/releases/") (omega arith) refl)
     (decimal_part n is.1) (a_word (codes "/page") (omega arith) refl))
-can_be_asked (look.Requests team) is =
+can_be_asked (look.Requests team form) is =
     of_one (codes "requests/") team (a_word (codes "/requests/") (omega arith) refl) (plain_part team is)

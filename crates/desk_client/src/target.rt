@@ -1,7 +1,6 @@
 //! The target of a look.
-ghost use Rattle.std.specs.Prelude.{◌≡◌, ◌<◌, ◌^◌, ◌++◌, IfOk, IfSome, IsTrue};
-ghost use Rattle.office_types.specs.PlainName.{IsPlainName};
-ghost use Rattle.desk_head.specs.Asked.{IsLook, IsNetLook, IsSought, net_target, of_team, part_of, target_of, word_of};
+ghost use Rattle.std.specs.Prelude.{◌≡◌, ◌<◌, ◌^◌, ◌++◌, IfOk, IsTrue, codes};
+ghost use Rattle.desk_head.specs.Asked.{IsLook, IsNetLook, IsSought, net_target, part_of, target_of, word_of};
 ghost use Rattle.desk_client.specs.Request.{is_target};
 
 use office_types::{Look, NetLook, Sought, Team};
@@ -41,13 +40,12 @@ fn word_of(alloc: Global, wanted: &Sought) -> Result<Vec<u8>, AllocError>
     }
 }
 
-fn of_team(alloc: Global, team: &Option<Team>, kind: &[u8]) -> Result<Vec<u8>, AllocError>
-    ensures { IfOk result (λ part. part.items ≡ of_team team.now kind.now) }
+/// The part for the overview of this word of what is the team's.
+fn of_team(alloc: Global, team: &Team, word: &str) -> Result<Vec<u8>, AllocError>
+    ensures { IfOk result (λ part. part.items ≡ codes "/teams/" ++ (team.now ++ (codes "/" ++ word.now))) }
 {
-    match team {
-        None => Vec::from_slice(alloc, kind),
-        Some(team) => joined_three(alloc, b"/teams/", team.as_bytes(), kind),
-    }
+    let word = joined(alloc, b"/", word.as_bytes())?;
+    joined_three(alloc, b"/teams/", team.as_bytes(), &word)
 }
 
 /// What follows the name of the network.
@@ -55,15 +53,10 @@ fn part_of(alloc: Global, look: &NetLook) -> Result<Vec<u8>, AllocError>
     ensures { IfOk result (λ part. part.items ≡ part_of look.now) }
 {
     match look {
-        NetLook::State => Vec::from_slice(alloc, b"/state"),
-        NetLook::Blocks(team) => of_team(alloc, team, b"/blocks"),
-        NetLook::Messages(team) => of_team(alloc, team, b"/messages"),
+        NetLook::Overview(overview) => joined(alloc, b"/", overview.word().as_bytes()),
+        NetLook::OfTeam(overview, team) => of_team(alloc, team, overview.of_all_teams().word()),
         NetLook::Message(name) => joined_three(alloc, b"/messages/", name.as_bytes(), b"/signals"),
-        NetLook::Held => Vec::from_slice(alloc, b"/held"),
-        NetLook::Releases => Vec::from_slice(alloc, b"/releases"),
-        NetLook::Nodes => Vec::from_slice(alloc, b"/nodes"),
         NetLook::Node(name) => joined(alloc, b"/nodes/", name.as_bytes()),
-        NetLook::Spns => Vec::from_slice(alloc, b"/spns"),
         NetLook::Who(wanted) => joined(alloc, b"/who/", &word_of(alloc, wanted)?),
         NetLook::Compare(old, new) => Ok(format!(in alloc; "/compare/{old}/{new}")?.into_bytes()),
     }
@@ -96,7 +89,7 @@ fn text_of(alloc: Global, look: &Look) -> Result<Vec<u8>, AllocError>
             let part = format!(in alloc; "/releases/{number}/page")?;
             net_target(alloc, net.as_bytes(), part.as_bytes())
         }
-        Look::Requests(team) => joined(alloc, b"/requests/", team.as_bytes()),
+        Look::Requests(team, _) => joined(alloc, b"/requests/", team.as_bytes()),
     }
 }
 
@@ -122,19 +115,14 @@ fn is_sought(wanted: &Sought)
     }
 }
 
-fn is_team(team: &Option<Team>)
-    ensures { IfSome team.now IsPlainName }
-{
-    if let Some(team) = team {
-        team.as_bytes();
-    }
-}
-
 fn is_net_look(look: &NetLook)
     ensures { IsNetLook look.now }
 {
     match look {
-        NetLook::Blocks(team) | NetLook::Messages(team) => is_team(team),
+        NetLook::Overview(_) => {}
+        NetLook::OfTeam(_, team) => {
+            team.as_bytes();
+        }
         NetLook::Message(name) | NetLook::Node(name) => {
             name.as_bytes();
         }
@@ -143,7 +131,6 @@ fn is_net_look(look: &NetLook)
             is_small(*old);
             is_small(*new);
         }
-        NetLook::State | NetLook::Held | NetLook::Releases | NetLook::Nodes | NetLook::Spns => {}
     }
 }
 
@@ -167,15 +154,15 @@ fn is_look(look: &Look)
             net.as_bytes();
             is_net_look(look);
         }
-        Look::Requests(team) => {
+        Look::Requests(team, _) => {
             team.as_bytes();
         }
     }
 }
 
-/// The target of the look, which can be asked for: `/nets/truck/state` for the state of `truck`. A desk that is asked for
-/// it in the look's form reads that look, by the laws `targets_lead_there` and `looks_come_back`. The error is out of
-/// memory.
+/// The target of the look, as a request can have it: `/nets/truck/state` for the state of `truck`. A desk reads the look
+/// from it and from the form that the request names, by the laws `targets_lead_there` and `looks_come_back`. The error is
+/// out of memory.
 #[tactic(auto, using(crate::proofs::Targets::can_be_asked))]
 pub fn target_of(alloc: Global, look: &Look) -> Result<Vec<u8>, AllocError>
     ensures text { IfOk result (λ target. target.items ≡ target_of look.now) }

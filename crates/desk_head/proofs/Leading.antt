@@ -6,7 +6,12 @@ use Rattle.matchit.specs.Router.{RouteOf}
 use Rattle.matchit.specs.Rows.{RowsOf, param_token}
 use Rattle.matchit.specs.Seek.{own, step, with_suffix}
 use Rattle.matchit.proofs.OnLiterals.{matchit_on_literals}
+use Rattle.office_types.specs.Overview.{of_all_teams, overview_word}
 use Rattle.office_types.specs.PlainName.{IsPlainName}
+use Rattle.office_types.specs.declared.overview.Overview.{Overview}
+use Rattle.office_types.specs.declared.overview.Overview.TheVariants as overview
+use Rattle.office_types.specs.declared.overview.TeamOverview.{TeamOverview}
+use Rattle.office_types.specs.declared.overview.TeamOverview.TheVariants as of_team
 use Rattle.office_types.specs.declared.look.Look.TheVariants as look
 use Rattle.office_types.specs.declared.look.NetLook.{NetLook}
 use Rattle.office_types.specs.declared.look.NetLook.TheVariants as of_net
@@ -99,33 +104,10 @@ page_ends : EndsNet shown.Page (codes "/page")
 unfolding the_routes with_route matchit_on_literals
 page_ends = refl
 
-state_ends : EndsNet shown.State (codes "/state")
+overview_ends : (o : Overview) → EndsNet (shown.Overview o) (codes "/" ++ overview_word o)
 unfolding the_routes with_route matchit_on_literals
-state_ends = refl
-
-blocks_ends : EndsNet shown.Blocks (codes "/blocks")
-unfolding the_routes with_route matchit_on_literals
-blocks_ends = refl
-
-messages_ends : EndsNet shown.Messages (codes "/messages")
-unfolding the_routes with_route matchit_on_literals
-messages_ends = refl
-
-held_ends : EndsNet shown.Held (codes "/held")
-unfolding the_routes with_route matchit_on_literals
-held_ends = refl
-
-releases_ends : EndsNet shown.Releases (codes "/releases")
-unfolding the_routes with_route matchit_on_literals
-releases_ends = refl
-
-nodes_ends : EndsNet shown.Nodes (codes "/nodes")
-unfolding the_routes with_route matchit_on_literals
-nodes_ends = refl
-
-spns_ends : EndsNet shown.Spns (codes "/spns")
-unfolding the_routes with_route matchit_on_literals
-spns_ends = refl
+overview_ends overview.State = refl
+overview_ends o = refl
 
 -- ---- things of a network, by their names
 
@@ -242,13 +224,11 @@ release_page_end : EndsAs shown.ReleasePage (steps (codes "/page") (after_slash 
 unfolding the_routes with_route matchit_on_literals
 release_page_end = refl
 
-team_blocks_end : EndsAs shown.TeamBlocks (steps (codes "/blocks") (after_slash (after_word (codes "/teams/"))))
+of_team_ends : (o : TeamOverview) → EndsAs (shown.OfTeam o)
+    (steps (codes "/" ++ overview_word (of_all_teams o)) (after_slash (after_word (codes "/teams/"))))
 unfolding the_routes with_route matchit_on_literals
-team_blocks_end = refl
-
-team_messages_end : EndsAs shown.TeamMessages (steps (codes "/messages") (after_slash (after_word (codes "/teams/"))))
-unfolding the_routes with_route matchit_on_literals
-team_messages_end = refl
+of_team_ends of_team.Blocks = refl
+of_team_ends of_team.Messages = refl
 
 -- ---- what isn't below a network
 
@@ -288,24 +268,15 @@ of_a_team team is =
 
 in_a_net : (net : List ℕ) → IsPlainName net → (l : NetLook) → IsNetLook l
     → endpoint_of (net_target net (part_of l)) ≡ Some (Shows (net_showing l))
-in_a_net net is of_net.State h = ends_net shown.State net (codes "state") is state_ends
-in_a_net net is (of_net.Blocks None) h = ends_net shown.Blocks net (codes "blocks") is blocks_ends
-in_a_net net is (of_net.Blocks (Some team)) h =
-    more_of_it shown.TeamBlocks net (codes "teams/") team (codes "blocks") is (plain_part team h) teams_branch
-    teams_go_on team_blocks_end
-in_a_net net is (of_net.Messages None) h = ends_net shown.Messages net (codes "messages") is messages_ends
-in_a_net net is (of_net.Messages (Some team)) h =
-    more_of_it shown.TeamMessages net (codes "teams/") team (codes "messages") is (plain_part team h) teams_branch
-    teams_go_on team_messages_end
+in_a_net net is (of_net.Overview o) h = ends_net (shown.Overview o) net (overview_word o) is (overview_ends o)
+in_a_net net is (of_net.OfTeam o team) h =
+    more_of_it (shown.OfTeam o) net (codes "teams/") team (overview_word (of_all_teams o)) is (plain_part team h)
+    teams_branch teams_go_on (of_team_ends o)
 in_a_net net is (of_net.Message name) h =
     more_of_it shown.Message net (codes "messages/") name (codes "signals") is (name_part name h) messages_branch
     messages_go_on signals_end
-in_a_net net is of_net.Held h = ends_net shown.Held net (codes "held") is held_ends
-in_a_net net is of_net.Releases h = ends_net shown.Releases net (codes "releases") is releases_ends
-in_a_net net is of_net.Nodes h = ends_net shown.Nodes net (codes "nodes") is nodes_ends
 in_a_net net is (of_net.Node name) h =
     a_thing shown.Node net (codes "nodes/") name is (name_part name h) nodes_branch nodes_end
-in_a_net net is of_net.Spns h = ends_net shown.Spns net (codes "spns") is spns_ends
 in_a_net net is (of_net.Who wanted) h =
     a_thing shown.Who net (codes "who/") (word_of wanted) is (word_part wanted h) who_branch who_end
 in_a_net net is (of_net.Compare old new) h =
@@ -326,4 +297,4 @@ targets_lead_there (look.Page net) is = ends_net shown.Page net (codes "page") i
 targets_lead_there (look.ReleasePage net n) is =
     more_of_it shown.ReleasePage net (codes "releases/") (decimal n) (codes "page") is.0 (decimal_part n is.1)
     releases_branch releases_go_on release_page_end
-targets_lead_there (look.Requests team) is = of_a_team team is
+targets_lead_there (look.Requests team form) is = of_a_team team is

@@ -6,6 +6,8 @@ use Rattle.matchit.proofs.OnLiterals.{matchit_on_literals}
 use Rattle.dbc_words.specs.Name.{is_name}
 use Rattle.office_types.specs.declared.look.Look.TheVariants as look
 use Rattle.office_types.specs.declared.look.LookForm.TheVariants.{Lines}
+use Rattle.office_types.specs.declared.overview.Overview.TheVariants as overview
+use Rattle.office_types.specs.declared.overview.TeamOverview.TheVariants as of_team
 use Rattle.office_types.specs.declared.look.NetLook.TheVariants as of_net
 use Rattle.office_types.specs.declared.sought.Sought.TheVariants as sought
 use Rattle.office_fields.specs.declared.kind.ActionKind.TheVariants as act
@@ -58,9 +60,9 @@ empty_parts = refl
 of_a_network : map endpoint_of (codes "/nets/truck/state" ∷ codes "/nets/truck/blocks" ∷ codes "/nets/truck/messages"
     ∷ codes "/nets/truck/held" ∷ codes "/nets/truck/releases" ∷ codes "/nets/truck/nodes"
     ∷ codes "/nets/truck/spns" ∷ [])
-    ≡ Some (Shows showing.State) ∷ Some (Shows showing.Blocks) ∷ Some (Shows showing.Messages)
-    ∷ Some (Shows showing.Held) ∷ Some (Shows showing.Releases) ∷ Some (Shows showing.Nodes)
-    ∷ Some (Shows showing.Spns) ∷ []
+    ≡ Some (Shows (showing.Overview overview.State)) ∷ Some (Shows (showing.Overview overview.Blocks)) ∷ Some (Shows (showing.Overview overview.Messages))
+    ∷ Some (Shows (showing.Overview overview.Held)) ∷ Some (Shows (showing.Overview overview.Releases)) ∷ Some (Shows (showing.Overview overview.Nodes))
+    ∷ Some (Shows (showing.Overview overview.Spns)) ∷ []
 unfolding endpoint_of the_routes with_route matchit_on_literals
 of_a_network = refl
 
@@ -86,12 +88,12 @@ of_a_message : endpoint_of (codes "/nets/truck/messages/E1/signals") ≡ Some (S
 unfolding is_name
 of_a_message = targets_lead_there (look.Net (codes "truck") (of_net.Message (codes "E1")) Lines) (refl, refl)
 
-blocks_of_a_team : endpoint_of (codes "/nets/truck/teams/engine/blocks") ≡ Some (Shows showing.TeamBlocks)
-blocks_of_a_team = targets_lead_there (look.Net (codes "truck") (of_net.Blocks (Some (codes "engine"))) Lines) (refl, refl)
+blocks_of_a_team : endpoint_of (codes "/nets/truck/teams/engine/blocks") ≡ Some (Shows (showing.OfTeam of_team.Blocks))
+blocks_of_a_team = targets_lead_there (look.Net (codes "truck") (of_net.OfTeam of_team.Blocks (codes "engine")) Lines) (refl, refl)
 
-messages_of_a_team : endpoint_of (codes "/nets/truck/teams/engine/messages") ≡ Some (Shows showing.TeamMessages)
+messages_of_a_team : endpoint_of (codes "/nets/truck/teams/engine/messages") ≡ Some (Shows (showing.OfTeam of_team.Messages))
 messages_of_a_team =
-    targets_lead_there (look.Net (codes "truck") (of_net.Messages (Some (codes "engine"))) Lines) (refl, refl)
+    targets_lead_there (look.Net (codes "truck") (of_net.OfTeam of_team.Messages (codes "engine")) Lines) (refl, refl)
 
 compared : endpoint_of (codes "/nets/truck/compare/1/0") ≡ Some (Shows showing.Compare)
 unfolding digits
@@ -120,13 +122,13 @@ parameters = refl
 
 -- ---- the targets of looks
 
-targets : map target_of (look.Nets ∷ look.Release (codes "truck") 12 ∷ look.Net (codes "truck") of_net.State Lines
-    ∷ look.Net (codes "truck") (of_net.Blocks (Some (codes "engine"))) Lines
+targets : map target_of (look.Nets ∷ look.Release (codes "truck") 12 ∷ look.Net (codes "truck") (of_net.Overview overview.State) Lines
+    ∷ look.Net (codes "truck") (of_net.OfTeam of_team.Blocks (codes "engine")) Lines
     ∷ look.Net (codes "truck") (of_net.Message (codes "E1")) Lines
     ∷ look.Net (codes "truck") (of_net.Who (sought.Hexadecimal 419364864)) Lines
     ∷ look.Net (codes "truck") (of_net.Who (sought.Group 65300)) Lines
     ∷ look.Net (codes "truck") (of_net.Compare 12 0) Lines ∷ look.Page (codes "truck")
-    ∷ look.ReleasePage (codes "truck") 12 ∷ look.Requests (codes "engine") ∷ [])
+    ∷ look.ReleasePage (codes "truck") 12 ∷ look.Requests (codes "engine") Lines ∷ [])
     ≡ codes "/nets" ∷ codes "/nets/truck/releases/12" ∷ codes "/nets/truck/state"
     ∷ codes "/nets/truck/teams/engine/blocks" ∷ codes "/nets/truck/messages/E1/signals"
     ∷ codes "/nets/truck/who/0x18ff0000" ∷ codes "/nets/truck/who/pgn=65300"

@@ -1,7 +1,8 @@
 -- The target at which a look is: the other way round than the routes and their parameters.
-use Rattle.std.specs.Prelude.{◌≡◌, ℕ, ◌<◌, ◌^◌, false, List, ◌++◌, Option, None, Some, IfSome, ⊤, codes, decimal}
+use Rattle.std.specs.Prelude.{◌≡◌, ℕ, ◌<◌, ◌^◌, false, List, ◌++◌, Option, None, Some, ⊤, codes, decimal}
 use Rattle.std.specs.Fmt.{digits}
 use Rattle.dbc_words.specs.Name.{IsName}
+use Rattle.office_types.specs.Overview.{of_all_teams, overview_word}
 use Rattle.office_types.specs.PlainName.{IsPlainName}
 use Rattle.office_types.specs.declared.look.Look.{Look}
 use Rattle.office_types.specs.declared.look.Look.TheVariants as look
@@ -24,22 +25,12 @@ word_of (sought.Decimal n) = decimal n
 word_of (sought.Group n) = codes "pgn=" ++ decimal n
 word_of (sought.Spn n) = codes "spn=" ++ decimal n
 
--- the things of this kind: all, or those of a team
-abbrev pub of_team : Option (List ℕ) → List ℕ → List ℕ
-of_team None kind = kind
-of_team (Some team) kind = codes "/teams/" ++ (team ++ kind)
-
 -- after the name of the network
 abbrev pub part_of : NetLook → List ℕ
-part_of of_net.State = codes "/state"
-part_of (of_net.Blocks team) = of_team team (codes "/blocks")
-part_of (of_net.Messages team) = of_team team (codes "/messages")
+part_of (of_net.Overview o) = codes "/" ++ overview_word o
+part_of (of_net.OfTeam o team) = codes "/teams/" ++ (team ++ (codes "/" ++ overview_word (of_all_teams o)))
 part_of (of_net.Message name) = codes "/messages/" ++ (name ++ codes "/signals")
-part_of of_net.Held = codes "/held"
-part_of of_net.Releases = codes "/releases"
-part_of of_net.Nodes = codes "/nodes"
 part_of (of_net.Node name) = codes "/nodes/" ++ name
-part_of of_net.Spns = codes "/spns"
 part_of (of_net.Who wanted) = codes "/who/" ++ word_of wanted
 part_of (of_net.Compare old new) = codes "/compare/" ++ (decimal old ++ (codes "/" ++ decimal new))
 
@@ -57,22 +48,15 @@ target_of (look.Chart net message) = net_target net (codes "/messages/" ++ messa
 target_of (look.Net net l form) = net_target net (part_of l)
 target_of (look.Page net) = net_target net (codes "/page")
 target_of (look.ReleasePage net n) = net_target net (codes "/releases/" ++ (decimal n ++ codes "/page"))
-target_of (look.Requests team) = codes "/requests/" ++ team
+target_of (look.Requests team form) = codes "/requests/" ++ team
 
 -- ---- what is there
 
 abbrev pub net_showing : NetLook → Showing
-net_showing of_net.State = shown.State
-net_showing (of_net.Blocks None) = shown.Blocks
-net_showing (of_net.Blocks (Some team)) = shown.TeamBlocks
-net_showing (of_net.Messages None) = shown.Messages
-net_showing (of_net.Messages (Some team)) = shown.TeamMessages
+net_showing (of_net.Overview o) = shown.Overview o
+net_showing (of_net.OfTeam o team) = shown.OfTeam o
 net_showing (of_net.Message name) = shown.Message
-net_showing of_net.Held = shown.Held
-net_showing of_net.Releases = shown.Releases
-net_showing of_net.Nodes = shown.Nodes
 net_showing (of_net.Node name) = shown.Node
-net_showing of_net.Spns = shown.Spns
 net_showing (of_net.Who wanted) = shown.Who
 net_showing (of_net.Compare old new) = shown.Compare
 
@@ -86,7 +70,7 @@ showing_of (look.Chart net message) = shown.Chart
 showing_of (look.Net net l form) = net_showing l
 showing_of (look.Page net) = shown.Page
 showing_of (look.ReleasePage net n) = shown.ReleasePage
-showing_of (look.Requests team) = shown.Requests
+showing_of (look.Requests team form) = shown.Requests
 
 -- ---- looks, as their types keep them: names are names, and numbers have 32 bits
 
@@ -98,15 +82,10 @@ IsSought (sought.Group n) = n < 2 ^ 32
 IsSought (sought.Spn n) = n < 2 ^ 32
 
 abbrev pub IsNetLook : NetLook → Type 0
-IsNetLook of_net.State = ⊤
-IsNetLook (of_net.Blocks team) = IfSome team IsPlainName
-IsNetLook (of_net.Messages team) = IfSome team IsPlainName
+IsNetLook (of_net.Overview o) = ⊤
+IsNetLook (of_net.OfTeam o team) = IsPlainName team
 IsNetLook (of_net.Message name) = IsName name
-IsNetLook of_net.Held = ⊤
-IsNetLook of_net.Releases = ⊤
-IsNetLook of_net.Nodes = ⊤
 IsNetLook (of_net.Node name) = IsName name
-IsNetLook of_net.Spns = ⊤
 IsNetLook (of_net.Who wanted) = IsSought wanted
 IsNetLook (of_net.Compare old new) = (old < 2 ^ 32) × (new < 2 ^ 32)
 
@@ -119,7 +98,7 @@ IsLook (look.Chart net message) = IsPlainName net × IsName message
 IsLook (look.Net net l form) = IsPlainName net × IsNetLook l
 IsLook (look.Page net) = IsPlainName net
 IsLook (look.ReleasePage net n) = IsPlainName net × (n < 2 ^ 32)
-IsLook (look.Requests team) = IsPlainName team
+IsLook (look.Requests team form) = IsPlainName team
 
 -- a law: what is at the target of a look shows it
 abbrev pub TargetsLeadThere : Type 0

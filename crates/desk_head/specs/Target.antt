@@ -1,5 +1,5 @@
 -- What is at a target: the routes, and the parts of a target.
-use Rattle.std.specs.Prelude.{ℕ, List, [], Option, Some, None, Result, Ok, Err, codes}
+use Rattle.std.specs.Prelude.{ℕ, List, [], ◌∷◌, Option, Some, None, Result, Ok, Err, codes}
 use Rattle.std.specs.Option.{option_and_then, option_map}
 use Rattle.matchit.specs.Order.{placed}
 use Rattle.matchit.specs.Route.{Scan, parse_route}
@@ -11,6 +11,10 @@ use Rattle.base.specs.Split.{split_once}
 use Rattle.office_fields.specs.Kind.{kind_of_word}
 use Rattle.office_fields.specs.declared.kind.CommandKind.{CommandKind}
 use Rattle.office_fields.specs.declared.kind.CommandKind.TheVariants as command
+use Rattle.office_types.specs.Overview.{overview_path}
+use Rattle.office_types.specs.declared.overview.Overview.{Overview}
+use Rattle.office_types.specs.declared.overview.TeamOverview.TheVariants as of_team
+use Rattle.office_types.specs.declared.overview.TheConstants.{OVERVIEWS}
 use Rattle.desk_head.specs.declared.endpoint.Endpoint.{Endpoint}
 use Rattle.desk_head.specs.declared.endpoint.Endpoint.TheVariants.{Shows, Does}
 use Rattle.desk_head.specs.declared.endpoint.Posting.TheVariants.{Act, Import, Bundle}
@@ -64,22 +68,17 @@ with_sheets rows =
     (with_route (codes "/nets/{net}") (route.Shows shown.Table)
     (with_route (codes "/nets") (route.Shows shown.Nets) rows))))
 
--- what a network has
-abbrev pub with_parts : RowsOf (RouteOf Route) → RowsOf (RouteOf Route)
-with_parts rows =
-    with_route (codes "/nets/{net}/spns") (route.Shows shown.Spns)
-    (with_route (codes "/nets/{net}/nodes") (route.Shows shown.Nodes)
-    (with_route (codes "/nets/{net}/releases") (route.Shows shown.Releases)
-    (with_route (codes "/nets/{net}/held") (route.Shows shown.Held)
-    (with_route (codes "/nets/{net}/messages") (route.Shows shown.Messages)
-    (with_route (codes "/nets/{net}/blocks") (route.Shows shown.Blocks)
-    (with_route (codes "/nets/{net}/state") (route.Shows shown.State) rows))))))
+-- each of these overviews, at its path
+abbrev pub with_overviews : List Overview → RowsOf (RouteOf Route) → RowsOf (RouteOf Route)
+with_overviews [] rows = rows
+with_overviews (o ∷ overviews) rows =
+    with_overviews overviews (with_route (overview_path o) (route.Shows (shown.Overview o)) rows)
 
 -- one thing of a network, two of its sheets, or the things of a team
 abbrev pub with_things : RowsOf (RouteOf Route) → RowsOf (RouteOf Route)
 with_things rows =
-    with_route (codes "/nets/{net}/teams/{team}/messages") (route.Shows shown.TeamMessages)
-    (with_route (codes "/nets/{net}/teams/{team}/blocks") (route.Shows shown.TeamBlocks)
+    with_route (codes "/nets/{net}/teams/{team}/messages") (route.Shows (shown.OfTeam of_team.Messages))
+    (with_route (codes "/nets/{net}/teams/{team}/blocks") (route.Shows (shown.OfTeam of_team.Blocks))
     (with_route (codes "/nets/{net}/compare/{m}/{n}") (route.Shows shown.Compare)
     (with_route (codes "/nets/{net}/who/{word}") (route.Shows shown.Who)
     (with_route (codes "/nets/{net}/nodes/{node}") (route.Shows shown.Node)
@@ -95,7 +94,7 @@ with_pages rows =
 unfoldable pub the_routes : RowsOf (RouteOf Route)
 the_routes =
     with_route (codes "/requests/{team}") (route.Shows shown.Requests)
-    (with_pages (with_things (with_parts (with_sheets (with_route (codes "/bundle/{net}") route.Bundle
+    (with_pages (with_things (with_overviews OVERVIEWS (with_sheets (with_route (codes "/bundle/{net}") route.Bundle
     (with_route (codes "/import/{net}") route.Import (with_route (codes "/do/{command}") route.Do [])))))))
 
 -- the route that the whole target matches

@@ -1,8 +1,9 @@
 //! What is at a target.
 use office_fields::ActionKind;
+use office_types::{Overview, TeamOverview};
 
 /// What a target of `GET` shows.
-#[derive(Clone, Copy, PartialEq, Eq)]
+#[derive(Clone, Copy)]
 pub enum Showing {
     /// `/nets`: the list of networks.
     Nets,
@@ -14,30 +15,16 @@ pub enum Showing {
     Release,
     /// `/nets/{net}/messages/{message}`: the chart of a message.
     Chart,
-    /// `/nets/{net}/state`: what a network has once, and counts.
-    State,
-    /// `/nets/{net}/blocks`: its blocks.
-    Blocks,
-    /// `/nets/{net}/messages`: its live messages, with owners and releases.
-    Messages,
+    /// `/nets/{net}/state` and the like: an overview of a network.
+    Overview(Overview),
     /// `/nets/{net}/messages/{message}/signals`: all of a live message.
     Message,
-    /// `/nets/{net}/held`: its held identifiers.
-    Held,
-    /// `/nets/{net}/releases`: its releases.
-    Releases,
-    /// `/nets/{net}/nodes`: its nodes.
-    Nodes,
     /// `/nets/{net}/nodes/{node}`: what a node sends and receives.
     Node,
-    /// `/nets/{net}/spns`: its suspect parameter numbers.
-    Spns,
     /// `/nets/{net}/who/{word}`: who has a name or a number.
     Who,
-    /// `/nets/{net}/teams/{team}/blocks`: the blocks of a team.
-    TeamBlocks,
-    /// `/nets/{net}/teams/{team}/messages`: the live messages of a team.
-    TeamMessages,
+    /// `/nets/{net}/teams/{team}/blocks` and `/messages`: an overview of what is a team's.
+    OfTeam(TeamOverview),
     /// `/nets/{net}/compare/{m}/{n}`: what changed from one release to another, or to the live sheet.
     Compare,
     /// `/nets/{net}/page`: the live network on one page.

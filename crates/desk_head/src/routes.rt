@@ -1,18 +1,18 @@
 //! The routes.
 ghost use Rattle.std.specs.Prelude.{◌≡◌, IfOk, OnOk, IsUtf8};
 ghost use Rattle.desk_head.specs.Target.{done_by, endpoint_at, endpoint_of, route_of};
-ghost use Rattle.desk_head.specs.Target.{the_routes, with_parts, with_route};
-ghost use Rattle.desk_head.specs.Target.{with_pages, with_sheets, with_things};
+ghost use Rattle.desk_head.specs.Target.{the_routes, with_overviews, with_pages, with_route, with_sheets, with_things};
 
 use crate::endpoint::{Endpoint, Posting, Showing};
 use crate::parts::first_parameter;
 use matchit::{InsertError, Router};
 use office_fields::CommandKind;
+use office_types::{OVERVIEWS, TeamOverview};
 use std::alloc::{AllocError, Global};
 use std::str::from_utf8;
 
 /// A route.
-#[derive(Clone, Copy, PartialEq, Eq)]
+#[derive(Clone, Copy)]
 pub(crate) enum Route {
     /// `/do/{command}`
     Do,
@@ -57,17 +57,13 @@ fn add_sheets(router: &mut Router<Route>) -> Result<(), InsertError>
     Ok(())
 }
 
-/// Adds the routes of what a network has.
-fn add_parts(router: &mut Router<Route>) -> Result<(), InsertError>
-    ensures { OnOk result (router.new ≡ with_parts router.old) }
+/// Adds the routes of overviews.
+fn add_overviews(router: &mut Router<Route>) -> Result<(), InsertError>
+    ensures { OnOk result (router.new ≡ with_overviews OVERVIEWS router.old) }
 {
-    show(router, "/nets/{net}/state", Showing::State)?;
-    show(router, "/nets/{net}/blocks", Showing::Blocks)?;
-    show(router, "/nets/{net}/messages", Showing::Messages)?;
-    show(router, "/nets/{net}/held", Showing::Held)?;
-    show(router, "/nets/{net}/releases", Showing::Releases)?;
-    show(router, "/nets/{net}/nodes", Showing::Nodes)?;
-    show(router, "/nets/{net}/spns", Showing::Spns)?;
+    for overview in &OVERVIEWS {
+        show(router, overview.path(), Showing::Overview(*overview))?;
+    }
     Ok(())
 }
 
@@ -86,12 +82,12 @@ fn add_things(router: &mut Router<Route>) -> Result<(), InsertError>
     show(
         router,
         "/nets/{net}/teams/{team}/blocks",
-        Showing::TeamBlocks,
+        Showing::OfTeam(TeamOverview::Blocks),
     )?;
     show(
         router,
         "/nets/{net}/teams/{team}/messages",
-        Showing::TeamMessages,
+        Showing::OfTeam(TeamOverview::Messages),
     )?;
     Ok(())
 }
@@ -119,7 +115,7 @@ fn router(alloc: Global) -> Result<Router<Route>, InsertError>
     add(&mut router, "/import/{net}", Route::Import)?;
     add(&mut router, "/bundle/{net}", Route::Bundle)?;
     add_sheets(&mut router)?;
-    add_parts(&mut router)?;
+    add_overviews(&mut router)?;
     add_things(&mut router)?;
     add_pages(&mut router)?;
     show(&mut router, "/requests/{team}", Showing::Requests)?;

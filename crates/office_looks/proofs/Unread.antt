@@ -1,5 +1,5 @@
 -- What is shown for a look is the same where no more is read of the network than it depends on.
-use Rattle.std.proofs.Common.{◌≡◌, ◌+◌, ◌++◌, ℕ, Bool, true, false, cond, List, [], ◌∷◌, Some, None, length, map}
+use Rattle.std.proofs.Common.{Option, ◌≡◌, ◌+◌, ◌++◌, ℕ, Bool, true, false, cond, List, [], ◌∷◌, Some, None, length, map}
 use Rattle.std.proofs.Common.{filter, codes, nat_lt, refl, ap, ◌∙◌}
 use Rattle.std.specs.Prelude.{count_by, fold, option_map, sum, not, ◌==◌, if◌then◌else◌}
 use Rattle.std.specs.List.{flat_map}
@@ -19,13 +19,15 @@ use Rattle.office_types.specs.declared.look.LookForm.{LookForm}
 use Rattle.office_types.specs.declared.look.LookForm.TheVariants.{Json, Lines}
 use Rattle.office_types.specs.declared.look.NetLook.{NetLook}
 use Rattle.office_types.specs.declared.look.NetLook.TheVariants as look
+use Rattle.office_types.specs.declared.overview.Overview.TheVariants as overview
+use Rattle.office_types.specs.declared.overview.TeamOverview.TheVariants as of_team
 use Rattle.office_types.specs.declared.state.GrantedBlock.{GrantedBlock}
 use Rattle.office_types.specs.declared.state.LiveMessage.{LiveMessage}
 use Rattle.office_types.specs.declared.state.Net.{Net}
 use Rattle.office_seen.specs.Since.{last_release}
 use Rattle.office_seen.specs.View.{blocks_of, view_of}
 use Rattle.office_seen.specs.declared.view.View.{View}
-use Rattle.office_blocks.specs.Blocks.{block_row, free_count, free_of_form, ident_numbers, is_wanted, live_idents}
+use Rattle.office_blocks.specs.Blocks.{block_row, blocks_table, free_count, free_of_form, ident_numbers, is_wanted, live_idents}
 use Rattle.office_blocks.specs.Blocks.{live_numbers, row_with, spns_of, taken_numbers}
 use Rattle.office_blocks.specs.declared.blocks.TheConstants.{BLOCKS, BLOCK_TOTALS}
 use Rattle.office_looks.specs.Looks.{list_in, shown_of, table_of, text_of}
@@ -241,23 +243,27 @@ all_listed : (l : NetLook) (net : Net) (book : SpnBook) (rs : List Sheet) → rs
 all_listed l net book rs all =
     ap (λ (releases : List Sheet). table_of l (view_of (net_read Whole releases net) book)) all
 
--- the list
-listed : (l : NetLook) (net : Net) (book : SpnBook) (rs : List Sheet) → AreRead (reads_of l).releases net.releases rs
-    → table_of l (view_of (net_read (reads_of l).messages rs net) book) ≡ table_of l (view_of net book)
-listed look.State net book rs read =
-    ap (λ n. Some (state_with (view_of net book) n (last_release rs))) read.0
-    ∙ ap (λ s. Some (state_with (view_of net book) (length net.releases) s)) read.1
-listed (look.Blocks team) net book rs read =
+-- blocks: all, or those of the team
+blocks_listed : (team : Option (List ℕ)) (net : Net) (book : SpnBook) (rs : List Sheet)
+    → Some (blocks_table team (view_of (net_read Rows rs net) book)) ≡ Some (blocks_table team (view_of net book))
+blocks_listed team net book rs =
     ap Some
     (blocks_same (view_of (net_read Rows rs net) book) (view_of net book) (rows_alike rs net book)
     (filter (is_wanted team) (blocks_of net book)))
-listed (look.Messages team) net book rs read = all_listed (look.Messages team) net book rs read
-listed (look.Message name) net book rs read = all_listed (look.Message name) net book rs read
-listed look.Held net book rs read =
-    ap (λ (releases : List Sheet). table_of look.Held (view_of (net_read Nothing releases net) book)) read
-listed look.Releases net book rs read =
-    ap (λ (releases : List Sheet). table_of look.Releases (view_of (net_read Nothing releases net) book)) read
-listed look.Nodes net book rs read =
+
+-- the list
+listed : (l : NetLook) (net : Net) (book : SpnBook) (rs : List Sheet) → AreRead (reads_of l).releases net.releases rs
+    → table_of l (view_of (net_read (reads_of l).messages rs net) book) ≡ table_of l (view_of net book)
+listed (look.Overview overview.State) net book rs read =
+    ap (λ n. Some (state_with (view_of net book) n (last_release rs))) read.0
+    ∙ ap (λ s. Some (state_with (view_of net book) (length net.releases) s)) read.1
+listed (look.Overview overview.Blocks) net book rs read = blocks_listed None net book rs
+listed (look.OfTeam of_team.Blocks team) net book rs read = blocks_listed (Some team) net book rs
+listed (look.Overview overview.Held) net book rs read =
+    ap (λ (releases : List Sheet). table_of (look.Overview overview.Held) (view_of (net_read Nothing releases net) book)) read
+listed (look.Overview overview.Releases) net book rs read =
+    ap (λ (releases : List Sheet). table_of (look.Overview overview.Releases) (view_of (net_read Nothing releases net) book)) read
+listed (look.Overview overview.Nodes) net book rs read =
     let nodes = net.head.frame.nodes in
     let list = λ (rows : List (List Fact)). Some (plain NODES rows NODE_TOTALS (of_number (length nodes) ∷ [])) in
     ap (λ ms. list (map (node_row ms) nodes)) (messages_with received_of net.live)
@@ -268,9 +274,7 @@ listed (look.Node name) net book rs read =
     let there = has_node net.head.frame.nodes name in
     ap (λ ms. if there then Some (uses_table name ms) else None) (messages_with received_of net.live)
     ∙ ap (λ (t : Listing). if there then Some t else None) (uses_same name (live_messages net.live))
-listed look.Spns net book rs read = all_listed look.Spns net book rs read
-listed (look.Who sought) net book rs read = all_listed (look.Who sought) net book rs read
-listed (look.Compare old new) net book rs read = all_listed (look.Compare old new) net book rs read
+listed l net book rs read = all_listed l net book rs read
 
 -- its lines
 as_lines : (l : NetLook) (net : Net) (book : SpnBook) (rs : List Sheet) → AreRead (reads_of l).releases net.releases rs

@@ -5,6 +5,10 @@ use Rattle.office_types.specs.declared.look.LookForm.{LookForm}
 use Rattle.office_types.specs.declared.look.LookForm.TheVariants.{Json, Lines}
 use Rattle.office_types.specs.declared.look.NetLook.{NetLook}
 use Rattle.office_types.specs.declared.look.NetLook.TheVariants as look
+use Rattle.office_types.specs.declared.overview.Overview.{Overview}
+use Rattle.office_types.specs.declared.overview.Overview.TheVariants as overview
+use Rattle.office_types.specs.declared.overview.TeamOverview.{TeamOverview}
+use Rattle.office_types.specs.declared.overview.TeamOverview.TheVariants as of_team
 use Rattle.office_types.specs.declared.state.Net.{Net}
 use Rattle.office_seen.specs.View.{view_of}
 use Rattle.office_seen.specs.declared.view.View.{View}
@@ -22,17 +26,26 @@ use Rattle.rows.specs.Json.{table_json}
 use Rattle.rows.specs.Lines.{table_text}
 use Rattle.rows.specs.Table.{Listing}
 
+abbrev pub overview_table : Overview → View → Listing
+overview_table overview.State view = state_table view
+overview_table overview.Blocks view = blocks_table None view
+overview_table overview.Messages view = messages_table None view
+overview_table overview.Held view = held_table view
+overview_table overview.Releases view = releases_table view
+overview_table overview.Nodes view = nodes_table view
+overview_table overview.Spns view = spns_table view
+
+-- of what is the team's
+abbrev pub of_team_table : TeamOverview → List ℕ → View → Listing
+of_team_table of_team.Blocks team view = blocks_table (Some team) view
+of_team_table of_team.Messages team view = messages_table (Some team) view
+
 -- the list that the look is; nothing where there is no such message, node, name, number or release
 abbrev pub table_of : NetLook → View → Option Listing
-table_of look.State view = Some (state_table view)
-table_of (look.Blocks team) view = Some (blocks_table team view)
-table_of (look.Messages team) view = Some (messages_table team view)
+table_of (look.Overview o) view = Some (overview_table o view)
+table_of (look.OfTeam o team) view = Some (of_team_table o team view)
 table_of (look.Message name) view = message_table name view
-table_of look.Held view = Some (held_table view)
-table_of look.Releases view = Some (releases_table view)
-table_of look.Nodes view = Some (nodes_table view)
 table_of (look.Node name) view = node_table name view
-table_of look.Spns view = Some (spns_table view)
 table_of (look.Who sought) view = who_table sought view
 table_of (look.Compare old new) view = compared_table old new view
 

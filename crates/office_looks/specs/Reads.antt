@@ -4,6 +4,9 @@ use Rattle.dbc_sheet.specs.declared.sheet.Sheet.{Sheet}
 use Rattle.dbc_sheet.specs.declared.signal.Signal.{Signal}
 use Rattle.office_types.specs.declared.look.NetLook.{NetLook}
 use Rattle.office_types.specs.declared.look.NetLook.TheVariants as look
+use Rattle.office_types.specs.declared.overview.Overview.{Overview}
+use Rattle.office_types.specs.declared.overview.Overview.TheVariants as overview
+use Rattle.office_types.specs.declared.overview.TeamOverview.TheVariants as of_team
 use Rattle.office_types.specs.declared.state.LiveMessage.{LiveMessage}
 use Rattle.office_types.specs.declared.state.Net.{Net}
 use Rattle.office_seen.specs.Since.{last_release}
@@ -13,15 +16,20 @@ use Rattle.office_looks.specs.declared.reads.Reads.{Reads}
 use Rattle.office_looks.specs.declared.reads.ReleasesRead.{ReleasesRead}
 use Rattle.office_looks.specs.declared.reads.ReleasesRead.TheVariants as releases
 
+abbrev pub overview_reads : Overview → Reads
+overview_reads overview.State = record { messages = messages.Whole; releases = releases.Last }
+overview_reads overview.Blocks = record { messages = messages.Rows; releases = releases.Nothing }
+overview_reads overview.Nodes = record { messages = messages.Received; releases = releases.Nothing }
+overview_reads overview.Held = record { messages = messages.Nothing; releases = releases.All }
+overview_reads overview.Releases = record { messages = messages.Nothing; releases = releases.All }
+overview_reads o = record { messages = messages.Whole; releases = releases.All }
+
 -- what the text of a look depends on
 abbrev pub reads_of : NetLook → Reads
-reads_of look.State = record { messages = messages.Whole; releases = releases.Last }
-reads_of (look.Blocks team) = record { messages = messages.Rows; releases = releases.Nothing }
-reads_of look.Nodes = record { messages = messages.Received; releases = releases.Nothing }
-reads_of (look.Node name) = record { messages = messages.Received; releases = releases.Nothing }
-reads_of look.Held = record { messages = messages.Nothing; releases = releases.All }
-reads_of look.Releases = record { messages = messages.Nothing; releases = releases.All }
-reads_of l = record { messages = messages.Whole; releases = releases.All }
+reads_of (look.Overview o) = overview_reads o
+reads_of (look.OfTeam of_team.Blocks team) = overview_reads overview.Blocks
+reads_of (look.Node name) = overview_reads overview.Nodes
+reads_of l = overview_reads overview.Messages
 
 -- a signal without its receivers and value texts, and one without its value texts
 abbrev pub row_of : Signal → Signal

@@ -1,6 +1,6 @@
 //! What is shown for a look.
 ghost use Rattle.std.specs.Prelude.{◌≡◌, IfOk, option_map};
-ghost use Rattle.office_looks.specs.Looks.{list_in, shown_of, table_of, text_of};
+ghost use Rattle.office_looks.specs.Looks.{list_in, of_team_table, overview_table, shown_of, table_of, text_of};
 
 use crate::compared::compared_in;
 use crate::held::held_table;
@@ -13,7 +13,7 @@ use crate::who::who_table;
 use office_blocks::blocks_table;
 use office_seen::View;
 use office_spns::spns_table;
-use office_types::{LookForm, NetLook};
+use office_types::{LookForm, NetLook, Overview, Team, TeamOverview};
 use rows::{Table, table_json, table_text};
 use std::alloc::{AllocError, Global};
 
@@ -46,6 +46,40 @@ fn any_in(
     }
 }
 
+/// The list of the overview.
+fn overview_table<'a>(
+    alloc: Global,
+    view: &'a View,
+    overview: Overview,
+) -> Result<Table<'a>, AllocError>
+    ensures { IfOk result (λ table. table ≡ overview_table overview view.now) }
+{
+    match overview {
+        Overview::State => state_table(alloc, view),
+        Overview::Blocks => blocks_table(alloc, view, None),
+        Overview::Messages => messages_table(alloc, view, None),
+        Overview::Held => held_table(alloc, view),
+        Overview::Releases => releases_table(alloc, view),
+        Overview::Nodes => nodes_table(alloc, view),
+        Overview::Spns => spns_table(alloc, view),
+    }
+}
+
+/// The list of the overview of what is the team's.
+fn of_team_table<'a>(
+    alloc: Global,
+    view: &'a View,
+    overview: TeamOverview,
+    team: &Team,
+) -> Result<Table<'a>, AllocError>
+    ensures { IfOk result (λ table. table ≡ of_team_table overview team.now view.now) }
+{
+    match overview {
+        TeamOverview::Blocks => blocks_table(alloc, view, Some(team)),
+        TeamOverview::Messages => messages_table(alloc, view, Some(team)),
+    }
+}
+
 /// The list that the look is, in the form; `None` where there is no such message, node or release, or nobody has the name
 /// or number.
 fn list_text(
@@ -58,21 +92,16 @@ fn list_text(
         ≡ option_map (list_in form) (table_of look.now view.now)) }
 {
     match look {
-        NetLook::State => any_in(alloc, form, Some(state_table(alloc, view)?)),
-        NetLook::Blocks(team) => {
-            any_in(alloc, form, Some(blocks_table(alloc, view, team.as_ref())?))
+        NetLook::Overview(overview) => {
+            any_in(alloc, form, Some(overview_table(alloc, view, *overview)?))
         }
-        NetLook::Messages(team) => any_in(
+        NetLook::OfTeam(overview, team) => any_in(
             alloc,
             form,
-            Some(messages_table(alloc, view, team.as_ref())?),
+            Some(of_team_table(alloc, view, *overview, team)?),
         ),
         NetLook::Message(name) => any_in(alloc, form, message_table(alloc, view, name)?),
-        NetLook::Held => any_in(alloc, form, Some(held_table(alloc, view)?)),
-        NetLook::Releases => any_in(alloc, form, Some(releases_table(alloc, view)?)),
-        NetLook::Nodes => any_in(alloc, form, Some(nodes_table(alloc, view)?)),
         NetLook::Node(name) => any_in(alloc, form, node_table(alloc, view, name)?),
-        NetLook::Spns => any_in(alloc, form, Some(spns_table(alloc, view)?)),
         NetLook::Who(sought) => any_in(alloc, form, who_table(alloc, view, sought)?),
         NetLook::Compare(old, new) => compared_in(alloc, view, *old, *new, form),
     }

@@ -1,8 +1,8 @@
 //! What a look reads of a network.
 ghost use Rattle.std.specs.Prelude.{◌≡◌};
-ghost use Rattle.office_looks.specs.Reads.{reads_of};
+ghost use Rattle.office_looks.specs.Reads.{overview_reads, reads_of};
 
-use office_types::NetLook;
+use office_types::{NetLook, Overview, TeamOverview};
 
 /// How much is read of live messages.
 #[derive(Clone, Copy, PartialEq, Eq)]
@@ -37,16 +37,27 @@ pub struct Reads {
     pub releases: ReleasesRead,
 }
 
+fn overview_reads(overview: Overview) -> Reads
+    ensures { result ≡ overview_reads overview }
+{
+    let (messages, releases) = match overview {
+        Overview::State => (MessagesRead::Whole, ReleasesRead::Last),
+        Overview::Blocks => (MessagesRead::Rows, ReleasesRead::Nothing),
+        Overview::Nodes => (MessagesRead::Received, ReleasesRead::Nothing),
+        Overview::Held | Overview::Releases => (MessagesRead::Nothing, ReleasesRead::All),
+        _ => (MessagesRead::Whole, ReleasesRead::All),
+    };
+    Reads { messages, releases }
+}
+
 /// What the text of the look depends on.
 pub fn reads_of(look: &NetLook) -> Reads
     ensures { result ≡ reads_of look.now }
 {
-    let (messages, releases) = match look {
-        NetLook::State => (MessagesRead::Whole, ReleasesRead::Last),
-        NetLook::Blocks(_) => (MessagesRead::Rows, ReleasesRead::Nothing),
-        NetLook::Nodes | NetLook::Node(_) => (MessagesRead::Received, ReleasesRead::Nothing),
-        NetLook::Held | NetLook::Releases => (MessagesRead::Nothing, ReleasesRead::All),
-        _ => (MessagesRead::Whole, ReleasesRead::All),
-    };
-    Reads { messages, releases }
+    match look {
+        NetLook::Overview(overview) => overview_reads(*overview),
+        NetLook::OfTeam(TeamOverview::Blocks, _) => overview_reads(Overview::Blocks),
+        NetLook::Node(_) => overview_reads(Overview::Nodes),
+        _ => overview_reads(Overview::Messages),
+    }
 }

@@ -13,7 +13,7 @@
 //!
 //! The definitions are in `specs/`: `PlainName.antt`, `Command.antt` (ranges of a command's fields),
 //! `Refusal.antt` and `Reply.antt` (numbers, names and lines), `State.antt` and `Book.antt` (orders), `Free.antt`,
-//! `Sought.antt` (words that look for something) and `Look.antt` (in which form).
+//! `Sought.antt` (words that look for something), `Overview.antt` (words and paths) and `Look.antt` (in which form).
 #![tactic(auto)]
 
 mod block;
@@ -24,6 +24,7 @@ mod free;
 mod halving;
 mod look;
 mod net_name;
+mod overview;
 mod parts;
 mod plain_name;
 mod quantity;
@@ -48,6 +49,7 @@ pub use free::{
 pub use halving::least_gap;
 pub use look::{Look, LookForm, NetLook};
 pub use net_name::NetName;
+pub use overview::{OVERVIEWS, Overview, TeamOverview};
 pub use parts::{PART_LIMIT, Parts};
 pub use quantity::{Priority, ReviewCount};
 pub use refusal::{FileFault, Refusal, refusals_are_numbered};

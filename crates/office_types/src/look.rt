@@ -1,5 +1,6 @@
 //! Looks.
 use crate::net_name::NetName;
+use crate::overview::{Overview, TeamOverview};
 use crate::sought::Sought;
 use crate::team::Team;
 use dbc_words::Name;
@@ -16,43 +17,33 @@ pub enum Look {
     Release(NetName, u32),
     /// The chart of the network's live message of this name.
     Chart(NetName, Name),
-    /// What the network has, in this form: its state, or one kind of thing.
+    /// What is looked up of the network, in this form.
     Net(NetName, NetLook, LookForm),
     /// The live network on one HTML page.
     Page(NetName),
     /// The release of the network with this number, from 1, on one HTML page.
     ReleasePage(NetName, u32),
-    /// The requests of the team that were answered, each with its reply.
-    Requests(Team),
+    /// The requests of the team that were answered, each with its reply, in this form.
+    Requests(Team, LookForm),
 }
 
 /// What can be looked up of a network.
 pub enum NetLook {
-    /// What the network has once, and how many there are of each kind of thing.
-    State,
-    /// The granted blocks and what is left of them: all, or those of one team.
-    Blocks(Option<Team>),
-    /// The live messages with their owners and releases: all, or those of one team.
-    Messages(Option<Team>),
+    /// An overview.
+    Overview(Overview),
+    /// An overview of what is the team's.
+    OfTeam(TeamOverview, Team),
     /// All of the live message of this name.
     Message(Name),
-    /// The identifiers that are held.
-    Held,
-    /// The releases, and what each changed.
-    Releases,
-    /// The nodes.
-    Nodes,
     /// What the node of this name sends and receives.
     Node(Name),
-    /// The suspect parameter numbers.
-    Spns,
     /// Who has this name or number.
     Who(Sought),
     /// What changed from one release to the other, by their numbers; 0 is the live sheet.
     Compare(u32, u32),
 }
 
-/// In which form a look at a network is shown.
+/// In which form a list is shown.
 #[derive(Clone, Copy)]
 pub enum LookForm {
     /// As lines of text.
@@ -81,22 +72,24 @@ impl Look {
     ghost use Rattle.std.specs.Prelude.{◌≡◌};
     ghost use Rattle.office_types.specs.Look.{formed, look_form};
 
-    /// The same, where JSON is wanted or not: only what is looked up of one network can be JSON.
+    /// The same, where JSON is wanted or not: only what is looked up of one network and the requests of a team can be
+    /// JSON.
     pub fn formed(self, json: bool) -> Look
         ensures { result ≡ formed json self }
     {
         match self {
             Look::Net(net, look, _form) => Look::Net(net, look, LookForm::of(json)),
+            Look::Requests(team, _form) => Look::Requests(team, LookForm::of(json)),
             other => other,
         }
     }
 
-    /// Its form; what isn't looked up of a network is lines.
+    /// Its form; what can't be JSON is lines.
     pub fn form(&self) -> LookForm
         ensures { result ≡ look_form self.now }
     {
         match self {
-            Look::Net(_, _, form) => *form,
+            Look::Net(_, _, form) | Look::Requests(_, form) => *form,
             _ => LookForm::Lines,
         }
     }
@@ -113,7 +106,7 @@ impl Drop for Look {
             Look::Net(_net, _look, _form) => {}
             Look::Page(_net) => {}
             Look::ReleasePage(_net, _number) => {}
-            Look::Requests(_team) => {}
+            Look::Requests(_team, _form) => {}
         }
     }
 }
@@ -121,15 +114,10 @@ impl Drop for Look {
 impl Drop for NetLook {
     fn drop(self) {
         match self {
-            NetLook::State => {}
-            NetLook::Blocks(_team) => {}
-            NetLook::Messages(_team) => {}
+            NetLook::Overview(_overview) => {}
+            NetLook::OfTeam(_overview, _team) => {}
             NetLook::Message(_name) => {}
-            NetLook::Held => {}
-            NetLook::Releases => {}
-            NetLook::Nodes => {}
             NetLook::Node(_name) => {}
-            NetLook::Spns => {}
             NetLook::Who(_sought) => {}
             NetLook::Compare(_old, _new) => {}
         }

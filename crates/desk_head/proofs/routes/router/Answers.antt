@@ -8,7 +8,7 @@ returns c =
       c.in_ok-show.ensures,
       c.in_ok-add_pages.ensures,
       c.in_ok-add_things.ensures,
-      c.in_ok-add_parts.ensures,
+      c.in_ok-add_overviews.ensures,
       c.in_ok-add_sheets.ensures,
       c.in_ok-add-3.ensures,
       c.in_ok-add-2.ensures,

@@ -4,7 +4,7 @@ use desk_client::{
     target_of,
 };
 use desk_types::{Counted, DeskFault, Sink, Source};
-use office_types::{Look, LookForm, NetLook, NetName, Sought, Team};
+use office_types::{Look, LookForm, NetLook, NetName, Sought, Team, TeamOverview};
 use std::alloc::Global;
 use std::io::{self, ErrorKind, Read, Write};
 use std::net::{Ipv4Addr, TcpListener};
@@ -239,7 +239,11 @@ fn target_of_blocks(alloc: Global) -> Option<Vec<u8>> {
     let team = Team::of(alloc, b"engine").ok()??;
     target_of(
         alloc,
-        &Look::Net(net, NetLook::Blocks(Some(team)), LookForm::Lines),
+        &Look::Net(
+            net,
+            NetLook::OfTeam(TeamOverview::Blocks, team),
+            LookForm::Lines,
+        ),
     )
     .ok()
 }

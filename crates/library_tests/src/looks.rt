@@ -12,8 +12,8 @@ use office_seen::{
 };
 use office_spns::{SpnView, push_spn, shown_spns};
 use office_types::{
-    BlockForm, FormBlock, GrantedBlock, LookForm, NetKind, NetLook, NetName, Phase, ReviewCount,
-    Team, UsedSpns,
+    BlockForm, FormBlock, GrantedBlock, LookForm, NetKind, NetLook, NetName, Overview, Phase,
+    ReviewCount, Team, TeamOverview, UsedSpns,
 };
 use rows::Rows;
 use std::alloc::{AllocError, Global};
@@ -113,7 +113,7 @@ fn are_blocks(alloc: Global) -> Option<bool> {
     let mut rows = Rows::new(alloc);
     push_block(alloc, &mut rows, &numbers, first).ok()?;
     let has = rows.count() == 1 && has_number_in(BlockForm::Std, 511, first);
-    Some(has && is_look(alloc, &view, &NetLook::Blocks(None), BLOCKS))
+    Some(has && is_look(alloc, &view, &NetLook::Overview(Overview::Blocks), BLOCKS))
 }
 
 #[test]
@@ -133,7 +133,7 @@ fn are_spns(alloc: Global) -> Option<bool> {
     let mut rows = Rows::new(alloc);
     push_spn(alloc, &mut rows, &indexed, 84).ok()?;
     let one = rows.count() == 1 && shown.as_slice() == [84, 90].as_slice();
-    Some(one && is_look(alloc, &view, &NetLook::Spns, SPNS))
+    Some(one && is_look(alloc, &view, &NetLook::Overview(Overview::Spns), SPNS))
 }
 
 #[test]
@@ -157,10 +157,19 @@ const STATE_JSON: &str =
 /// Whether lists have their JSON.
 fn are_json(alloc: Global) -> Option<bool> {
     let view = truck(alloc)?;
-    let brakes = NetLook::Blocks(Some(Team::of(alloc, b"brakes").ok()??));
-    let lists = is_json(alloc, &view, &NetLook::Held, HELD_JSON)
+    let team = Team::of(alloc, b"brakes").ok()??;
+    let brakes = NetLook::OfTeam(TeamOverview::Blocks, team);
+    let lists = is_json(alloc, &view, &NetLook::Overview(Overview::Held), HELD_JSON)
         && is_json(alloc, &view, &brakes, BLOCKS_JSON);
-    Some(lists && is_json(alloc, &view, &NetLook::State, STATE_JSON))
+    Some(
+        lists
+            && is_json(
+                alloc,
+                &view,
+                &NetLook::Overview(Overview::State),
+                STATE_JSON,
+            ),
+    )
 }
 
 #[test]

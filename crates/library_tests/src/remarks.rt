@@ -1,7 +1,8 @@
 //! Remarks on a DBC text.
 use crate::made::{name, text};
-use dbc_lint::{Kind, first_unknown, lint};
+use dbc_lint::{Kind, REMARKS, first_unknown, remark_rows, remarks_on};
 use dbc_sheet::{Node, Sheet};
+use rows::{Table, table_text};
 use std::alloc::Global;
 
 /// The sheet of `BU_: A`.
@@ -15,21 +16,27 @@ fn sheet_of_a(alloc: Global) -> Option<Sheet> {
     Some(sheet)
 }
 
-/// Whether these are the lines of the remarks on `BU_: A` whose kinds the names choose.
+/// The lines of the remarks on `BU_: A` whose kinds the names choose.
+fn lines_of(alloc: Global, names: &str) -> Option<Vec<u8>> {
+    let sheet = sheet_of_a(alloc)?;
+    let text = b"BU_: A\n";
+    let remarks = remarks_on(alloc, text, &sheet).ok()?;
+    let rows = remark_rows(alloc, text, names, &remarks).ok()?;
+    let table = Table::plain(alloc, &REMARKS, rows, &[], Vec::new(alloc)).ok()?;
+    table_text(alloc, &table).ok()
+}
+
 fn are_lines(alloc: Global, names: &str, wanted: &[u8]) -> bool {
-    let Some(sheet) = sheet_of_a(alloc) else {
-        return false;
-    };
-    match lint(alloc, b"BU_: A\n", &sheet, names) {
-        Ok(lines) => lines.as_slice() == wanted,
-        Err(_) => false,
+    match lines_of(alloc, names) {
+        Some(lines) => lines.as_slice() == wanted,
+        None => false,
     }
 }
 
 #[test]
 fn node_that_is_idle(rt: HostRuntime) {
-    assert!(rt; are_lines(rt.alloc(), "", b"remark 1:6 IdleNode A\n"));
-    assert!(rt; are_lines(rt.alloc(), "LongName,IdleNode", b"remark 1:6 IdleNode A\n"));
+    assert!(rt; are_lines(rt.alloc(), "", b"1:6 IdleNode A\n"));
+    assert!(rt; are_lines(rt.alloc(), "LongName,IdleNode", b"1:6 IdleNode A\n"));
     assert!(rt; are_lines(rt.alloc(), "LongName", b""));
 }
 

@@ -8,13 +8,12 @@
 //! file of definitions in `specs/`, or a crate of its own (`office_blocks`, `office_spns`, `dbc_compare`); `Looks.antt`
 //! joins them. Looks are lists (`rows`): their rows and columns are described here, and how these are shown, there; a
 //! message has its chart after its lines. All lines have one space between columns; nothing is cut; and what people wrote
-//! is in words without spaces (`columns`), or last. A line of the messages is that of the table of a sheet with columns
-//! put in ([`messages_are_the_table`]).
+//! is in words without spaces (`columns`), or last. The messages are the table of a sheet with columns put in
+//! ([`messages_are_the_table`]).
 //!
-//! [`add_request`] appends the lines of a team's request: its key, the reply and the first line of its content, and
-//! where the reply is that of a bundle, a line for each part. [`add_total`] appends the last line, with how many
-//! requests there are and how many of them were refused ([`is_refused`]). `Requests.antt` defines these lines, and the
-//! text of all requests of a team in a history (`IsRequestsText`).
+//! [`requests_text`] gives a team's requests ([`AnsweredRequest`]): of each its key, the reply and the first line of its
+//! content, and where the reply is that of a bundle, a row for each part; and how many there are and were refused.
+//! `Requests.antt` says which those of a team in a history are (`AreRequestsOf`), and defines their list.
 //!
 //! Nothing here decides anything: no crate that does uses it.
 #![tactic(auto)]
@@ -37,4 +36,4 @@ mod who;
 pub use laws::messages_are_the_table;
 pub use looks::shown_of;
 pub use reads::{MessagesRead, Reads, ReleasesRead, reads_of};
-pub use requests::{add_request, add_total, is_refused};
+pub use requests::{AnsweredRequest, requests_text};

@@ -5,7 +5,6 @@ ghost use Rattle.office_looks.specs.Message.{field_facts, message_facts, message
 ghost use Rattle.office_looks.specs.Message.{whole_table, whole_text};
 ghost use Rattle.rows.specs.Fact.{fact_of, of_maybe};
 
-use crate::messages::transmitter;
 use crate::signal_rows::signal_kinds;
 use can_id::{Ident, J1939, has_destination};
 use columns::concat;
@@ -13,7 +12,7 @@ use dbc_sheet::{Message, Sheet};
 use dbc_words::Name;
 use office_seen::{View, last_release, releases_runs, since};
 use office_types::Team;
-use office_views::message_chart;
+use office_views::{message_chart, transmitter};
 use rows::{Cell, Column, Place, Table, table_text};
 use std::alloc::{AllocError, Global};
 

@@ -14,6 +14,7 @@ use Rattle.store_tables.specs.Schema.{analyzed_schema, no_schema, office_schema,
 use Rattle.office_rules.specs.Step.{opening}
 use Rattle.office_types.specs.declared.look.Look.TheVariants as look
 use Rattle.office_types.specs.declared.look.LookForm.{LookForm}
+use Rattle.office_types.specs.declared.look.LookForm.TheVariants.{Lines}
 use Rattle.office_types.specs.declared.look.NetLook.{NetLook}
 use Rattle.office_history.specs.declared.arrival.Answer.{Answer}
 use Rattle.office_history.specs.declared.arrival.Answer.TheVariants.{KeyReused}
@@ -111,10 +112,20 @@ none_went before after some same = same.same_schema ∙ some
 no_network : (net : List ℕ) (l : NetLook) (form : LookForm) → IsShown [] opening (look.Net net l form) None
 no_network net l form = refl
 
-no_request : (team : List ℕ) → IsShown [] opening (look.Requests team) (Some (codes "requests 0 refused 0\n"))
+no_request : (team : List ℕ) → IsShown [] opening (look.Requests team Lines) (Some (codes "requests 0 refused 0\n"))
 unfolding IsStrictlySortedBy digits
 no_request team = (
   codes "requests 0 refused 0\n",
   refl,
-  record { listed = []; same = IsPermutation-refl []; ascending = tt; replied = λ k d below. absurd (omega arith); is = refl },
+  (
+    [],
+    record {
+      listed = [];
+      same = IsPermutation-refl [];
+      ascending = tt;
+      replied = λ k d below. absurd (omega arith);
+      are = refl;
+    },
+    refl,
+  ),
 )

@@ -23,4 +23,4 @@ remembered_shown h t holds (look.Page net) text on =
     on (net_named holds.holds.office net) (holds.holds.nets net) holds.holds.office.book holds.holds.book
 remembered_shown h t holds (look.ReleasePage net number) text on =
     on (net_named holds.holds.office net) (holds.holds.nets net) holds.holds.office.book holds.holds.book
-remembered_shown h t holds (look.Requests team) text on = absurd on
+remembered_shown h t holds (look.Requests team form) text on = absurd on

@@ -18,7 +18,7 @@ use Rattle.store_looks.specs.Seen.{IsPageOfNet, IsPageOfRelease}
 -- After a history that left this office: the list of networks; of a network, the table and the canonical text of its
 -- live sheet; of a release, the canonical text of it, which reads as it and as no other sheet; of a live message, its
 -- chart; what else is looked up of a network, in the form; a page of a network, or of a release; and the requests of a
--- team in the history. Nothing exactly where there is no such network, release or message, or nothing that is looked up,
+-- team in the history, in the form. Nothing exactly where there is no such network, release or message, or nothing that is looked up,
 -- or where what is looked up as JSON is no list.
 abbrev pub IsShown : List Answered → Office → Look → Option (List ℕ) → Type 0
 IsShown h office Nets text = text ≡ Some (nets_text office.nets)
@@ -30,7 +30,7 @@ IsShown h office (Chart net message) text = text ≡ live_chart (net_named offic
 IsShown h office (look.Net net l form) text = text ≡ net_shown form (net_named office net) office.book l
 IsShown h office (Page net) text = IsPageOfNet (net_named office net) office.book text
 IsShown h office (ReleasePage net number) text = IsPageOfRelease (net_named office net) office.book number text
-IsShown h office (Requests team) text = (lines : List ℕ) × (text ≡ Some lines) × IsRequestsText team h lines
+IsShown h office (Requests team form) text = (shown : List ℕ) × (text ≡ Some shown) × IsRequestsText team h form shown
 
 -- the bytes of the text, if there is one
 abbrev pub bytes_of : Option (Vec ℕ Global) → Option (List ℕ)

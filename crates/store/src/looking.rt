@@ -51,7 +51,7 @@ fn look_inside<S: Alter>(
         Look::Net(net, look, form) => net_look_at(alloc, tx, net, look, *form, known),
         Look::Page(net) => page_at(alloc, tx, net, known),
         Look::ReleasePage(net, number) => release_page_at(alloc, tx, net, *number, known),
-        Look::Requests(team) => Ok(Some(requests_at(alloc, tx, team)?)),
+        Look::Requests(team, form) => Ok(Some(requests_at(alloc, tx, team, *form)?)),
     }
 }
 

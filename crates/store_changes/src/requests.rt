@@ -25,6 +25,18 @@ pub struct KeptRequest {
     pub reply: Reply,
 }
 
+impl KeptRequest {
+    ghost use Rattle.std.specs.Prelude.{◌≡◌};
+
+    /// The bytes and the reply.
+    pub fn into_parts(self) -> (Items<u8>, Reply)
+        ensures { result ≡ (self.content, self.reply) }
+    {
+        let KeptRequest { content, reply } = self;
+        (content, reply)
+    }
+}
+
 impl Drop for KeptRequest {
     fn drop(self) {
         let KeptRequest {

@@ -8,17 +8,17 @@ use Rattle.std.specs.List.Sorted.{IsStrictlySortedBy, apply_swaps, SwapsInRange}
 use Rattle.std.specs.Str.{bytes_eq}
 use Rattle.std.specs.declared.cmp.Ordering.TheVariants.{Less}
 use Rattle.std.proofs.Math.ListN.{get_or-map}
-use Rattle.std.proofs.lemmas.List.{get_or-map as mapped, length-append, length-map, map-set, take_all, take_more}
-use Rattle.std.proofs.lemmas.List.Elements.{All-from_recursion, filter-append}
+use Rattle.std.proofs.lemmas.List.{get_or-map as mapped, length-map, map-set, take_all}
+use Rattle.std.proofs.lemmas.List.Elements.{All-from_recursion}
 use Rattle.std.proofs.lemmas.Slice.Eq.{bytes_eq-Decides}
 use Rattle.base.specs.Keyed.{text_cmp}
-use Rattle.columns.proofs.Pieces.{items_more}
 use Rattle.sqlite.specs.Order.{Row}
 use Rattle.sqlite_trees.proofs.ListLemmas.{all-filter, all-permutation}
 use Rattle.office_history.specs.declared.arrival.Answer.{Answer}
 use Rattle.office_history.specs.History.{Answered, first_arrivals, first_of, same_pair}
-use Rattle.office_looks.specs.Requests.{IsReplied, IsRequestsText, answer_lines, answered_lines, by_key, is_of_team}
-use Rattle.office_looks.specs.Requests.{is_refusal, is_refused, last_line, request_lines, requests_text, was_refused}
+use Rattle.office_looks.specs.Requests.{AreRequestsOf, Asked, IsReplied, asked, asked_of, by_key, is_of_team}
+use Rattle.office_looks.specs.Requests.{replied_to}
+use Rattle.columns.proofs.Pieces.{items_more}
 use Rattle.store_rows.specs.Listed.{AreShown}
 use Rattle.store_changes.specs.Kept.{AreKept, AreKeysOf, IsKept, content_and_answer, kept_answer}
 use Rattle.store_changes.specs.declared.requests.KeptRequest.{KeptRequest}
@@ -110,11 +110,11 @@ unfolding IsStrictlySortedBy
 by_keys [] ascending = tt
 by_keys (a ∷ xs) ascending = (below_all a xs ascending.0, by_keys xs ascending.1)
 
-pub is_requests_text : (team : List ℕ) (h : List Answered) (rows : List Row) (keys : List (List ℕ)) (text : List ℕ)
+pub are_requests : (team : List ℕ) (h : List Answered) (rows : List Row) (keys : List (List ℕ)) (requests : List Asked)
     → AreKept h rows → AreKeysOf team h keys
     → ((listed : List Answered) → AllByRecursion (IsFirstOf h team) listed → keys ≡ map key_of listed
-    → text ≡ requests_text listed) → IsRequestsText team h text
-is_requests_text team h rows keys text kept are one =
+    → requests ≡ flat_map asked_of listed) → AreRequestsOf team h requests
+are_requests team h rows keys requests kept are one =
     let mine = filter (is_of_team team) (first_arrivals h) in
     let moved = keys_moved mine keys are.same in
     let listed = moved.0 in
@@ -125,7 +125,7 @@ is_requests_text team h rows keys text kept are one =
       replied = All-from_recursion IsReplied listed (all-permutation IsReplied mine listed moved.1
           (all-filter IsReplied (is_of_team team) (first_arrivals h)
           (all_replied (first_arrivals h) kept.found kept.each)));
-      is = one listed (all-permutation (IsFirstOf h team) mine listed moved.1
+      are = one listed (all-permutation (IsFirstOf h team) mine listed moved.1
           (team_found h team (first_arrivals h) (firsts_found h))) moved.2;
     }
 
@@ -135,68 +135,29 @@ at_key : (listed : List Answered) (i : ℕ) (d : Answered) (key : List ℕ) → 
     → get_or (map key_of listed) i key ≡ (get_or listed i d).key
 at_key listed i d key low = mapped key_of listed i d key low
 
--- the lines of these, and how many of them were refused
-pub record AreTold (listed : List Answered) (text : List ℕ) (refused : ℕ) : Type 0 where
-  pub lines : text ≡ flat_map answered_lines listed
-  pub counted : refused ≡ length (filter was_refused listed)
-
-pub none_told : AreTold [] [] 0
-none_told = record { lines = refl; counted = refl }
-
-one_more : (xs : List Answered) (a : Answered)
-    → length (filter was_refused (xs ++ a ∷ [])) ≡ length (filter was_refused xs) + cond (was_refused a) 1 0
-one_more xs a =
-    ap length (filter-append was_refused xs (a ∷ []))
-    ∙ length-append (filter was_refused xs) (filter was_refused (a ∷ []))
-    ∙ ap (λ n. length (filter was_refused xs) + n) (by_test (was_refused a))
-  where
-    by_test : (t : Bool) → length (cond t (a ∷ []) []) ≡ cond t 1 0
-    by_test true = refl
-    by_test false = refl
-
-told_more : (listed : List Answered) (i : ℕ) (d : Answered) (kept : KeptRequest) (key before lines after : List ℕ)
-    (m n : ℕ) → i < length listed → key ≡ (get_or listed i d).key
-    → kept_answer kept ≡ content_and_answer (get_or listed i d) → AreTold (take i listed) before m
-    → lines ≡ request_lines key kept.content kept.reply → after ≡ before ++ lines
-    → n ≡ m + cond (is_refused kept.reply) 1 0 → AreTold (take (i + 1) listed) after n
-told_more listed i d kept key before lines after m n low named same told is more counted =
-    let this = get_or listed i d in
-    record {
-      lines = items_more answered_lines listed i d before lines after low told.lines
-          (is ∙ ap (λ k. request_lines k kept.content kept.reply) named
-          ∙ ap (λ (p : List ℕ × Answer). answer_lines this.key p.0 p.1) same) more;
-      counted = counted
-          ∙ ap (λ k. k + cond (is_refused kept.reply) 1 0) told.counted
-          ∙ ap (λ (p : List ℕ × Answer). length (filter was_refused (take i listed)) + cond (is_refusal p.1) 1 0) same
-          ∙ sym (one_more (take i listed) this)
-          ∙ ap (λ l. length (filter was_refused l)) (sym (take_more listed i d low));
-    }
-
 -- one request more, where the keys are those of the list
 pub one_told : (h : List Answered) (team : List ℕ) (keys : List (List ℕ)) (listed : List Answered) (i : ℕ)
-    (kept : KeptRequest) (key before lines after : List ℕ) (m n : ℕ) → keys ≡ map key_of listed
+    (kept : KeptRequest) (key : List ℕ) (before after : List Asked) → keys ≡ map key_of listed
     → AllByRecursion (IsFirstOf h team) listed → i < length keys → key ≡ get_or keys i key
     → ((a : Answered) → IsFirstOf h team a → a.key ≡ key → kept_answer kept ≡ content_and_answer a)
-    → AreTold (take i listed) before m → lines ≡ request_lines key kept.content kept.reply → after ≡ before ++ lines
-    → n ≡ m + cond (is_refused kept.reply) 1 0 → AreTold (take (i + 1) listed) after n
-one_told h team keys [] i kept key before lines after m n same all within is found told lined more counted =
+    → before ≡ flat_map asked_of (take i listed)
+    → after ≡ before ++ asked key kept.content kept.reply ∷ [] → after ≡ flat_map asked_of (take (i + 1) listed)
+one_told h team keys [] i kept key before after same all within is found told more =
     absurd (let low : i < 0 = subst (λ l. i < length l) same within in omega (arith, low))
-one_told h team keys (d ∷ rest) i kept key before lines after m n same all within is found told lined more counted =
+one_told h team keys (d ∷ rest) i kept key before after same all within is found told more =
     let listed = d ∷ rest in
     let low : i < length listed = subst (λ n. i < n) (ap length same ∙ length-map listed key_of) within in
     let this = get_or listed i d in
     let named : key ≡ this.key = is ∙ ap (λ l. get_or l i key) same ∙ at_key listed i d key low in
-    told_more listed i d kept key before lines after m n low named
-    (found this (All-from_recursion (IsFirstOf h team) listed all i d low) (sym named)) told lined more counted
+    items_more asked_of listed i d before (asked key kept.content kept.reply ∷ []) after low told
+    (ap (λ k. asked k kept.content kept.reply ∷ []) named
+    ∙ ap (λ (p : List ℕ × Answer). replied_to this.key p.0 p.1)
+    (found this (All-from_recursion (IsFirstOf h team) listed all i d low) (sym named))) more
 
--- all of them, and the last line
-pub all_told : (keys : List (List ℕ)) (listed : List Answered) (i : ℕ) (before after : List ℕ) (m : ℕ)
-    → keys ≡ map key_of listed → length keys ≤ i → AreTold (take i listed) before m
-    → after ≡ before ++ last_line (length keys) m → after ≡ requests_text listed
-all_told keys listed i before after m same ended told more =
+-- all of them
+pub all_told : (keys : List (List ℕ)) (listed : List Answered) (i : ℕ) (requests : List Asked)
+    → keys ≡ map key_of listed → length keys ≤ i → requests ≡ flat_map asked_of (take i listed)
+    → requests ≡ flat_map asked_of listed
+all_told keys listed i requests same ended told =
     let many : length keys ≡ length listed = ap length same ∙ length-map listed key_of in
-    let all : take i listed ≡ listed = take_all i listed (subst (λ n. n ≤ i) many ended) in
-    more ∙ ap (λ t. t ++ last_line (length keys) m) (told.lines ∙ ap (flat_map answered_lines) all)
-    ∙ ap (λ n. flat_map answered_lines listed ++ last_line n m) many
-    ∙ ap (λ n. flat_map answered_lines listed ++ last_line (length listed) n)
-    (told.counted ∙ ap (λ l. length (filter was_refused l)) all)
+    told ∙ ap (flat_map asked_of) (take_all i listed (subst (λ n. n ≤ i) many ended))

@@ -1,27 +1,32 @@
-use Rattle.std.proofs.Common.{◌≡◌, sym, subst, ◌∙◌, arith, rules}
-use Rattle.std.proofs.lemmas.Result.{IfOk-weaker, on_ok_weaker}
+use Rattle.std.proofs.Common.{◌≡◌, ◌∙◌, sym, ap, subst, arith, rules}
 use Rattle.sqlite.specs.Effect.{Database}
 use Rattle.sqlite.specs.Held.{state}
 use Rattle.sqlite.specs.State.{HasCleanDisk}
 use Rattle.sqlite.proofs.Callers.{unchanged_then}
+use Rattle.office_looks.specs.Looks.{list_in}
+use Rattle.office_looks.specs.Requests.{requests_table}
 use Rattle.store_changes.specs.Kept.{AreKept, AreKeptParts}
 use Rattle.store_tables.specs.Tables.{IsOffice, tables_of}
-use Rattle.store_looks.proofs.Asked.{is_requests_text}
+use Rattle.store_looks.proofs.Asked.{are_requests}
 use Rattle.store_looks.proofs.requests.requests_at.Goals as goal
 
 pub returns-clause-found : goal.returns-clause-found
-returns-clause-found g c clean office =
+returns-clause-found g c clean office h kept parts =
     let s0 = state g.S.Store c.args.tx.now.conn.now in
     let s1 = state g.S.Store c.keys_of.new.tx.conn.now in
-    let clean1 : HasCleanDisk s1 = omega (arith, c.requests_under.ensures.frame.survives.clean, clean) in
+    let clean1 : HasCleanDisk s1 = omega (arith, c.in_ok-requests.ensures.frame.survives.clean, clean) in
     let now1 : s1.now ≡ s0.now = (c.in_ok-keys.ensures.frame.same clean1 office).0.now_is in
-    let office1 : IsOffice s1.now = subst IsOffice (sym now1) office in
-    IfOk-weaker c.requests_under.result _ _
-    (λ text one h kept parts. is_requests_text c.args.team.now h (tables_of s0.now.trees).reply
-    c.in_ok-keys.keys.items text.items kept (c.in_ok-keys.ensures.found clean1 office h kept)
-    (λ listed all are. one h (subst (λ (d : Database). AreKept h (tables_of d.trees).reply) (sym now1) kept)
-    (subst (λ (d : Database). AreKeptParts h (tables_of d.trees).part) (sym now1) parts) listed all
-    (c.deref.ensures.value ∙ are))) (c.requests_under.ensures.found clean office1)
+    let office1 : IsOffice s1.now = subst IsOffice (sym now1) office in (
+      c.in_ok-requests.requests.items,
+      are_requests c.args.team.now h (tables_of s0.now.trees).reply c.in_ok-keys.keys.items
+          c.in_ok-requests.requests.items kept (c.in_ok-keys.ensures.found clean1 office h kept)
+          (λ listed all are. c.in_ok-requests.ensures.found clean office1 h
+          (subst (λ (d : Database). AreKept h (tables_of d.trees).reply) (sym now1) kept)
+          (subst (λ (d : Database). AreKeptParts h (tables_of d.trees).part) (sym now1) parts) listed all
+          (c.deref.ensures.value ∙ are)),
+      c.in_ok-requests_text.ensures
+          ∙ ap (λ requests. list_in c.args.form (requests_table requests)) c.deref-2.ensures.value,
+    )
 
 pub returns-clause-frame : goal.returns-clause-frame
 returns-clause-frame g c = record {
@@ -30,11 +35,10 @@ returns-clause-frame g c = record {
       let s0 = state g.S.Store c.args.tx.now.conn.now in
       let s1 = state g.S.Store c.keys_of.new.tx.conn.now in
       let s2 = state g.S.Store c.requests_under.new.tx.conn.now in
-      let clean1 : HasCleanDisk s1 = omega (arith, c.requests_under.ensures.frame.survives.clean, clean) in
+      let clean1 : HasCleanDisk s1 = omega (arith, c.in_ok-requests.ensures.frame.survives.clean, clean) in
       let first = c.in_ok-keys.ensures.frame.same clean1 office in
       let office1 : IsOffice s1.now = subst IsOffice (sym first.0.now_is) office in
-      on_ok_weaker c.requests_under.result (λ second. unchanged_then s0 s1 s2 first second)
-      (c.requests_under.ensures.frame.same clean office1 first.0.is_open);
+      unchanged_then s0 s1 s2 first (c.in_ok-requests.ensures.frame.same clean office1 first.0.is_open);
   kept = search rules;
   survives = search rules;
 }

@@ -1,13 +1,13 @@
-use Rattle.std.proofs.Common.{◌≡◌, ◌≤◌, List, map, take}
+use Rattle.std.proofs.Common.{◌≡◌, List, map, take}
 use Rattle.std.specs.Prelude.{IsTrue}
-use Rattle.std.specs.List.{AllByRecursion}
+use Rattle.std.specs.List.{AllByRecursion, flat_map}
 use Rattle.sqlite.specs.Held.{state}
 use Rattle.sqlite.specs.State.{HasCleanDisk, IsUnchanged, KeepsCommit, Survives}
 use Rattle.office_history.specs.History.{Answered}
+use Rattle.office_looks.specs.Requests.{asked_of}
 use Rattle.store_tables.specs.Tables.{IsOffice, tables_of}
 use Rattle.store_changes.specs.Kept.{AreKept, AreKeptParts}
 use Rattle.store_looks.specs.Asked.{IsFirstOf}
-use Rattle.store_looks.proofs.Asked.{AreTold}
 use Rattle.store_looks.proofs.requests.requests_under.Given as goal
 
 abbrev pub invariant-loop-key : goal.invariant-loop-key
@@ -16,7 +16,6 @@ invariant-loop-key g l =
     let now = state g.S.Store l.tx.conn.now in
     let tables = tables_of old.now.trees in
     record {
-      few : l.refused ≤ l.key-index;
       same_reference : l.tx.conn.ghost_name ≡ l.fn.tx.conn.ghost_name;
       now_is : HasCleanDisk now → IsOffice old.now → now.now ≡ old.now;
       same : HasCleanDisk now → IsOffice old.now → IsTrue old.is_open → IsUnchanged old now;
@@ -25,5 +24,5 @@ invariant-loop-key g l =
       reported : HasCleanDisk now → IsOffice old.now → (h : List Answered) → AreKept h tables.reply
           → AreKeptParts h tables.part → (listed : List Answered) → AllByRecursion (IsFirstOf h l.team) listed
           → l.keys ≡ map (λ (a : Answered). a.key) listed
-          → AreTold (take l.key-index listed) l.text.items l.refused;
+          → l.requests.items ≡ flat_map asked_of (take l.key-index listed);
     }

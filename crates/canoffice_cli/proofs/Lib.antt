@@ -10,7 +10,6 @@ mod Stopping
 mod KeptTexts
 mod CompletedTexts
 pub mod Canonical
-pub mod PassedLines
 pub mod Reported
 pub mod CanAnswer
 pub mod LongestLines

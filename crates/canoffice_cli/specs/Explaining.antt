@@ -44,20 +44,20 @@ dash_of (Some path) = Wrong
 abbrev pub IsStated : Files → FileTask → List ℕ → List ℕ → List ℕ → Type 0
 IsStated files (task.Apply database manner) name bytes stated =
     IsStatedOf files name (dash_of database) 1 (lines_of bytes) stated
-IsStated files (task.Check lint) name bytes stated = IsExplained name bytes stated
+IsStated files (task.Check lint json) name bytes stated = IsExplained name bytes stated
 IsStated files (task.Format keep) name bytes stated = IsStatedOfFormat keep name bytes stated
 IsStated files (task.Page path) name bytes stated = stated ≡ []
-IsStated files task.Table name bytes stated = stated ≡ []
+IsStated files (task.Table json) name bytes stated = stated ≡ []
 
 -- the whole of what is stated: of a script also why its commands were refused that have these answers
 abbrev pub IsExplanation : Files → FileTask → List ℕ → List ℕ → List Answer → List ℕ → Type 0
 IsExplanation files (task.Apply database manner) name bytes answers text =
     (stated : List ℕ) × IsStated files (task.Apply database manner) name bytes stated
     × HasReasons name bytes stated answers text
-IsExplanation files (task.Check lint) name bytes answers text = IsStated files (task.Check lint) name bytes text
+IsExplanation files (task.Check lint json) name bytes answers text = IsStated files (task.Check lint json) name bytes text
 IsExplanation files (task.Format keep) name bytes answers text = IsStated files (task.Format keep) name bytes text
 IsExplanation files (task.Page path) name bytes answers text = IsStated files (task.Page path) name bytes text
-IsExplanation files task.Table name bytes answers text = IsStated files task.Table name bytes text
+IsExplanation files (task.Table json) name bytes answers text = IsStated files (task.Table json) name bytes text
 
 -- the output and the status are the plain ones, and something is printed after the plain errors
 pub record Explains (IsStated : List ℕ → Type 0) (plain o : Outcome) : Type 0 where

@@ -16,7 +16,6 @@ pub mod Served
 pub mod Charted
 pub mod WordFault
 pub mod Checked
-pub mod Linted
 pub mod Formatted
 pub mod Compared
 pub mod Tabled

@@ -66,6 +66,6 @@ abbrev pub IsShowOutcome : Desks → Desks → Databases → Databases → Place
 IsShowOutcome earlier later before after place net what name json o =
     IsLookOutcome earlier later before after place (show_look net what name json) o
 
-abbrev pub IsRequestsOutcome : Desks → Desks → Databases → Databases → Place → List ℕ → Outcome → Type 0
-IsRequestsOutcome earlier later before after place team o =
-    IsLookOutcome earlier later before after place (requests_look team) o
+abbrev pub IsRequestsOutcome : Desks → Desks → Databases → Databases → Place → List ℕ → Bool → Outcome → Type 0
+IsRequestsOutcome earlier later before after place team json o =
+    IsLookOutcome earlier later before after place (requests_look team json) o

@@ -26,14 +26,6 @@ code_of Failed = 3
 abbrev pub and_errors : Outcome → List ℕ → Outcome
 and_errors o more = record o { errors = o.errors ++ more }
 
--- the status after these lines of remarks
-abbrev pub remarked : Status → List ℕ → Status
-remarked status lines = if length lines == 0 then status else FaultFound
-
--- the same, with these lines of remarks after its own on standard output
-abbrev pub and_remarks : Outcome → List ℕ → Outcome
-and_remarks o lines = record o { output = o.output ++ lines; status = remarked o.status lines }
-
 -- this text on standard output, and nothing on standard error
 abbrev pub success : List ℕ → Outcome
 success text = record { output = text; errors = []; status = Success }

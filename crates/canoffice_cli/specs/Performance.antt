@@ -17,7 +17,7 @@ use Rattle.canoffice_cli.specs.Charted.{IsChartOutcome}
 use Rattle.canoffice_cli.specs.Compared.{IsCompareOutcome, IsReleasesOutcome}
 use Rattle.canoffice_cli.specs.Exported.{IsExportWith}
 use Rattle.canoffice_cli.specs.Formatted.{IsFormatted}
-use Rattle.canoffice_cli.specs.Linted.{IsCheckedOutcome}
+use Rattle.canoffice_cli.specs.Checked.{IsCheckedOutcome}
 use Rattle.canoffice_cli.specs.Looked.{IsRequestsOutcome, IsShowOutcome}
 use Rattle.canoffice_cli.specs.Migrated.{IsMigrateOutcome}
 use Rattle.canoffice_cli.specs.Paged.{IsFilePageOutcome, IsPageOutcome}
@@ -54,12 +54,13 @@ IsOfTwoFiles IsOf files input path other o =
 abbrev pub IsTaskOutcome : Files → Databases → Databases → FileTask → List ℕ → Outcome → List Answer → Type 0
 IsTaskOutcome files before after (task.Apply database manner) bytes o answers =
     IsApplyOutcome files (option_map (λ path. path.now) database) manner before after bytes o answers
-IsTaskOutcome files before after (task.Check lint) bytes o answers =
-    IsCheckedOutcome (option_map (λ names. names.now) lint) bytes o × AreKept before after
+IsTaskOutcome files before after (task.Check lint json) bytes o answers =
+    IsCheckedOutcome json (option_map (λ names. names.now) lint) bytes o × AreKept before after
 IsTaskOutcome files before after (task.Format keep) bytes o answers = IsFormatted keep bytes o × AreKept before after
 IsTaskOutcome files before after (task.Page path) bytes o answers =
     IsFilePageOutcome path.now bytes o × AreKept before after
-IsTaskOutcome files before after task.Table bytes o answers = IsTableOutcome bytes o × AreKept before after
+IsTaskOutcome files before after (task.Table json) bytes o answers =
+    IsTableOutcome json bytes o × AreKept before after
 
 -- the same for a job, of whose file something may be stated
 abbrev pub IsOfBytes : Files → Databases → Databases → FileJob → List ℕ → Outcome → Type 0
@@ -97,9 +98,9 @@ IsDone files input terminal earlier later before after (Apply database script ex
     × TakesNone earlier later
 IsDone files input terminal earlier later before after (Chart length signals) o =
     IsChartOutcome length (map (λ s. s.now) signals.items) o × AreKept before after × TakesNone earlier later
-IsDone files input terminal earlier later before after (Check file explain lint) o =
+IsDone files input terminal earlier later before after (Check file explain lint json) o =
     IsFileOutcome files input before after
-    (record { task = task.Check lint; path = file; advice = requested explain }) o × TakesNone earlier later
+    (record { task = task.Check lint json; path = file; advice = requested explain }) o × TakesNone earlier later
 IsDone files input terminal earlier later before after (Compare old new json) o =
     IsOfTwoFiles (IsCompareOutcome json old.now new.now) files input old.now new.now o × AreKept before after
     × TakesNone earlier later
@@ -117,8 +118,8 @@ IsDone files input terminal earlier later before after (Page place net number) o
 IsDone files input terminal earlier later before after (PageFile file) o =
     IsFileOutcome files input before after (record { task = task.Page file; path = file; advice = requested false }) o
     × TakesNone earlier later
-IsDone files input terminal earlier later before after (Requests place team) o =
-    IsRequestsOutcome earlier later before after place team.now o
+IsDone files input terminal earlier later before after (Requests place team json) o =
+    IsRequestsOutcome earlier later before after place team.now json o
 IsDone files input terminal earlier later before after (Send sending script) o =
     IsOfFile (TakesNone earlier later) (IsSendOutcome files earlier later sending) script.now
     (source_at files input script.now) o
@@ -128,8 +129,8 @@ IsDone files input terminal earlier later before after (Serve database port coun
 IsDone files input terminal earlier later before after (Show place net what name json) o =
     IsShowOutcome earlier later before after place (option_map (λ word. word.now) net) what
     (option_map (λ word. word.now) name) json o
-IsDone files input terminal earlier later before after (Table file) o =
-    IsFileOutcome files input before after (record { task = task.Table; path = file; advice = requested false }) o
+IsDone files input terminal earlier later before after (Table file json) o =
+    IsFileOutcome files input before after (record { task = task.Table json; path = file; advice = requested false }) o
     × TakesNone earlier later
 
 -- the outcome of words that request no job: the text of their fault

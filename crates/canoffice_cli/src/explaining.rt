@@ -99,12 +99,12 @@ pub(crate) fn stated<F: FileSource>(
         source.entry.text.now stated.items) }
 {
     match task {
-        FileTask::Check(_) => explained(alloc, source),
+        FileTask::Check(_, _) => explained(alloc, source),
         FileTask::Format(keep) => stated_of_format(alloc, source, keep),
         FileTask::Apply(database, _) => {
             let dash = dash_of(database);
             office_advice::explained(alloc, source.name, source.text, dash, files)
         }
-        FileTask::Page(_) | FileTask::Table => Ok(Vec::new(alloc)),
+        FileTask::Page(_) | FileTask::Table(_) => Ok(Vec::new(alloc)),
     }
 }

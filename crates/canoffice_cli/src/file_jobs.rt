@@ -11,11 +11,11 @@ ghost use Rattle.canoffice_cli.specs.Reasons.{HasReasons};
 ghost use Rattle.dbc_advice.specs.ShownPath.{shown_path};
 
 use crate::apply::apply_script;
+use crate::checking::check_report;
 use crate::databases::Databases;
 use crate::explaining::{Advice, stated};
 use crate::files::{FileSource, PathFault, StandardInput, bytes_at};
 use crate::formatting::{format_report, kept_report};
-use crate::linting::checked;
 use crate::paging::file_page_report;
 use crate::progress::Progress;
 use crate::reasons::Reasons;
@@ -31,14 +31,15 @@ use std::io::Write;
 pub(crate) enum FileTask<'a> {
     /// They are a script, which is applied so to the office in the database of this path, or to one in memory.
     Apply(Option<&'a str>, Manner),
-    /// They are DBC text, which is checked; where there are names, with the remarks whose kinds they choose.
-    Check(Option<&'a str>),
+    /// They are DBC text, which is checked; where there are names, with the remarks whose kinds they choose; and as JSON
+    /// where that is wanted.
+    Check(Option<&'a str>, bool),
     /// They are DBC text, which is printed in its canonical form, with the statements that are skipped or without.
     Format(bool),
     /// They are DBC text, which is printed as one page that is named after this path.
     Page(&'a str),
-    /// They are DBC text, the table of whose messages is printed.
-    Table,
+    /// They are DBC text, the table of whose messages is printed, as JSON where that is wanted.
+    Table(bool),
 }
 
 /// A job on a file.
@@ -292,9 +293,9 @@ fn task_report<F: FileSource, D: Databases, W: Write>(
                 progress,
             )
         }
-        FileTask::Check(lint) => checked(alloc, bytes, lint),
+        FileTask::Check(lint, json) => check_report(alloc, bytes, lint, json),
         FileTask::Format(keep) => formatted_report(alloc, bytes, keep),
         FileTask::Page(path) => file_page_report(alloc, path, bytes),
-        FileTask::Table => table_report(alloc, bytes),
+        FileTask::Table(json) => table_report(alloc, bytes, json),
     }
 }

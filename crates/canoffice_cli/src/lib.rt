@@ -4,7 +4,7 @@
 //! - `files` reads files and standard input: those of the machine, or those of a list in memory. `databases` has the
 //!   offices in databases, of which one in memory is here, and the crate `canoffice_desks` those that desks serve;
 //!   those of the machine are in the program itself.
-//! - `apply`, `sending`, `looking`, `exporting`, `migrating`, `serving`, `charting`, `checking`, `linting`,
+//! - `apply`, `sending`, `looking`, `exporting`, `migrating`, `serving`, `charting`, `checking`,
 //!   `comparing`, `formatting`, `paging` and `tabling` do the jobs. `answering` answers the arrivals of a script, by an
 //!   office in memory or on a connection to a database, `progress` shows how far it is, and `room` is taken before for
 //!   what is printed after.
@@ -31,7 +31,6 @@ mod file_jobs;
 mod files;
 mod formatting;
 mod lines;
-mod linting;
 mod looking;
 mod migrating;
 mod paging;
@@ -59,7 +58,6 @@ pub use files::{
     FileSource, HostFiles, ListedFiles, NamedFile, PathFault, StandardInput, bytes_at,
 };
 pub use formatting::{format_report, kept_report};
-pub use linting::lint_report;
 pub use looking::{look_on, requests_report, show_report};
 pub use migrating::{migrate_on, migrate_report};
 pub use paging::{file_page_report, page_report};

@@ -219,14 +219,15 @@ pub fn requests_report<D: Databases, K: Desks>(
     desks: &mut K,
     place: Place<'_>,
     team: &str,
+    json: bool,
 ) -> Result<Report, AllocError>
     ensures shown { IfOk result (λ report. IsRequestsOutcome (K.known desks.old) (K.known desks.new)
-        (D.known databases.old) (D.known databases.new) place.entry team.now
+        (D.known databases.old) (D.known databases.new) place.entry team.now json
         (outcome_of report)) }
     ensures lost { OnErr result (IsUnprinted (K.known desks.old) (K.known desks.new)
         (IsRequestsOutcome (K.known desks.old) (K.known desks.new) (D.known databases.old)
-        (D.known databases.new) place.entry team.now)) }
+        (D.known databases.new) place.entry team.now json)) }
 {
-    let look = requests_look(alloc, team)?;
+    let look = requests_look(alloc, team, json)?;
     look_report(alloc, databases, desks, place, look)
 }

@@ -184,8 +184,10 @@ pub fn report_of<F: FileSource + StandardInput, D: Databases, K: Desks, W: Write
             file,
             explain,
             lint,
+            json,
         } => {
-            let job = FileJob::new(FileTask::Check(*lint), file, Advice::requested(*explain));
+            let task = FileTask::Check(*lint, *json);
+            let job = FileJob::new(task, file, Advice::requested(*explain));
             file_report(alloc, job, files, databases, progress)
         }
         Job::Compare { old, new, json } => compare_report(alloc, files, old, new, *json),
@@ -219,7 +221,9 @@ pub fn report_of<F: FileSource + StandardInput, D: Databases, K: Desks, W: Write
             let job = FileJob::new(FileTask::Page(file), file, Advice::Nothing);
             file_report(alloc, job, files, databases, progress)
         }
-        Job::Requests { place, team } => requests_report(alloc, databases, desks, *place, team),
+        Job::Requests { place, team, json } => {
+            requests_report(alloc, databases, desks, *place, team, *json)
+        }
         Job::Send { sending, script } => {
             send_report(alloc, script, files, desks, *sending, progress)
         }
@@ -236,8 +240,8 @@ pub fn report_of<F: FileSource + StandardInput, D: Databases, K: Desks, W: Write
             name,
             json,
         } => show_report(alloc, databases, desks, *place, *net, *what, *name, *json),
-        Job::Table { file } => {
-            let job = FileJob::new(FileTask::Table, file, Advice::Nothing);
+        Job::Table { file, json } => {
+            let job = FileJob::new(FileTask::Table(*json), file, Advice::Nothing);
             file_report(alloc, job, files, databases, progress)
         }
     }

@@ -1,6 +1,6 @@
 //! The result of a run: bytes for the program's two streams, and its exit status.
 ghost use Rattle.std.specs.Prelude.{◌≡◌, ◌⊎◌, [], IfOk, string_bytes};
-ghost use Rattle.canoffice_cli.specs.Outcome.{and_errors, and_remarks, code_of, outcome_of, remarked, success};
+ghost use Rattle.canoffice_cli.specs.Outcome.{and_errors, code_of, outcome_of, success};
 ghost use Rattle.canoffice_cli.specs.Outcome.{unreadable, wrong_input, wrong_line, wrong_word};
 
 use dbc_advice::shown_path;
@@ -88,29 +88,6 @@ impl Report {
         let mut report = self;
         let _added = report.errors.extend_from_slice(advice);
         report
-    }
-
-    /// The report with the lines of remarks after its own for standard output. Where there is one its status is
-    /// `FaultFound`. The error is out of memory.
-    pub(crate) fn and_remarks(self, lines: &[u8]) -> Result<Report, AllocError>
-        ensures { IfOk result (λ report. outcome_of report ≡ and_remarks (outcome_of self)
-            lines.now) }
-    {
-        let mut remarked_on = self;
-        remarked_on.status = remarked(remarked_on.status, lines);
-        remarked_on.output.extend_from_slice(lines)?;
-        Ok(remarked_on)
-    }
-}
-
-/// The status after these lines of remarks.
-fn remarked(status: Status, lines: &[u8]) -> Status
-    ensures { result ≡ remarked status lines.now }
-{
-    if lines.is_empty() {
-        status
-    } else {
-        Status::FaultFound
     }
 }
 

@@ -9,7 +9,7 @@ pub mod OfNode
 pub mod OfTable
 pub mod Tokens
 pub mod OfFile
-pub mod Lines
+pub mod Listing
 pub mod NumberSet
 pub mod Whole
 pub mod Reached

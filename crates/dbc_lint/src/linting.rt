@@ -3,10 +3,9 @@ ghost use Rattle.std.specs.Prelude.{◌≡◌, IfErr, IfOk};
 ghost use Rattle.dbc_lex.specs.Fault.{UnlessMemory};
 ghost use Rattle.dbc_statements.specs.Division.{HasNoDivision};
 ghost use Rattle.dbc_statements.specs.Statement.{statements_of};
-ghost use Rattle.dbc_lint.specs.Lines.{AreRemarks, IsLinted};
+ghost use Rattle.dbc_lint.specs.Listing.{AreRemarks};
 ghost use Rattle.dbc_lint.specs.OfFile.{of_statements};
 
-use crate::lines::lines_of;
 use crate::of_statement::add_of_statement;
 use crate::remark::Remark;
 use crate::whole::Whole;
@@ -44,18 +43,4 @@ pub fn remarks_on(alloc: Global, text: &[u8], sheet: &Sheet) -> Result<Vec<Remar
     let whole = Whole::of(alloc, sheet)?;
     let remarks = remarks_of(alloc, text, &whole, &statements)?;
     Ok(remarks)
-}
-
-/// A line for each remark on a sheet whose kind the names choose, `remark LINE:COLUMN NAME WORDS`, at its place in the
-/// text that reads as the sheet and in the order of that text; at one place in ascending order of the numbers of the
-/// kinds. The names have commas between them, and where there are none, all kinds are chosen.
-///
-/// The fault is out of memory, if the text reads as a sheet.
-pub fn lint(alloc: Global, text: &[u8], sheet: &Sheet, names: &str) -> Result<Vec<u8>, ReadFault>
-    ensures ok { IfOk result (λ lines. IsLinted text.now sheet.now names.now lines.items) }
-    ensures err { IfErr result (λ fault. UnlessMemory fault.code (HasNoDivision text.now)) }
-{
-    let remarks = remarks_on(alloc, text, sheet)?;
-    let lines = lines_of(alloc, text, names, &remarks)?;
-    Ok(lines)
 }

@@ -1,13 +1,16 @@
-use Rattle.std.proofs.Common.{ap, inr, refl, ◌∙◌}
-use Rattle.canoffice_cli.specs.Checked.{fault_output}
+use Rattle.std.proofs.Common.{◌∙◌, ◌∷◌, [], ap, inr, refl}
+use Rattle.std.proofs.lemmas.Result.{IfOk-weaker}
 use Rattle.dbc_read.proofs.ReadFaults.{read_fault}
+use Rattle.canoffice_cli.specs.Checked.{listed}
+use Rattle.canoffice_cli.specs.declared.report.Status.TheVariants.{FaultFound}
 use Rattle.canoffice_cli.proofs.checking.check_report.Goals as goal
 
-pub returns-in_ok-line-in_default : goal.returns-in_ok-line-in_default
-returns-in_ok-line-in_default c =
-    inr (
+pub returns-in_ok-kinds-in_default : goal.returns-in_ok-kinds-in_default
+returns-in_ok-kinds-in_default c =
+    IfOk-weaker c.listed.result _ _ (λ report is. inr (
       c.in-Err.fault,
       read_fault c.args.source.now c.in-Err.fault _ refl c.in_default.not-Memory
           (c.in-Err.ensures.none c.in_default.not-Memory) c.in-Err.ensures.within c.in-Err.ensures.tokens,
-      c.of_output.ensures ∙ ap fault_output c.in_ok-line-in_default.ensures,
-    )
+      is ∙ ap (λ kinds. listed c.args.json kinds FaultFound) (c.in_ok-kinds-in_default.ensures.items
+          ∙ ap (λ kind. kind ∷ []) c.in_ok-fault_kind-in_default.ensures),
+    )) c.listed.ensures

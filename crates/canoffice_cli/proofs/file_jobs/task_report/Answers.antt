@@ -1,7 +1,7 @@
 use Rattle.std.specs.Prelude.{option_map}
 use Rattle.canoffice_cli.specs.Applied.{IsApplyOutcome}
 use Rattle.canoffice_cli.specs.Formatted.{IsFormatted}
-use Rattle.canoffice_cli.specs.Linted.{IsCheckedOutcome}
+use Rattle.canoffice_cli.specs.Checked.{IsCheckedOutcome}
 use Rattle.canoffice_cli.specs.Paged.{IsFilePageOutcome}
 use Rattle.canoffice_cli.specs.Tabled.{IsTableOutcome}
 use Rattle.canoffice_cli.proofs.FileJobs.{with_answers, without_answers}
@@ -18,8 +18,8 @@ returns-in-Apply g c =
 pub returns-in-Check : goal.returns-in-Check
 returns-in-Check g c =
     rw c.in-Check.is (without_answers (g.D.Databases.known c.args.databases.now)
-    (IsCheckedOutcome (option_map (λ names. names.now) c.in-Check.lint) c.args.bytes.now) c.checked.result
-    c.checked.ensures)
+    (IsCheckedOutcome c.in-Check.json (option_map (λ names. names.now) c.in-Check.lint) c.args.bytes.now)
+    c.check_report.result c.check_report.ensures)
 
 pub returns-in-Format : goal.returns-in-Format
 returns-in-Format g c =
@@ -33,5 +33,5 @@ returns-in-Page g c =
 
 pub returns-in-Table : goal.returns-in-Table
 returns-in-Table g c =
-    rw c.in-Table.is (without_answers (g.D.Databases.known c.args.databases.now) (IsTableOutcome c.args.bytes.now)
+    rw c.in-Table.is (without_answers (g.D.Databases.known c.args.databases.now) (IsTableOutcome c.in-Table.json c.args.bytes.now)
     c.table_report.result c.table_report.ensures)

@@ -1,36 +1,37 @@
-//! The lines of remarks.
-ghost use Rattle.std.specs.Prelude.{◌≡◌, ◌≤◌, ◌+◌, ◌++◌, IfOk, OnOk, length, string_bytes};
+//! Remarks as a list.
+ghost use Rattle.std.specs.Prelude.{◌≡◌, ◌≤◌, ◌+◌, ◌++◌, ◌∷◌, [], IfOk, OnOk, length};
 ghost use Rattle.dbc_advice.specs.Position.{position_at};
-ghost use Rattle.dbc_lint.specs.Lines.{line_at, lines_of, position_text};
+ghost use Rattle.dbc_lint.specs.Listing.{remark_row, remark_rows};
 ghost use Rattle.dbc_lint.specs.Reached.{IsReached};
 
 use crate::kind::is_chosen;
 use crate::remark::Remark;
 use dbc_advice::Position;
+use rows::{Cell, Column, Place, Rows};
 use std::alloc::{AllocError, Global};
 
-/// `remark` and the position.
-fn position_text(alloc: Global, position: Position) -> Result<String, AllocError>
-    ensures { IfOk result (λ text. string_bytes text ≡ position_text position) }
-{
-    format!(in alloc; "remark {}:{} ", position.line, position.column)
-}
+/// The columns of a remark.
+pub const REMARKS: [Column; 3] = [
+    Column(*b"place       ", Place::Plain),
+    Column(*b"kind        ", Place::Plain),
+    Column(*b"about       ", Place::Plain),
+];
 
-/// Adds the line of a remark.
-fn add_line(
+/// Adds the row of a remark.
+fn push_remark<'a>(
     alloc: Global,
+    rows: &mut Rows<'a>,
     position: Position,
-    remark: &Remark,
-    lines: &mut Vec<u8>,
+    remark: &'a Remark,
 ) -> Result<(), AllocError>
-    ensures { OnOk result (lines.new.items ≡ lines.old.items ++ line_at position remark.now) }
+    ensures { OnOk result (rows.new ≡ rows.old ++ remark_row position remark.now ∷ []) }
 {
-    let words = position_text(alloc, position)?;
-    lines.extend_from_slice(words.as_bytes())?;
-    lines.extend_from_slice(remark.kind.name().as_bytes())?;
-    lines.extend_from_slice(b" ")?;
-    lines.extend_from_slice(remark.words.as_slice())?;
-    lines.extend_from_slice(b"\n")
+    let cells = vec![in alloc;
+        Cell::Position(position.line, position.column),
+        Cell::Name(remark.kind.name().as_bytes()),
+        Cell::Name(remark.words.as_slice()),
+    ]?;
+    rows.push(cells)
 }
 
 /// The position of an offset, from that of an earlier one.
@@ -80,16 +81,17 @@ fn reached_next(text: &[u8], reached: Reached, at: usize) -> Reached
     Reached { at, position }
 }
 
-/// The lines of the remarks whose kinds the names choose, in order.
-pub(crate) fn lines_of(
+/// The remarks whose kinds the names choose, in order, each with its line and column in the text, its kind, and what it is
+/// about. The names have commas between them, and where there are none, all kinds are chosen. The error is out of memory.
+pub fn remark_rows<'a>(
     alloc: Global,
     text: &[u8],
     names: &str,
-    remarks: &[Remark],
-) -> Result<Vec<u8>, AllocError>
-    ensures { IfOk result (λ lines. lines.items ≡ lines_of text.now names.now remarks.now) }
+    remarks: &'a [Remark],
+) -> Result<Rows<'a>, AllocError>
+    ensures { IfOk result (λ rows. rows ≡ remark_rows text.now names.now remarks.now) }
 {
-    let mut lines = Vec::new(alloc);
+    let mut rows = Rows::new(alloc);
     let mut reached = Reached {
         at: 0,
         position: Position { line: 1, column: 1 },
@@ -97,8 +99,8 @@ pub(crate) fn lines_of(
     for remark in remarks {
         if is_chosen(names, remark.kind) {
             reached = reached_next(text, reached, remark.at.min(text.len()));
-            add_line(alloc, reached.position, remark, &mut lines)?;
+            push_remark(alloc, &mut rows, reached.position, remark)?;
         }
     }
-    Ok(lines)
+    Ok(rows)
 }

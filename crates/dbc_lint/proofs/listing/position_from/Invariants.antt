@@ -1,6 +1,6 @@
 use Rattle.std.proofs.Common.{◌≡◌, ◌≤◌, ◌+◌}
 use Rattle.dbc_advice.specs.Position.{position_at}
-use Rattle.dbc_lint.proofs.lines.position_from.Given as goal
+use Rattle.dbc_lint.proofs.listing.position_from.Given as goal
 
 abbrev pub invariant-loop-next : goal.invariant-loop-next
 invariant-loop-next l = record {

@@ -1,8 +1,9 @@
 -- What clap's matches and errors say of the job and of the fault.
-use Rattle.std.proofs.Common.{◌≡◌, ◌∷◌, map, ◌⊎◌, inl, inr, ap, Bool, List, Option, Some, None, codes, option_map, refl}
+use Rattle.std.proofs.Common.{◌≡◌, ◌∷◌, map, ◌⊎◌, ◌&&◌, ◌||◌, inl, inr, ap, Bool, List, [], Option, Some, None, codes, option_map, refl}
 use Rattle.std.proofs.Common.{subst, true, false, true≢false, sym, ◌∙◌}
-use Rattle.std.specs.Prelude.{◌≢◌, find}
+use Rattle.std.specs.Prelude.{find}
 use Rattle.std.specs.Borrow.{Bor}
+use Rattle.std.specs.List.{list_any}
 use Rattle.std.specs.Option.{IsSome, option_map_or}
 use Rattle.std.specs.Str.{bytes_eq}
 use Rattle.std.proofs.lemmas.Slice.Eq.{bytes_eq-Decides}
@@ -12,18 +13,19 @@ use Rattle.clap.specs.Simple.{subcommand_rows}
 use Rattle.clap.specs.declared.parser.matches.ArgMatches.{ArgMatches}
 use Rattle.clap.specs.declared.parser.matches.ArgMatches.TheViews.{out-ArgMatches, out-SubCommand}
 use Rattle.clap.specs.declared.parser.matches.SubCommand.{SubCommand}
-use Rattle.clap.specs.Words.{App, subcommand_name_of, subcommand_rows_of, IsAmong, Row, Text, all_of, matched_of}
+use Rattle.clap.specs.Words.{App, Rule, Shape, subcommand_name_of, subcommand_rows_of, IsAmong, Row, Text, all_of, matched_of}
 use Rattle.clap.specs.Words.{raw_values, first_value, fault_of, first_of, is_simple_and_free, rows_of}
 use Rattle.clap.specs.declared.error.kind.ErrorKind.{ErrorKind}
 use Rattle.clap.specs.declared.error.kind.ErrorKind.TheVariants.{OutOfMemory, ValueValidation}
-use Rattle.canoffice_jobs.specs.CommandLine.{HasSome, HasValueFault, IsEntered, IsFaultOfKind, IsJobFault, IsWhole}
-use Rattle.canoffice_jobs.specs.CommandLine.{are_absent, are_files, canoffice_app, is_set, line_faults}
+use Rattle.canoffice_jobs.specs.CommandLine.{HasRequired, HasSome, HasValueFault, IsEntered, IsFaultOfKind}
+use Rattle.canoffice_jobs.specs.CommandLine.{IsJobFault, IsWhole, are_absent, are_files, is_set, line_faults}
+use Rattle.canoffice_jobs.specs.Subcommands.{canoffice_app}
 use Rattle.canoffice_jobs.specs.declared.job.JobFault.{JobFault}
 use Rattle.canoffice_jobs.specs.declared.job.JobFault.TheVariants.{Help, Usage, Memory}
 use Rattle.canoffice_jobs.specs.declared.job.ValueFault.{ValueFault}
 use Rattle.canoffice_jobs.specs.declared.job.ValueFault.TheVariants as value
 use Rattle.clap.specs.declared.parser.matches.Found.{Found}
-use Rattle.clap.proofs.WalkLemmas.{first_value-rows, raw_values-rows}
+use Rattle.clap.proofs.WalkLemmas.{both, first_value-rows, raw_values-rows}
 
 -- the value that a getter gives is the one that is in the rows
 pub value_in_rows : (f : Found) (id text : Text) → first_value f id ≡ Some text → first_of id (rows_of f) ≡ Some text
@@ -126,11 +128,38 @@ pub texts_are_given : (f : Found) (id : Text) (r : Option (Bor (List (Bor Text))
 texts_are_given f id None is h = let bad : None ≡ Some (h.0 ∷ h.1) = is ∙ raw_values-rows f id ∙ h.3 in cc
 texts_are_given f id (Some texts) is h = refl
 
--- the subcommand that was entered is the program's own of that name, with all that it needs
-pub entered_by_name : (m : ArgMatches) (name : Text) (rows : List Row) (known : Text) → Some name ≡ subcommand_name_of m
-    → Some rows ≡ option_map (λ p. p.1) (subcommand_rows_of m)
-    → bytes_eq name known ≡ true → IsEntered (subcommand_rows_of m)
-    → IsWhole (find (λ s. bytes_eq known s.name) canoffice_app.subs) rows
-entered_by_name m name rows known a b same entered =
+-- whether the program's subcommand of this name requires the argument
+abbrev pub requires : Text → Text → Bool
+requires known id = option_map_or (λ (s : Shape). list_any (λ r. bytes_eq r.id id && r.required) s.rules)
+    (find (λ s. bytes_eq known s.name) canoffice_app.subs) false
+
+required_among : (rules : List Rule) (rows : List Row) (id : Text) → HasRequired rules rows
+    → list_any (λ r. bytes_eq r.id id && r.required) rules ≡ true → HasSome rows id
+required_among [] rows id has e = absurd (true≢false (sym e))
+required_among (r ∷ rules) rows id has e =
+    by_rule (bytes_eq r.id id && r.required) refl e (required_among rules rows id has.1)
+  where
+    later : Bool
+    later = list_any (λ x. bytes_eq x.id id && x.required) rules
+
+    by_rule : (b : Bool) → (bytes_eq r.id id && r.required) ≡ b → (b || later) ≡ true
+        → (later ≡ true → HasSome rows id) → HasSome rows id
+    by_rule true is e below =
+        let parts = both (bytes_eq r.id id) r.required is in
+        subst (HasSome rows) ((bytes_eq-Decides r.id id).0 parts.0) (has.0 parts.1)
+    by_rule false is e below = below e
+
+required_of : (o : Option Shape) (rows : List Row) (id : Text) → IsWhole o rows
+    → option_map_or (λ (s : Shape). list_any (λ r. bytes_eq r.id id && r.required) s.rules) o false ≡ true
+    → HasSome rows id
+required_of None rows id whole e = absurd whole
+required_of (Some s) rows id whole e = required_among s.rules rows id whole e
+
+-- the subcommand that was entered has the arguments that the program's own of that name requires
+pub entered_has : (m : ArgMatches) (name : Text) (rows : List Row) (known id : Text) → requires known id ≡ true
+    → Some name ≡ subcommand_name_of m → Some rows ≡ option_map (λ p. p.1) (subcommand_rows_of m)
+    → bytes_eq name known ≡ true → IsEntered (subcommand_rows_of m) → HasSome rows id
+entered_has m name rows known id needs a b same entered =
     let by_name : IsEntered (Some (name, rows)) = subst IsEntered (found_pair m name rows a b) entered in
-    subst (λ n. IsEntered (Some (n, rows))) ((bytes_eq-Decides name known).0 same) by_name
+    required_of (find (λ s. bytes_eq known s.name) canoffice_app.subs) rows id
+    (subst (λ n. IsEntered (Some (n, rows))) ((bytes_eq-Decides name known).0 same) by_name) needs

@@ -1,18 +1,24 @@
 -- Where clap finds no fault in the words, one of the program's subcommands was entered, with all the arguments that it
 -- needs.
-use Rattle.std.proofs.Common.{◌≡◌, ◌∙◌, ◌&&◌, ◌||◌, inl, inr, Bool, true, false, refl, sym, ap, subst, codes, List, []}
-use Rattle.std.proofs.Common.{Some, true≢false}
+use Rattle.std.proofs.Common.{◌≡◌, ◌∙◌, ◌&&◌, ◌||◌, Bool, true, false, not, refl, sym, ap, subst, codes, List, []}
+use Rattle.std.proofs.Common.{◌∷◌, Option, Some, None, true≢false}
+use Rattle.std.specs.Prelude.{find}
+use Rattle.std.specs.List.{list_all}
+use Rattle.std.specs.Option.{option_map_or}
 use Rattle.std.specs.Str.{bytes_eq}
 use Rattle.std.proofs.lemmas.Slice.Eq.{bytes_eq-Decides}
 use Rattle.clap.specs.Faults.{fault_of, is_simple_and_free}
 use Rattle.clap.specs.declared.parser.matches.ArgMatches.{ArgMatches}
-use Rattle.clap.specs.Walk.{Text, answers_to, rows_after}
+use Rattle.clap.specs.Walk.{Rule, Text, answers_to, is_empty, rows_after}
 use Rattle.clap.specs.Simple.{App, HasMatchesOf, Shape, subcommand_rows_of, built, label_of, subcommand_of}
-use Rattle.canoffice_jobs.specs.CommandLine.{HasSome, HasValueFault, IsEntered, IsJob, IsJobIn, IsValueFaultIn}
-use Rattle.canoffice_jobs.specs.CommandLine.{canoffice_app, line_faults}
+use Rattle.canoffice_jobs.specs.CommandLine.{HasRequired, HasSome, HasValueFault, IsEntered, IsJob, IsJobIn}
+use Rattle.canoffice_jobs.specs.CommandLine.{IsValueFaultIn, IsWhole, line_faults}
+use Rattle.canoffice_jobs.specs.Subcommands.{canoffice_app}
 use Rattle.canoffice_jobs.specs.declared.job.Job.{Job}
 use Rattle.canoffice_jobs.specs.declared.job.ValueFault.{ValueFault}
-use Rattle.canoffice_jobs.proofs.NoFault.{Among}
+use Rattle.clap.proofs.SimpleLemmas.{is_nil}
+use Rattle.clap.proofs.WalkLemmas.{both}
+use Rattle.canoffice_jobs.proofs.NoFault.{Among, all_among}
 use Rattle.canoffice_jobs.proofs.FilledWalk.{IsNoHelp}
 use Rattle.canoffice_jobs.proofs.GivenValues.{Passes, leaf_required, needs_value}
 use Rattle.canoffice_jobs.proofs.EnteredSubcommand.{Entered, subcommand_entered}
@@ -31,127 +37,63 @@ help_called called e = go (bytes_eq (codes "help") called) refl e
     go true t e = (bytes_eq-Decides called (codes "help")).1 (sym ((bytes_eq-Decides (codes "help") called).0 t))
     go false t e = absurd (true≢false (sym e))
 
--- the subcommand that was entered is one of the program's, and not the one that answers with help
+holds : (r n : Bool) → (not r || n) ≡ true → r ≡ true → n ≡ true
+holds true n e required = e
+holds false n e required = absurd (true≢false (sym required))
+
+-- each required argument of these has a value where clap reads them as `s` says
+covers : (s : Shape) (rest : List Text) → Passes s rest → (rules : List Rule)
+    → list_all (λ r. not r.required || needs_value s.rules r.id) rules ≡ true
+    → HasRequired rules (rows_after s.rules [] rest)
+covers s rest passes [] e = tt
+covers s rest passes (r ∷ rules) e = (
+  (λ required. needed s rest r.id passes (holds r.required _ (both _ _ e).0 required)),
+  covers s rest passes rules (both _ _ e).1,
+)
+
+-- ---- each subcommand that clap knows is the one that answers with help, or one of the program's
+
+abbrev is_help : Shape → Bool
+is_help s = bytes_eq s.name (codes "help") && is_empty s.aliases
+
+abbrev own : Shape → Option Shape
+own s = find (λ u. bytes_eq s.name u.name) canoffice_app.subs
+
+abbrev is_own : Shape → Option Shape → Bool
+is_own s = λ o. option_map_or (λ (u : Shape). list_all (λ r. not r.required || needs_value s.rules r.id) u.rules) o false
+
+all_known : list_all (λ s. is_help s || is_own s (own s)) (built canoffice_app).subs ≡ true
+all_known = refl
+
+-- no word calls the one that answers with help
+no_help_called : (s : Shape) (called : Text) → is_help s ≡ true → answers_to called (label_of s) ≡ true
+    → bytes_eq called (codes "help") ≡ true
+no_help_called s called e answers =
+    let parts = both (bytes_eq s.name (codes "help")) (is_empty s.aliases) e in
+    let label : label_of s ≡ (codes "help", []) =
+    ap (λ name. (name, s.aliases)) ((bytes_eq-Decides s.name (codes "help")).0 parts.0)
+    ∙ ap (λ aliases. (codes "help", aliases)) (is_nil s.aliases parts.1) in
+    help_called called (subst (λ (l : Text × List Text). answers_to called l ≡ true) label answers)
+
+and_true : (b : Bool) → (b && true) ≡ false → b ≡ false
+and_true true e = e
+and_true false e = refl
+
 own_entered : (s : Shape) (called : Text) (rest : List Text) → Among s (built canoffice_app).subs
     → answers_to called (label_of s) ≡ true → IsNoHelp (built canoffice_app).top called
     → Passes s rest → IsEntered (Some (s.name, rows_after s.rules [] rest))
-own_entered s called rest (inl same) answers no_help passes =
-    let name : s.name ≡ codes "apply" = ap (λ x. x.name) same in
-    let script = needed s rest (codes "SCRIPT") passes (ap (λ x. needs_value x.rules (codes "SCRIPT")) same) in
-    subst (λ n. IsEntered (Some (n, rows_after s.rules [] rest))) (sym name) (
-      (λ never. absurd (true≢false (sym never))),
-      (
-        (λ never. absurd (true≢false (sym never))),
-        ((λ never. absurd (true≢false (sym never))), ((λ never. absurd (true≢false (sym never))), ((λ _. script), tt))),
-      ),
-    )
-own_entered s called rest (inr (inl same)) answers no_help passes =
-    let name : s.name ≡ codes "chart" = ap (λ x. x.name) same in
-    let length = needed s rest (codes "LENGTH") passes (ap (λ x. needs_value x.rules (codes "LENGTH")) same) in
-    let signal = needed s rest (codes "SIGNAL") passes (ap (λ x. needs_value x.rules (codes "SIGNAL")) same) in
-    subst (λ n. IsEntered (Some (n, rows_after s.rules [] rest))) (sym name) ((λ _. length), ((λ _. signal), tt))
-own_entered s called rest (inr (inr (inl same))) answers no_help passes =
-    let name : s.name ≡ codes "check" = ap (λ x. x.name) same in
-    let file = needed s rest (codes "FILE") passes (ap (λ x. needs_value x.rules (codes "FILE")) same) in
-    subst (λ n. IsEntered (Some (n, rows_after s.rules [] rest))) (sym name) (
-      (λ never. absurd (true≢false (sym never))),
-      ((λ never. absurd (true≢false (sym never))), ((λ _. file), tt)),
-    )
-own_entered s called rest (inr (inr (inr (inl same)))) answers no_help passes =
-    let name : s.name ≡ codes "compare" = ap (λ x. x.name) same in
-    let first = needed s rest (codes "A") passes (ap (λ x. needs_value x.rules (codes "A")) same) in
-    let second = needed s rest (codes "B") passes (ap (λ x. needs_value x.rules (codes "B")) same) in
-    subst (λ n. IsEntered (Some (n, rows_after s.rules [] rest))) (sym name) (
-      (λ never. absurd (true≢false (sym never))),
-      (
-        (λ never. absurd (true≢false (sym never))),
-        (
-          (λ never. absurd (true≢false (sym never))),
-          ((λ _. first), ((λ _. second), ((λ never. absurd (true≢false (sym never))), tt))),
-        ),
-      ),
-    )
-own_entered s called rest (inr (inr (inr (inr (inl same))))) answers no_help passes =
-    let name : s.name ≡ codes "export" = ap (λ x. x.name) same in
-    let database = needed s rest (codes "db") passes (ap (λ x. needs_value x.rules (codes "db")) same) in
-    let net = needed s rest (codes "NET") passes (ap (λ x. needs_value x.rules (codes "NET")) same) in
-    let number = needed s rest (codes "N") passes (ap (λ x. needs_value x.rules (codes "N")) same) in
-    subst (λ n. IsEntered (Some (n, rows_after s.rules [] rest))) (sym name) (
-      (λ never. absurd (true≢false (sym never))),
-      ((λ never. absurd (true≢false (sym never))), ((λ _. database), ((λ _. net), ((λ _. number), tt)))),
-    )
-own_entered s called rest (inr (inr (inr (inr (inr (inl same)))))) answers no_help passes =
-    let name : s.name ≡ codes "format" = ap (λ x. x.name) same in
-    let file = needed s rest (codes "FILE") passes (ap (λ x. needs_value x.rules (codes "FILE")) same) in
-    subst (λ n. IsEntered (Some (n, rows_after s.rules [] rest))) (sym name)
-    ((λ never. absurd (true≢false (sym never))), ((λ never. absurd (true≢false (sym never))), ((λ _. file), tt)))
-own_entered s called rest (inr (inr (inr (inr (inr (inr (inl same))))))) answers no_help passes =
-    let name : s.name ≡ codes "migrate" = ap (λ x. x.name) same in
-    let database = needed s rest (codes "db") passes (ap (λ x. needs_value x.rules (codes "db")) same) in
-    subst (λ n. IsEntered (Some (n, rows_after s.rules [] rest))) (sym name) ((λ _. database), tt)
-own_entered s called rest (inr (inr (inr (inr (inr (inr (inr (inl same)))))))) answers no_help passes =
-    let name : s.name ≡ codes "page" = ap (λ x. x.name) same in
-    let net = needed s rest (codes "NET") passes (ap (λ x. needs_value x.rules (codes "NET")) same) in
-    subst (λ n. IsEntered (Some (n, rows_after s.rules [] rest))) (sym name) (
-      (λ never. absurd (true≢false (sym never))),
-      (
-        (λ never. absurd (true≢false (sym never))),
-        ((λ _. net), ((λ never. absurd (true≢false (sym never))), tt)),
-      ),
-    )
-own_entered s called rest (inr (inr (inr (inr (inr (inr (inr (inr (inl same))))))))) answers no_help passes =
-    let name : s.name ≡ codes "requests" = ap (λ x. x.name) same in
-    let team = needed s rest (codes "TEAM") passes (ap (λ x. needs_value x.rules (codes "TEAM")) same) in
-    subst (λ n. IsEntered (Some (n, rows_after s.rules [] rest))) (sym name)
-    ((λ never. absurd (true≢false (sym never))), ((λ never. absurd (true≢false (sym never))), ((λ _. team), tt)))
-own_entered s called rest (inr (inr (inr (inr (inr (inr (inr (inr (inr (inl same)))))))))) answers no_help passes =
-    let name : s.name ≡ codes "send" = ap (λ x. x.name) same in
-    let script = needed s rest (codes "SCRIPT") passes (ap (λ x. needs_value x.rules (codes "SCRIPT")) same) in
-    subst (λ n. IsEntered (Some (n, rows_after s.rules [] rest))) (sym name) (
-      (λ never. absurd (true≢false (sym never))),
-      (
-        (λ never. absurd (true≢false (sym never))),
-        ((λ never. absurd (true≢false (sym never))), ((λ never. absurd (true≢false (sym never))), ((λ _. script), tt))),
-      ),
-    )
-own_entered s called rest (inr (inr (inr (inr (inr (inr (inr (inr (inr (inr (inl same))))))))))) answers no_help passes =
-    let name : s.name ≡ codes "serve" = ap (λ x. x.name) same in
-    let database = needed s rest (codes "db") passes (ap (λ x. needs_value x.rules (codes "db")) same) in
-    subst (λ n. IsEntered (Some (n, rows_after s.rules [] rest))) (sym name) (
-      (λ _. database),
-      (
-        (λ never. absurd (true≢false (sym never))),
-        ((λ never. absurd (true≢false (sym never))), ((λ never. absurd (true≢false (sym never))), tt)),
-      ),
-    )
-own_entered s called rest (inr (inr (inr (inr (inr (inr (inr (inr (inr (inr (inr (inl same)))))))))))) answers no_help passes =
-    let name : s.name ≡ codes "show" = ap (λ x. x.name) same in
-    subst (λ n. IsEntered (Some (n, rows_after s.rules [] rest))) (sym name) (
-      (λ never. absurd (true≢false (sym never))),
-      (
-        (λ never. absurd (true≢false (sym never))),
-        (
-          (λ never. absurd (true≢false (sym never))),
-          (
-            (λ never. absurd (true≢false (sym never))),
-            ((λ never. absurd (true≢false (sym never))), ((λ never. absurd (true≢false (sym never))), tt)),
-          ),
-        ),
-      ),
-    )
-own_entered s called rest (inr (inr (inr (inr (inr (inr (inr (inr (inr (inr (inr (inr (inl same))))))))))))) answers no_help passes =
-    let name : s.name ≡ codes "table" = ap (λ x. x.name) same in
-    let file = needed s rest (codes "FILE") passes (ap (λ x. needs_value x.rules (codes "FILE")) same) in
-    subst (λ n. IsEntered (Some (n, rows_after s.rules [] rest))) (sym name) ((λ _. file), tt)
-own_entered s called rest (inr (inr (inr (inr (inr (inr (inr (inr (inr (inr (inr (inr (inr (inl same)))))))))))))) answers no_help passes =
-    let called_help = help_called called (subst (λ (x : Shape). answers_to called (label_of x) ≡ true) same answers) in
-    absurd (true≢false (sym called_help ∙ and_true _ no_help))
+own_entered s called rest among answers no_help passes =
+    by_help (is_help s) refl
+    (all_among (λ x. is_help x || is_own x (own x)) (built canoffice_app).subs s all_known among)
   where
-    and_true : (b : Bool) → (b && true) ≡ false → b ≡ false
-    and_true true e = e
-    and_true false e = refl
-own_entered s called rest (inr (inr (inr (inr (inr (inr (inr (inr (inr (inr (inr (inr (inr (inr none)))))))))))))) answers no_help passes =
-    absurd none
+    by_own : (o : Option Shape) → is_own s o ≡ true → IsWhole o (rows_after s.rules [] rest)
+    by_own None e = absurd (true≢false (sym e))
+    by_own (Some u) e = covers s rest passes u.rules e
+
+    by_help : (b : Bool) → is_help s ≡ b → (b || is_own s (own s)) ≡ true
+        → IsEntered (Some (s.name, rows_after s.rules [] rest))
+    by_help true e known = absurd (true≢false (sym (no_help_called s called e answers) ∙ and_true _ no_help))
+    by_help false e known = by_own (own s) known
 
 pub line_is_entered : (words : List Text) → line_faults words ≡ [] → IsEntered (subcommand_of canoffice_app words)
 line_is_entered words e =

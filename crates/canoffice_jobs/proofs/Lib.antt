@@ -1,7 +1,7 @@
 pub mod ThreeWords
 pub mod CommandLine
 pub mod LineExamples
-pub mod Commands
+pub mod Building
 pub mod NoFault
 pub mod FilledRows
 pub mod FilledWalk

@@ -1,5 +1,5 @@
 -- The words of `help --help`, as they are found.
-use Rattle.std.proofs.Common.{◌≡◌, ◌≢◌, length, map, slice_index_or, Bool, List, [], ◌∷◌, Option, Some, None, ℕ, refl}
+use Rattle.std.proofs.Common.{◌≡◌, ◌≢◌, length, map, slice_index_or, List, [], ◌∷◌, Some, None, ℕ, refl}
 use Rattle.std.specs.Prelude.{if◌then◌else◌}
 use Rattle.std.specs.Borrow.{Bor}
 use Rattle.canoffice_jobs.specs.Meant.{is_help_of_help, name_before_help}

@@ -3,11 +3,8 @@ use Rattle.std.specs.Prelude.{◌≡◌, ◌≢◌, ◌⊎◌, ℕ, Bool, List, 
 use Rattle.std.specs.Prelude.{true, false, not, is_none, ◌&&◌, if◌then◌else◌, Result, Ok, Err}
 use Rattle.std.specs.Option.{option_and_then, option_map_or}
 use Rattle.std.specs.Str.{bytes_eq}
-use Rattle.clap.specs.Lexer.{usize_max}
-use Rattle.clap.specs.Words.{App, Shape, IsAmong, Kinds, Row, Rule, Text, all_of, fault_of, first_of, new_app, new_rule}
-use Rattle.clap.specs.Words.{subcommand_of, with_rule, with_subcommand}
-use Rattle.clap.specs.Simple.{on_top}
-use Rattle.clap.specs.declared.builder.action.ArgAction.TheVariants.{SetTrue}
+use Rattle.clap.specs.Words.{Shape, IsAmong, Kinds, Row, Rule, Text, all_of, fault_of, first_of}
+use Rattle.clap.specs.Words.{subcommand_of}
 use Rattle.clap.specs.declared.error.kind.ErrorKind.{ErrorKind}
 use Rattle.clap.specs.declared.error.kind.ErrorKind.TheVariants.{DisplayHelp, DisplayVersion, OutOfMemory}
 use Rattle.office_views.specs.Word.{length_of}
@@ -30,155 +27,10 @@ use Rattle.canoffice_jobs.specs.declared.what.WhatFault.{WhatFault}
 use Rattle.canoffice_jobs.specs.Numbers.{count_given, page_number, port_given, release_number, tries_given}
 use Rattle.canoffice_jobs.specs.Place.{IsPlace}
 use Rattle.canoffice_jobs.specs.PlaceFault.{IsPlaceFault}
+use Rattle.canoffice_jobs.specs.Subcommands.{canoffice_app}
 use Rattle.canoffice_jobs.specs.What.{shown_by}
 use Rattle.canoffice_jobs.specs.WhatFault.{IsWhatFault}
 use Rattle.dbc_lint.specs.Kind.{first_unknown}
-
--- ---- the description for clap
-
--- a positional argument that may be left out
-abbrev pub optional_word : Text → Rule
-optional_word id = new_rule id
-
--- a required positional argument
-abbrev pub required_word : Text → Rule
-required_word id = record (new_rule id) { required = true }
-
--- a required positional argument that takes all further words, at least one
-abbrev pub required_words : Text → Rule
-required_words id = record (required_word id)
-    { range = Some (record { start_inclusive = 1; end_inclusive = usize_max }) }
-
--- an option `--id VALUE`
-abbrev pub option_word : Text → Rule
-option_word id = record (new_rule id) { long = Some id; value_names = 1 }
-
--- the same, required
-abbrev pub required_option : Text → Rule
-required_option id = record (option_word id) { required = true }
-
--- a flag `--id`
-abbrev pub flag : Text → Rule
-flag id = record (new_rule id) { long = Some id; action = Some SetTrue }
-
--- the flag `--explain`
-abbrev pub explain_flag : Rule
-explain_flag = flag (codes "explain")
-
--- --strict and --echo
-abbrev pub with_manner : App → App
-with_manner app = with_rule (with_rule app (flag (codes "strict"))) (flag (codes "echo"))
-
--- --db FILE and --port N
-abbrev pub with_place : App → App
-with_place app = with_rule (with_rule app (option_word (codes "db"))) (option_word (codes "port"))
-
--- apply [--db FILE] [--explain] [--strict] [--echo] SCRIPT
-abbrev pub apply_app : App
-apply_app = with_rule
-    (with_manner (with_rule (with_rule (new_app (codes "apply")) (option_word (codes "db"))) explain_flag))
-    (required_word (codes "SCRIPT"))
-
--- chart LENGTH SIGNAL..
-abbrev pub chart_app : App
-chart_app = with_rule (with_rule (new_app (codes "chart")) (required_word (codes "LENGTH")))
-    (required_words (codes "SIGNAL"))
-
--- check [--explain] [--lint[=NAME,..]] FILE
-abbrev pub check_app : App
-check_app = with_rule (with_rule (with_rule (new_app (codes "check")) explain_flag) (option_word (codes "lint")))
-    (required_word (codes "FILE"))
-
--- A B [N]
-abbrev pub with_compared : App → App
-with_compared app = with_rule (with_rule (with_rule app (required_word (codes "A"))) (required_word (codes "B")))
-    (optional_word (codes "N"))
-
--- compare [--json] A B, or compare (--db FILE | --port N) [--json] NET M N
-abbrev pub compare_app : App
-compare_app = with_compared (with_rule (with_place (new_app (codes "compare"))) (flag (codes "json")))
-
--- [--keep ORIGINAL] [--j1939]
-abbrev pub with_besides : App → App
-with_besides app = with_rule (with_rule app (option_word (codes "keep"))) (flag (codes "j1939"))
-
--- export [--keep ORIGINAL] [--j1939] --db FILE NET N
-abbrev pub export_app : App
-export_app = with_rule (with_rule (with_rule (with_besides (new_app (codes "export"))) (required_option (codes "db")))
-    (required_word (codes "NET"))) (required_word (codes "N"))
-
--- format [--explain] [--keep] FILE
-abbrev pub format_app : App
-format_app = with_rule (with_rule (with_rule (new_app (codes "format")) explain_flag) (flag (codes "keep")))
-    (required_word (codes "FILE"))
-
--- migrate --db FILE
-abbrev pub migrate_app : App
-migrate_app = with_rule (new_app (codes "migrate")) (required_option (codes "db"))
-
--- NET [N]
-abbrev pub with_paged : App → App
-with_paged app = with_rule (with_rule app (required_word (codes "NET"))) (optional_word (codes "N"))
-
--- page FILE, or page (--db FILE | --port N) NET [N]
-abbrev pub page_app : App
-page_app = with_paged (with_place (new_app (codes "page")))
-
--- requests (--db FILE | --port N) TEAM
-abbrev pub requests_app : App
-requests_app = with_rule (with_place (new_app (codes "requests"))) (required_word (codes "TEAM"))
-
--- send [--port N] [--tries N] [--strict] [--echo] SCRIPT
-abbrev pub send_app : App
-send_app = with_rule (with_manner (with_rule (with_rule (new_app (codes "send")) (option_word (codes "port")))
-    (option_word (codes "tries")))) (required_word (codes "SCRIPT"))
-
--- --port N and --count N
-abbrev pub with_listening : App → App
-with_listening app = with_rule (with_rule app (option_word (codes "port"))) (option_word (codes "count"))
-
--- serve --db FILE [--port N] [--count N] [--explain]
-abbrev pub serve_app : App
-serve_app = with_rule (with_listening (with_rule (new_app (codes "serve")) (required_option (codes "db")))) explain_flag
-
--- [NET [WHAT [NAME]]]
-abbrev pub with_sought : App → App
-with_sought app = with_rule (with_rule (with_rule app (optional_word (codes "NET"))) (optional_word (codes "WHAT")))
-    (optional_word (codes "NAME"))
-
--- show (--db FILE | --port N) [--json] [NET [WHAT [NAME]]]
-abbrev pub show_app : App
-show_app = with_sought (with_rule (with_place (new_app (codes "show"))) (flag (codes "json")))
-
--- table FILE
-abbrev pub table_app : App
-table_app = with_rule (new_app (codes "table")) (required_word (codes "FILE"))
-
--- `--version` and `-V` request the version
-abbrev pub with_version : App → App
-with_version = on_top (λ s. record s { has_version = true })
-
--- a subcommand is required, and without any argument the help is printed
-abbrev pub wants_subcommand : App → App
-wants_subcommand = on_top (λ s. record s { subcommand_required = true; arg_required_else_help = true })
-
--- canoffice apply .., chart .., check .., compare .., export .., format .., migrate .., page .., requests .., send ..,
--- serve .., show .., table ..
-abbrev pub canoffice_app : App
-canoffice_app =
-    let to_apply = with_subcommand (wants_subcommand (with_version (new_app (codes "canoffice")))) apply_app.top in
-    let to_chart = with_subcommand to_apply chart_app.top in
-    let to_check = with_subcommand to_chart check_app.top in
-    let to_compare = with_subcommand to_check compare_app.top in
-    let to_export = with_subcommand to_compare export_app.top in
-    let to_format = with_subcommand to_export format_app.top in
-    let to_migrate = with_subcommand to_format migrate_app.top in
-    let to_page = with_subcommand to_migrate page_app.top in
-    let to_requests = with_subcommand to_page requests_app.top in
-    let to_send = with_subcommand to_requests send_app.top in
-    let to_serve = with_subcommand to_send serve_app.top in
-    let to_show = with_subcommand to_serve show_app.top in
-    with_subcommand to_show table_app.top
 
 -- ---- the words that clap is given
 
@@ -250,10 +102,10 @@ IsJobOf (Apply database script explain manner) name rows =
 IsJobOf (Chart length signals) name rows =
     (name ≡ codes "chart") × (option_and_then length_of (first_of (codes "LENGTH") rows) ≡ Some length)
     × HasValues rows (codes "SIGNAL") (map (λ s. s.now) signals.items)
-IsJobOf (Check file explain lint) name rows = (name ≡ codes "check") × HasValue rows (codes "FILE") file.now
+IsJobOf (Check file explain lint json) name rows = (name ≡ codes "check") × HasValue rows (codes "FILE") file.now
     × (explain ≡ is_set rows (codes "explain"))
     × (first_of (codes "lint") rows ≡ option_map (λ names. names.now) lint)
-    × (option_and_then first_unknown (first_of (codes "lint") rows) ≡ None)
+    × (option_and_then first_unknown (first_of (codes "lint") rows) ≡ None) × (json ≡ is_set rows (codes "json"))
 IsJobOf (Compare old new json) name rows =
     (name ≡ codes "compare") × (are_files rows ≡ true) × HasValue rows (codes "A") old.now
     × HasValue rows (codes "B") new.now × (are_input old.now new.now ≡ false) × (json ≡ is_set rows (codes "json"))
@@ -274,8 +126,9 @@ IsJobOf (Page place net number) name rows =
     × (page_number (first_of (codes "N") rows) ≡ Some number)
 IsJobOf (PageFile file) name rows =
     (name ≡ codes "page") × (are_files rows ≡ true) × HasValue rows (codes "NET") file.now
-IsJobOf (Requests place team) name rows =
+IsJobOf (Requests place team json) name rows =
     (name ≡ codes "requests") × IsPlaceIn place rows × HasValue rows (codes "TEAM") team.now
+    × (json ≡ is_set rows (codes "json"))
 IsJobOf (Send sending script) name rows =
     (name ≡ codes "send") × HasValue rows (codes "SCRIPT") script.now
     × (port_given (first_of (codes "port") rows) ≡ Some sending.port)
@@ -293,7 +146,8 @@ IsJobOf (Show place net what named json) name rows =
     × (shown_by (first_of (codes "NET") rows) (first_of (codes "WHAT") rows) (first_of (codes "NAME") rows) json
     ≡ Some what)
     × (json ≡ is_set rows (codes "json"))
-IsJobOf (Table file) name rows = (name ≡ codes "table") × HasValue rows (codes "FILE") file.now
+IsJobOf (Table file json) name rows =
+    (name ≡ codes "table") × HasValue rows (codes "FILE") file.now × (json ≡ is_set rows (codes "json"))
 
 -- the job of the subcommand that was found, with its values
 abbrev pub IsJobIn : Option (Text × List Row) → Job → Type 0

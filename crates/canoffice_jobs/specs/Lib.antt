@@ -1,6 +1,7 @@
 pub mod Numbers
 pub mod Place
 pub mod PlaceFault
+pub mod Subcommands
 pub mod CommandLine
 pub mod Meant
 pub mod Built

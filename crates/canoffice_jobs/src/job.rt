@@ -7,7 +7,7 @@ ghost use Rattle.canoffice_jobs.specs.CommandLine.{IsJobFault, IsValueFault, IsV
 ghost use Rattle.canoffice_jobs.specs.CommandLine.{is_set, manner_in};
 ghost use Rattle.dbc_lint.specs.Kind.{first_unknown};
 
-use crate::command_line::{canoffice_command, check_command};
+use crate::command_line::canoffice_command;
 use crate::extras::Extras;
 use crate::manner::{Manner, Sending};
 use crate::numbers::{
@@ -15,6 +15,7 @@ use crate::numbers::{
 };
 use crate::place::{LookCommand, Place, PlaceFault, place_given};
 use crate::remarks::remark_refusal;
+use crate::subcommands::{CHECK, COMPARE, SHOW, Subcommand, clap_command};
 use crate::what::{What, WhatFault, shown_by};
 use clap::error::ErrorKind;
 use clap::{ArgMatches, Command, Error};
@@ -51,6 +52,8 @@ pub enum Job<'a> {
         /// The names of the kinds of remarks that are printed, with commas between them, or `""` for all of them;
         /// `None` where no remark is printed.
         lint: Option<&'a str>,
+        /// Whether it is printed as JSON.
+        json: bool,
     },
     /// Print what changed from the one DBC text to the other.
     Compare {
@@ -119,6 +122,8 @@ pub enum Job<'a> {
         place: Place<'a>,
         /// The word that names the team.
         team: &'a str,
+        /// Whether they are wanted as JSON.
+        json: bool,
     },
     /// Send the lines of the script in the file of this name to a desk.
     Send {
@@ -155,6 +160,8 @@ pub enum Job<'a> {
     Table {
         /// The path of the file, or `-`.
         file: &'a str,
+        /// Whether it is printed as JSON.
+        json: bool,
     },
 }
 
@@ -229,11 +236,8 @@ pub fn not_utf8_fault(alloc: Global) -> JobFault
 fn wrong_number(alloc: Global, number: Number, word: &str) -> JobFault
     ensures { IsFaultOfKind ErrorKind.ValueValidation result }
 {
-    let Ok(message) = number.refusal(alloc, word) else {
-        return JobFault::Memory;
-    };
-    match number.subcommand(alloc) {
-        Ok(command) => validation_fault(alloc, command, &message),
+    match number.refusal(alloc, word) {
+        Ok(message) => fault_of(alloc, &number.subcommand(), &message),
         Err(AllocError) => JobFault::Memory,
     }
 }
@@ -243,11 +247,8 @@ fn wrong_number(alloc: Global, number: Number, word: &str) -> JobFault
 fn wrong_place(alloc: Global, command: LookCommand, fault: PlaceFault<'_>) -> JobFault
     ensures { IsFaultOfKind ErrorKind.ValueValidation result }
 {
-    let Ok(message) = fault.message(alloc) else {
-        return JobFault::Memory;
-    };
-    match command.command(alloc) {
-        Ok(command) => validation_fault(alloc, command, &message),
+    match fault.message(alloc) {
+        Ok(message) => fault_of(alloc, &command.subcommand(), &message),
         Err(AllocError) => JobFault::Memory,
     }
 }
@@ -256,11 +257,8 @@ fn wrong_place(alloc: Global, command: LookCommand, fault: PlaceFault<'_>) -> Jo
 fn wrong_what(alloc: Global, fault: WhatFault<'_>) -> JobFault
     ensures { IsFaultOfKind ErrorKind.ValueValidation result }
 {
-    let Ok(message) = fault.message(alloc) else {
-        return JobFault::Memory;
-    };
-    match LookCommand::Show.command(alloc) {
-        Ok(command) => validation_fault(alloc, command, &message),
+    match fault.message(alloc) {
+        Ok(message) => fault_of(alloc, &SHOW, &message),
         Err(AllocError) => JobFault::Memory,
     }
 }
@@ -269,14 +267,8 @@ fn wrong_what(alloc: Global, fault: WhatFault<'_>) -> JobFault
 fn unknown_remark(alloc: Global, word: &str) -> JobFault
     ensures { IsFaultOfKind ErrorKind.ValueValidation result }
 {
-    let Ok(message) = remark_refusal(alloc, word) else {
-        return JobFault::Memory;
-    };
-    match check_command(alloc) {
-        Ok(command) => match command.bin_name("canoffice check") {
-            Ok(named) => validation_fault(alloc, named, &message),
-            Err(AllocError) => JobFault::Memory,
-        },
+    match remark_refusal(alloc, word) {
+        Ok(message) => fault_of(alloc, &CHECK, &message),
         Err(AllocError) => JobFault::Memory,
     }
 }
@@ -286,8 +278,21 @@ fn input_twice(alloc: Global) -> JobFault
     ensures { IsFaultOfKind ErrorKind.ValueValidation result }
 {
     let message = "invalid value '-' for '<B>': standard input is read once";
-    match LookCommand::Compare.command(alloc) {
-        Ok(command) => validation_fault(alloc, command, message),
+    fault_of(alloc, &COMPARE, message)
+}
+
+/// The fault that a word of the subcommand isn't as it must be, with the subcommand's usage.
+fn fault_of(alloc: Global, subcommand: &Subcommand, message: &str) -> JobFault
+    ensures { IsFaultOfKind ErrorKind.ValueValidation result }
+{
+    let Ok(whole) = format!(in alloc; "canoffice {}", subcommand.0) else {
+        return JobFault::Memory;
+    };
+    let Ok(command) = clap_command(alloc, subcommand) else {
+        return JobFault::Memory;
+    };
+    match command.bin_name(&whole) {
+        Ok(named) => validation_fault(alloc, named, message),
         Err(AllocError) => JobFault::Memory,
     }
 }
@@ -446,7 +451,7 @@ fn lint_given(names: Option<&str>) -> Result<Option<&str>, &str>
     }
 }
 
-/// `check [--explain] [--lint[=NAME,..]] FILE`
+/// `check [--explain] [--json] [--lint[=NAME,..]] FILE`
 #[tactic(auto, using(crate::proofs::CommandLine::value_in_rows, crate::proofs::CommandLine::optional_in_rows, crate::proofs::CommandLine::text_is_given))]
 fn check_job<'a>(found: &ArgMatches<'a>) -> Result<Job<'a>, ValueFault<'a>>
     requires { HasSome (rows_of (found_of found.now)) (codes "FILE") }
@@ -455,11 +460,13 @@ fn check_job<'a>(found: &ArgMatches<'a>) -> Result<Job<'a>, ValueFault<'a>>
 {
     let file = found.get_str("FILE").unwrap();
     let explain = is_set(found, "explain");
+    let json = is_set(found, "json");
     match lint_given(found.get_str("lint")) {
         Ok(lint) => Ok(Job::Check {
             file,
             explain,
             lint,
+            json,
         }),
         Err(word) => Err(ValueFault::UnknownRemark(word)),
     }
@@ -624,7 +631,7 @@ fn page_job<'a>(found: &ArgMatches<'a>) -> Result<Job<'a>, ValueFault<'a>>
     }
 }
 
-/// `requests (--db FILE | --port N) TEAM`
+/// `requests (--db FILE | --port N) [--json] TEAM`
 #[tactic(auto, using(crate::proofs::CommandLine::value_in_rows, crate::proofs::CommandLine::optional_in_rows, crate::proofs::CommandLine::text_is_given))]
 fn requests_job<'a>(found: &ArgMatches<'a>) -> Result<Job<'a>, ValueFault<'a>>
     requires { HasSome (rows_of (found_of found.now)) (codes "TEAM") }
@@ -632,8 +639,9 @@ fn requests_job<'a>(found: &ArgMatches<'a>) -> Result<Job<'a>, ValueFault<'a>>
     ensures fault { IfErr result (IsValueFault (codes "requests") (rows_of (found_of found.now))) }
 {
     let team = found.get_str("TEAM").unwrap();
+    let json = is_set(found, "json");
     match place_given(found.get_str("db"), found.get_str("port")) {
-        Ok(place) => Ok(Job::Requests { place, team }),
+        Ok(place) => Ok(Job::Requests { place, team, json }),
         Err(fault) => Err(ValueFault::WrongPlace(LookCommand::Requests, fault)),
     }
 }
@@ -713,12 +721,13 @@ fn show_job<'a>(found: &ArgMatches<'a>) -> Result<Job<'a>, ValueFault<'a>>
     }
 }
 
-/// `table FILE`
+/// `table [--json] FILE`
 #[tactic(auto, using(crate::proofs::CommandLine::value_in_rows, crate::proofs::CommandLine::text_is_given))]
 fn table_job<'a>(found: &ArgMatches<'a>) -> Job<'a>
     requires { HasSome (rows_of (found_of found.now)) (codes "FILE") }
     ensures { IsJobOf result (codes "table") (rows_of (found_of found.now)) }
 {
     let file = found.get_str("FILE").unwrap();
-    Job::Table { file }
+    let json = is_set(found, "json");
+    Job::Table { file, json }
 }

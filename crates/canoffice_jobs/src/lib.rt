@@ -1,6 +1,7 @@
 //! The jobs of the program `canoffice`: what the words of its command line request.
 //!
-//! - `command_line` describes the subcommands and their arguments for clap.
+//! - `subcommands` is the table of the subcommands and their arguments, `help` has what help says at its end, and
+//!   `command_line` hands both to clap.
 //! - `job` turns the words into a `Job` with the values of its arguments, or into a `JobFault`.
 //! - `extras` has what is printed beside a release.
 //! - `numbers` has the ranges of the numbers that words give, `place` where an office is looked at, and `manner` how a
@@ -15,12 +16,14 @@
 
 mod command_line;
 mod extras;
+mod help;
 mod job;
 mod manner;
 mod meant;
 mod numbers;
 mod place;
 mod remarks;
+mod subcommands;
 mod what;
 mod words;
 

@@ -5,10 +5,7 @@ ghost use Rattle.office_views.specs.Word.{length_of};
 ghost use Rattle.canoffice_jobs.specs.Numbers.{count_given, number_given, port_given, port_number, release_number};
 ghost use Rattle.canoffice_jobs.specs.Numbers.{page_number, tries_given};
 
-use crate::command_line::{
-    chart_command, compare_command, export_command, page_command, send_command, serve_command,
-};
-use clap::Command;
+use crate::subcommands::{CHART, COMPARE, EXPORT, PAGE, SEND, SERVE, Subcommand};
 use office_views::{length_of, whole_between};
 use std::alloc::{AllocError, Global};
 
@@ -67,17 +64,15 @@ impl Number {
         }
     }
 
-    /// Its subcommand, which usage calls so. The error is out of memory.
-    pub(crate) fn subcommand<'a>(self, alloc: Global) -> Result<Command<'a>, AllocError> {
+    /// Its subcommand.
+    pub(crate) fn subcommand(self) -> Subcommand {
         match self {
-            Number::Length => chart_command(alloc)?.bin_name("canoffice chart"),
-            Number::Release => export_command(alloc)?.bin_name("canoffice export"),
-            Number::OlderRelease | Number::NewerRelease => {
-                compare_command(alloc)?.bin_name("canoffice compare")
-            }
-            Number::PageRelease => page_command(alloc)?.bin_name("canoffice page"),
-            Number::SendPort | Number::Tries => send_command(alloc)?.bin_name("canoffice send"),
-            Number::Port | Number::Count => serve_command(alloc)?.bin_name("canoffice serve"),
+            Number::Length => CHART,
+            Number::Release => EXPORT,
+            Number::OlderRelease | Number::NewerRelease => COMPARE,
+            Number::PageRelease => PAGE,
+            Number::SendPort | Number::Tries => SEND,
+            Number::Port | Number::Count => SERVE,
         }
     }
 

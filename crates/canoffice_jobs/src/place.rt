@@ -4,9 +4,8 @@ ghost use Rattle.std.specs.Option.{option_map};
 ghost use Rattle.canoffice_jobs.specs.Place.{IsNoPlace, IsPlace};
 ghost use Rattle.canoffice_jobs.specs.PlaceFault.{IsPlaceFault};
 
-use crate::command_line::{compare_command, page_command, requests_command, show_command};
 use crate::numbers::{Number, port_number};
-use clap::Command;
+use crate::subcommands::{COMPARE, PAGE, REQUESTS, SHOW, Subcommand};
 use std::alloc::{AllocError, Global};
 
 /// Where an office is looked at.
@@ -32,13 +31,13 @@ pub(crate) enum LookCommand {
 }
 
 impl LookCommand {
-    /// The subcommand, which usage calls so. The error is out of memory.
-    pub(crate) fn command<'a>(self, alloc: Global) -> Result<Command<'a>, AllocError> {
+    /// The subcommand.
+    pub(crate) fn subcommand(self) -> Subcommand {
         match self {
-            LookCommand::Compare => compare_command(alloc)?.bin_name("canoffice compare"),
-            LookCommand::Page => page_command(alloc)?.bin_name("canoffice page"),
-            LookCommand::Show => show_command(alloc)?.bin_name("canoffice show"),
-            LookCommand::Requests => requests_command(alloc)?.bin_name("canoffice requests"),
+            LookCommand::Compare => COMPARE,
+            LookCommand::Page => PAGE,
+            LookCommand::Show => SHOW,
+            LookCommand::Requests => REQUESTS,
         }
     }
 }

@@ -9,7 +9,7 @@ use Rattle.canoffice_jobs.proofs.job.job_of.Goals as goal
 pub job_in-requires : goal.job_in-requires
 job_in-requires c =
     let found = c.in-Ok-try_get_matches_from in
-    (line_is_read (app_of c.in-Ok.command) (map (λ s. s.now) c.args.words.now) found.matches c.in-Ok.ensures.app
+    (line_is_read (app_of c.in-Ok.command) (map (λ s. s.now) c.args.words.now) found.matches c.in-Ok.ensures.0
     found.ensures.kinds found.ensures.matches).entered
 
 pub returns-in-Ok-job_in-clause-job : goal.returns-in-Ok-job_in-clause-job
@@ -17,14 +17,14 @@ returns-in-Ok-job_in-clause-job c =
     let found = c.in-Ok-try_get_matches_from in
     let words = map (λ s. s.now) c.args.words.now in
     job_of_read words found.matches c.in-Ok-job_in.job
-    (line_is_read (app_of c.in-Ok.command) words found.matches c.in-Ok.ensures.app found.ensures.kinds
+    (line_is_read (app_of c.in-Ok.command) words found.matches c.in-Ok.ensures.0 found.ensures.kinds
     found.ensures.matches) c.in-Ok-job_in.ensures.job
 
 pub returns-in-Err-WrongNumber-clause-fault : goal.returns-in-Err-WrongNumber-clause-fault
 returns-in-Err-WrongNumber-clause-fault c =
     let found = c.in-Ok-try_get_matches_from in
     let words = map (λ s. s.now) c.args.words.now in
-    let read = line_is_read (app_of c.in-Ok.command) words found.matches c.in-Ok.ensures.app found.ensures.kinds
+    let read = line_is_read (app_of c.in-Ok.command) words found.matches c.in-Ok.ensures.0 found.ensures.kinds
     found.ensures.matches in
     let fault : ValueFault = (value.WrongNumber c.in-Err-WrongNumber.number c.in-Err-WrongNumber.word) in
     value_fault_of words fault c.wrong_number.result
@@ -35,7 +35,7 @@ pub returns-in-Err-WrongPlace-clause-fault : goal.returns-in-Err-WrongPlace-clau
 returns-in-Err-WrongPlace-clause-fault c =
     let found = c.in-Ok-try_get_matches_from in
     let words = map (λ s. s.now) c.args.words.now in
-    let read = line_is_read (app_of c.in-Ok.command) words found.matches c.in-Ok.ensures.app found.ensures.kinds
+    let read = line_is_read (app_of c.in-Ok.command) words found.matches c.in-Ok.ensures.0 found.ensures.kinds
     found.ensures.matches in
     let fault : ValueFault = (value.WrongPlace c.in-Err-WrongPlace.command c.in-Err-WrongPlace.fault) in
     value_fault_of words fault c.wrong_place.result
@@ -46,7 +46,7 @@ pub returns-in-Err-WrongWhat-clause-fault : goal.returns-in-Err-WrongWhat-clause
 returns-in-Err-WrongWhat-clause-fault c =
     let found = c.in-Ok-try_get_matches_from in
     let words = map (λ s. s.now) c.args.words.now in
-    let read = line_is_read (app_of c.in-Ok.command) words found.matches c.in-Ok.ensures.app found.ensures.kinds
+    let read = line_is_read (app_of c.in-Ok.command) words found.matches c.in-Ok.ensures.0 found.ensures.kinds
     found.ensures.matches in
     let fault : ValueFault = (value.WrongWhat c.in-Err-WrongWhat.fault) in
     value_fault_of words fault c.wrong_what.result
@@ -57,7 +57,7 @@ pub returns-in-Err-UnknownRemark-clause-fault : goal.returns-in-Err-UnknownRemar
 returns-in-Err-UnknownRemark-clause-fault c =
     let found = c.in-Ok-try_get_matches_from in
     let words = map (λ s. s.now) c.args.words.now in
-    let read = line_is_read (app_of c.in-Ok.command) words found.matches c.in-Ok.ensures.app found.ensures.kinds
+    let read = line_is_read (app_of c.in-Ok.command) words found.matches c.in-Ok.ensures.0 found.ensures.kinds
     found.ensures.matches in
     let fault : ValueFault = (value.UnknownRemark c.in-Err-UnknownRemark.word) in
     value_fault_of words fault c.unknown_remark.result
@@ -68,7 +68,7 @@ pub returns-in-Err-InputTwice-clause-fault : goal.returns-in-Err-InputTwice-clau
 returns-in-Err-InputTwice-clause-fault c =
     let found = c.in-Ok-try_get_matches_from in
     let words = map (λ s. s.now) c.args.words.now in
-    let read = line_is_read (app_of c.in-Ok.command) words found.matches c.in-Ok.ensures.app found.ensures.kinds
+    let read = line_is_read (app_of c.in-Ok.command) words found.matches c.in-Ok.ensures.0 found.ensures.kinds
     found.ensures.matches in
     let fault : ValueFault = value.InputTwice in
     value_fault_of words fault c.input_twice.result
@@ -78,4 +78,4 @@ returns-in-Err-InputTwice-clause-fault c =
 pub returns-clause-fault : goal.returns-clause-fault
 returns-clause-fault c =
     line_fault_by (app_of c.in-Ok.command) (map (λ s. s.now) c.args.words.now) (kind_of c.in-Err.error)
-    c.line_fault.result c.in-Ok.ensures.app c.in-Err.ensures.kinds c.line_fault.ensures
+    c.line_fault.result c.in-Ok.ensures.0 c.in-Err.ensures.kinds c.line_fault.ensures

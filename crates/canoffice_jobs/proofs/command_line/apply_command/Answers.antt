@@ -1,7 +1,0 @@
-use Rattle.canoffice_jobs.proofs.command_line.apply_command.Goals as goal
-
-pub returns : goal.returns
-returns c = c.and_argument.ensures _ _ c.required_argument.ensures.rule
-    (c.with_manner-with_manners.ensures _
-    (c.and_argument-with_explain.ensures _ _ c.explain.ensures.rule
-    (c.and_argument-with_database.ensures _ _ c.option.ensures.rule c.named-start.ensures)))

@@ -1,4 +1,0 @@
-use Rattle.canoffice_jobs.proofs.command_line.page_command.Goals as goal
-
-pub returns : goal.returns
-returns c = c.with_paged.ensures _ (c.with_place-placed.ensures _ c.named_with_usage-start.ensures)

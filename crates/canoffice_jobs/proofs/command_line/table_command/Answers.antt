@@ -1,4 +1,0 @@
-use Rattle.canoffice_jobs.proofs.command_line.table_command.Goals as goal
-
-pub returns : goal.returns
-returns c = c.and_argument.ensures _ _ c.required_argument.ensures.rule c.named-start.ensures

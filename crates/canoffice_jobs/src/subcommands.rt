@@ -1,0 +1,407 @@
+//! The subcommands, each with its arguments: what clap reads, and what help, usage and errors say.
+//!
+//! They are tuples, since a definition can cite a constant of tuples of texts, but none of structs that hold references.
+ghost use Rattle.std.specs.Prelude.{◌≡◌, false};
+ghost use Rattle.clap.specs.Words.{rule_of};
+ghost use Rattle.canoffice_jobs.specs.Built.{IsBuilt};
+ghost use Rattle.canoffice_jobs.specs.Subcommands.{app_with, rule_by};
+
+use crate::help::end_of_help;
+use clap::{Arg, ArgAction, Command};
+use std::alloc::{AllocError, Global};
+
+/// In which form an argument is given.
+#[derive(Clone, Copy)]
+pub enum Form {
+    /// A word, which may be left out.
+    MaybeWord,
+    /// A word.
+    Word,
+    /// All further words, at least one.
+    Words,
+    /// `--NAME VALUE`, which may be left out.
+    Value,
+    /// `--NAME VALUE`.
+    Required,
+    /// `--NAME`, which may be left out.
+    Flag,
+}
+
+/// An argument: its name, its form, how help calls its value where it has one after its name, and what help says of it.
+pub type Argument = (&'static str, Form, &'static str, &'static str);
+
+/// A subcommand: its name, what help says of it, its usage where that has to say more than clap finds by itself, and its
+/// arguments.
+pub type Subcommand = (
+    &'static str,
+    &'static str,
+    Option<&'static str>,
+    &'static [Argument],
+);
+
+const DBC_FILE: Argument = (
+    "FILE",
+    Form::Word,
+    "",
+    "The DBC file, or - for standard input",
+);
+
+const SCRIPT: Argument = (
+    "SCRIPT",
+    Form::Word,
+    "",
+    "The script's file, or - for standard input",
+);
+
+const NET: Argument = ("NET", Form::Word, "", "The network's name");
+
+/// The database of an office that may be looked at elsewhere.
+const DATABASE: Argument = ("db", Form::Value, "FILE", "The office's database");
+
+/// The database of an office.
+const THE_DATABASE: Argument = ("db", Form::Required, "FILE", "The office's database");
+
+const PORT: Argument = (
+    "port",
+    Form::Value,
+    "N",
+    "The port of this machine, 1 to 65535, at which a desk serves the office",
+);
+
+const STRICT: Argument = (
+    "strict",
+    Form::Flag,
+    "",
+    "Stops after the first refusal, with status 1",
+);
+
+const ECHO: Argument = (
+    "echo",
+    Form::Flag,
+    "",
+    "Prints before each reply its key, its command and what that names",
+);
+
+const JSON: Argument = ("json", Form::Flag, "", "Prints it as JSON");
+
+pub const APPLY: Subcommand = (
+    "apply",
+    "Runs a script and prints each reply",
+    None,
+    &[
+        (
+            "db",
+            Form::Value,
+            "FILE",
+            "The office's database, which is made where there is none; else it is in memory",
+        ),
+        (
+            "explain",
+            Form::Flag,
+            "",
+            "Reports also which field of a wrong line is wrong, and why commands are refused",
+        ),
+        STRICT,
+        ECHO,
+        SCRIPT,
+    ],
+);
+
+pub const CHART: Subcommand = (
+    "chart",
+    "Prints which signal has which bit of a message, and the first clash",
+    None,
+    &[
+        (
+            "LENGTH",
+            Form::Word,
+            "",
+            "How many bytes the message has, 0 to 1785",
+        ),
+        (
+            "SIGNAL",
+            Form::Words,
+            "",
+            "A signal: name=start|size@order, then nothing, ,M or ,mN",
+        ),
+    ],
+);
+
+pub const CHECK: Subcommand = (
+    "check",
+    "Lists the skipped statements of a DBC file, and checks that its signals fit",
+    None,
+    &[
+        (
+            "explain",
+            Form::Flag,
+            "",
+            "Says also where each fault and each clash is, and what to do",
+        ),
+        (
+            "lint",
+            Form::Value,
+            "NAMES",
+            "Prints remarks too, with status 1: --lint alone of all kinds, --lint=NAME,.. of these",
+        ),
+        JSON,
+        DBC_FILE,
+    ],
+);
+
+/// `compare A B`, or `compare (--db FILE | --port N) NET M N`
+pub const COMPARE: Subcommand = (
+    "compare",
+    "Prints what changed from one DBC file or release to another",
+    Some(
+        "canoffice compare [--json] <A> <B>\n       canoffice compare <--db <FILE>|--port <N>> [--json] <NET> <M> <N>",
+    ),
+    &[
+        DATABASE,
+        PORT,
+        JSON,
+        (
+            "A",
+            Form::Word,
+            "",
+            "The older DBC file, or - for standard input; of an office NET, the network's name",
+        ),
+        (
+            "B",
+            Form::Word,
+            "",
+            "The newer DBC file, or - for standard input; of an office M, the number of the older release",
+        ),
+        (
+            "N",
+            Form::MaybeWord,
+            "",
+            "Of an office, the number of the newer release; 0 stands for the live sheet",
+        ),
+    ],
+);
+
+pub const EXPORT: Subcommand = (
+    "export",
+    "Prints a release as a DBC file",
+    None,
+    &[
+        (
+            "keep",
+            Form::Value,
+            "ORIGINAL",
+            "A DBC file, or -: its skipped statements that are about the release are printed too",
+        ),
+        (
+            "j1939",
+            Form::Flag,
+            "",
+            "Prints also the attributes by which tools take 29-bit messages as J1939",
+        ),
+        THE_DATABASE,
+        NET,
+        (
+            "N",
+            Form::Word,
+            "",
+            "The number of the release, 1 to 65535, or 0 for the live sheet",
+        ),
+    ],
+);
+
+pub const FORMAT: Subcommand = (
+    "format",
+    "Prints a DBC file in its canonical form",
+    None,
+    &[
+        (
+            "explain",
+            Form::Flag,
+            "",
+            "Says also where each fault is, or what the text leaves out",
+        ),
+        (
+            "keep",
+            Form::Flag,
+            "",
+            "Prints also the statements that check lists as passed, each at its place",
+        ),
+        DBC_FILE,
+    ],
+);
+
+pub const MIGRATE: Subcommand = (
+    "migrate",
+    "Makes a database of an earlier version one of this version",
+    None,
+    &[THE_DATABASE],
+);
+
+/// `page FILE`, or `page (--db FILE | --port N) NET [N]`
+pub const PAGE: Subcommand = (
+    "page",
+    "Prints a DBC file, a network or a release as one HTML page",
+    Some("canoffice page <FILE>\n       canoffice page <--db <FILE>|--port <N>> <NET> [N]"),
+    &[
+        DATABASE,
+        PORT,
+        (
+            "NET",
+            Form::Word,
+            "",
+            "FILE, a DBC file, or - for standard input; of an office NET, the network's name",
+        ),
+        (
+            "N",
+            Form::MaybeWord,
+            "",
+            "Of an office, the number of the release; 0, or none, stands for the live network",
+        ),
+    ],
+);
+
+pub const REQUESTS: Subcommand = (
+    "requests",
+    "Prints the requests of a team with their replies",
+    Some("canoffice requests <--db <FILE>|--port <N>> [--json] <TEAM>"),
+    &[
+        DATABASE,
+        PORT,
+        ("json", Form::Flag, "", "Prints them as JSON"),
+        ("TEAM", Form::Word, "", "The team's name"),
+    ],
+);
+
+pub const SEND: Subcommand = (
+    "send",
+    "Sends each line of a script to a desk of this machine, and prints each reply",
+    None,
+    &[
+        (
+            "port",
+            Form::Value,
+            "N",
+            "The port of this machine, 1 to 65535, of the desk; 8089 where none is given",
+        ),
+        (
+            "tries",
+            Form::Value,
+            "N",
+            "How often a request is sent until it is answered, 1 to 1000; 3 where none is given",
+        ),
+        STRICT,
+        ECHO,
+        SCRIPT,
+    ],
+);
+
+pub const SERVE: Subcommand = (
+    "serve",
+    "Serves the office over HTTP on 127.0.0.1",
+    None,
+    &[
+        THE_DATABASE,
+        (
+            "port",
+            Form::Value,
+            "N",
+            "The port, 1 to 65535; 8089 where none is given",
+        ),
+        (
+            "count",
+            Form::Value,
+            "N",
+            "After how many connections it ends, 1 to 1000000, which it is where none is given",
+        ),
+        (
+            "explain",
+            Form::Flag,
+            "",
+            "Reports each answer other than 200, and why, in a line on standard error",
+        ),
+    ],
+);
+
+pub const SHOW: Subcommand = (
+    "show",
+    "Prints what a network has, or the list of networks",
+    Some("canoffice show <--db <FILE>|--port <N>> [--json] [NET [WHAT [NAME]]]"),
+    &[
+        DATABASE,
+        PORT,
+        (
+            "json",
+            Form::Flag,
+            "",
+            "Prints what the network has as JSON",
+        ),
+        (
+            "NET",
+            Form::MaybeWord,
+            "",
+            "The network's name; without it the list of networks is printed",
+        ),
+        (
+            "WHAT",
+            Form::MaybeWord,
+            "",
+            "state (if left out), blocks, messages, message, held, releases, nodes, spns, who",
+        ),
+        (
+            "NAME",
+            Form::MaybeWord,
+            "",
+            "A team (blocks, messages), a message, a node, or after who a name or a number",
+        ),
+    ],
+);
+
+pub const TABLE: Subcommand = (
+    "table",
+    "Prints a table of the messages of a DBC file",
+    None,
+    &[JSON, DBC_FILE],
+);
+
+/// All of them, as help lists them.
+pub const SUBCOMMANDS: &[&Subcommand] = &[
+    &APPLY, &CHART, &CHECK, &COMPARE, &EXPORT, &FORMAT, &MIGRATE, &PAGE, &REQUESTS, &SEND, &SERVE,
+    &SHOW, &TABLE,
+];
+
+/// The argument, as clap takes it.
+fn clap_argument<'a>(alloc: Global, argument: &Argument) -> Arg<'a>
+    ensures rule { rule_of result ≡ rule_by argument.now.1 argument.now.0.now }
+    ensures local { result.global ≡ false }
+{
+    let (name, form, value, help) = *argument;
+    let named = Arg::new(alloc, name).help(help);
+    match form {
+        Form::MaybeWord => named,
+        Form::Word => named.required(true),
+        Form::Words => named.required(true).num_args(1..),
+        Form::Value => named.long(name).value_name(value),
+        Form::Required => named.long(name).value_name(value).required(true),
+        Form::Flag => named.long(name).action(ArgAction::SetTrue),
+    }
+}
+
+/// The subcommand, as clap takes it. The error is out of memory.
+pub(crate) fn clap_command<'a>(
+    alloc: Global,
+    subcommand: &Subcommand,
+) -> Result<Command<'a>, AllocError>
+    ensures { IsBuilt result (app_with (λ a. rule_by a.1 a.0.now) subcommand.now.0.now subcommand.now.3.now) }
+{
+    let (name, about, usage, arguments) = *subcommand;
+    let mut command = Command::new(alloc, name)
+        .about(about)
+        .after_help(end_of_help(name));
+    for argument in arguments {
+        command = command.arg(clap_argument(alloc, argument))?;
+    }
+    match usage {
+        Some(usage) => Ok(command.override_usage(usage)),
+        None => Ok(command),
+    }
+}

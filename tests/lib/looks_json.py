@@ -66,6 +66,15 @@ def scale(it):
     return f"({it['factor']},{it['offset']})"
 
 
+def place(it):
+    return f"{it['line']}:{it['column']}"
+
+
+def asked(text):
+    more = " .." if text.endswith(" ..") else ""
+    return rest(text.removesuffix(more)) + more
+
+
 def limits(it):
     return f"[{it['minimum']}|{it['maximum']}]"
 
@@ -83,6 +92,13 @@ COLUMNS = {
                  ("added", str, "added {:>4}"), ("removed", str, "removed {:>4}"), ("changed", str, "changed {:>4}")],
     "nodes": [("sends", str, "sends {:>4}"), ("receives", str, "receives {:>4}"), ("node", plain, "{:<12}"), ("comment", rest, "{}")],
     "compare": [("breaks", mark, "{}"), ("kind", plain, "{:<7}"), IDENT, ("name", plain, "{}"), ("change", change, "{}")],
+    "requests": [("key", escaped, "{:<24}"), ("reply", plain, "{:<24}"), ("request", asked, "<- {}")],
+    "table": [IDENT, ("length", str, "{:>4}"), SIGNALS, ("transmitter", plain, "{}"), MESSAGE],
+    "passed": [("offset", str, "{}"), ("keyword", plain, "{}")],
+    "ok": [("messages", str, "{}"), ("signals", str, "{}")],
+    "unclear": [("code", str, "{}"), ("name", plain, "{}"), ("number", str, "{}")],
+    "fault": [("code", str, "{}"), ("name", plain, "{}"), ("offset", str, "{}")],
+    "remark": [("place", place, "{}"), ("kind", plain, "{}"), ("about", plain, "{}")],
     "uses": [("use", plain, "{:<8}"), IDENT, SIGNALS, MESSAGE],
     "spns": [("spn", str, "{:>6}"), ("use", plain, "{:<4}"), RELEASES, IDENT, MESSAGE, ("signal", plain, "{}")],
     "signal": [("layout", layout, "{:>10}"), ("multiplexer", plain, "{:<4}"), ("spn", plain, "{:>6}"), SIGNAL, ("scale", scale, "{:<14}"),
@@ -109,6 +125,7 @@ TOTALS = {
     "messages": ["messages", "signals"], "held": ["held"], "releases": ["releases"], "nodes": ["nodes"],
     "uses": ["sends", "receives"], "spns": ["spns", "live", "gone", "used"], "who": ["live", "held", "spns", "blocks"],
     "compare": ["differences", "breaking", "added", "removed", "changed"],
+    "requests": ["requests", "refused"], "table": ["messages", "signals"],
 }
 
 
@@ -142,6 +159,17 @@ def text_of(text, what, is_named):
     else:
         lines += lines_of(found, which)
     return "".join(f"{line}\n" for line in [*lines, *[last_line(found[it], which) for it in totals]])
+
+
+def check_of(text):
+    """The lines that have what the JSON of `check` has."""
+    assert text.endswith("\n") and "\n" not in text[:-1], text
+    found = json.loads(text)
+    verdict = [it for it in ("ok", "unclear", "fault") if it in found]
+    assert len(verdict) == 1 and len(found[verdict[0]]["rows"]) == 1, text
+    kinds = verdict if verdict == ["fault"] else ["passed", *verdict, *["remark"][: "remark" in found]]
+    assert sorted(found) == sorted(kinds), text
+    return "".join(f"{line}\n" for kind in kinds for line in lines_of(found[kind], kind, f"{kind} "))
 
 
 def lossy(text):

@@ -1,6 +1,6 @@
 -- Writings that become others, one after the other.
 use Rattle.std.proofs.Common.{◌≡◌, ◌+◌, ◌<◌, ◌++◌, ◌∙◌, ℕ, true, false, List, length, take, get_or, Option, Some, None, IfSome}
-use Rattle.std.proofs.Common.{refl, sym, ap, append_assoc}
+use Rattle.std.proofs.Common.{refl, sym, ap, append-nil, append_assoc}
 use Rattle.std.specs.List.{enumerate_from, flat_map}
 use Rattle.html.proofs.Pushing.{items_pushed, numbered_pushed}
 use Rattle.markup.specs.Writing.{Becomes, Writing, adding}
@@ -48,3 +48,6 @@ lost_words (Some bytes) f w lost = λ kept. cc
 -- them ensures, one after the other, with `append_assoc`, is what all of them have written.
 pub back : {v x : Writing} → Becomes v x → v.is_lost ≡ false → x.is_lost ≡ false
 back made kept = sym (ap (λ w. w.is_lost) (made kept)) ∙ kept
+
+-- by which what several calls have written one after the other is put together
+pub ruleset joins = (append_assoc, append-nil)

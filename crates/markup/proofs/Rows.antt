@@ -1,7 +1,7 @@
 -- Pages read, and pieces written.
 use Rattle.std.proofs.Common.{◌≡◌, ◌++◌, [], ◌∷◌, codes, map, refl}
 use Rattle.std.specs.Fmt.{digits as number_digits}
-use Rattle.markup.specs.Html.{attributes_html, element_html, style_html, style_part, void_html}
+use Rattle.markup.specs.Html.{attributes_html, element_html, end_tag, start_tag, style_html, style_part, void_html}
 use Rattle.markup.specs.Reader.{IsWellFormed, at, content, digits, read, refused, value, letters, within}
 use Rattle.markup.specs.declared.attribute.Attribute.TheVariants as with
 use Rattle.markup.specs.declared.tag.Tag.TheVariants as tag
@@ -47,7 +47,7 @@ no_end = refl
 written : element_html tag.Cell (attributes_html (with.Columns 1 ∷ with.Columns 12 ∷ with.Open ∷ [])) (codes "a<b")
     ++ (void_html void.Meta (attributes_html (with.Utf8 ∷ [])) ++ style_html (style_part (codes "p>a{}")))
     ≡ codes "<td colspan=\"12\" open=\"\">a&#60;b</td><meta charset=\"utf-8\"/>\n<style>p>a{}</style>\n"
-unfolding number_digits
+unfolding number_digits start_tag end_tag
 written = refl
 
 -- no part of a style could end it

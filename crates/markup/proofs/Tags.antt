@@ -141,42 +141,13 @@ record IsRead (t : Tag) : Type 0 where
   end : (opened : List (List ℕ)) → read (within (tag_name t ∷ opened)) (end_tag t) ≡ within opened
 
 is_read : (t : Tag) → IsRead t
+unfolding end_tag
 is_read tag.Html = record { name = λ o. refl; start = λ o. refl; end = λ o. refl }
-is_read tag.Head = record { name = λ o. refl; start = λ o. refl; end = λ o. refl }
-is_read tag.Body = record { name = λ o. refl; start = λ o. refl; end = λ o. refl }
-is_read tag.Header = record { name = λ o. refl; start = λ o. refl; end = λ o. refl }
-is_read tag.Nav = record { name = λ o. refl; start = λ o. refl; end = λ o. refl }
-is_read tag.Main = record { name = λ o. refl; start = λ o. refl; end = λ o. refl }
-is_read tag.Section = record { name = λ o. refl; start = λ o. refl; end = λ o. refl }
-is_read tag.H1 = record { name = λ o. refl; start = λ o. refl; end = λ o. refl }
-is_read tag.H2 = record { name = λ o. refl; start = λ o. refl; end = λ o. refl }
-is_read tag.H3 = record { name = λ o. refl; start = λ o. refl; end = λ o. refl }
-is_read tag.Paragraph = record { name = λ o. refl; start = λ o. refl; end = λ o. refl }
-is_read tag.List = record { name = λ o. refl; start = λ o. refl; end = λ o. refl }
-is_read tag.Item = record { name = λ o. refl; start = λ o. refl; end = λ o. refl }
-is_read tag.Table = record { name = λ o. refl; start = λ o. refl; end = λ o. refl }
-is_read tag.Caption = record { name = λ o. refl; start = λ o. refl; end = λ o. refl }
-is_read tag.TableHead = record { name = λ o. refl; start = λ o. refl; end = λ o. refl }
-is_read tag.TableBody = record { name = λ o. refl; start = λ o. refl; end = λ o. refl }
-is_read tag.Row = record { name = λ o. refl; start = λ o. refl; end = λ o. refl }
-is_read tag.HeadCell = record { name = λ o. refl; start = λ o. refl; end = λ o. refl }
-is_read tag.Cell = record { name = λ o. refl; start = λ o. refl; end = λ o. refl }
-is_read tag.Link = record { name = λ o. refl; start = λ o. refl; end = λ o. refl }
-is_read tag.Bold = record { name = λ o. refl; start = λ o. refl; end = λ o. refl }
-is_read tag.Emphasis = record { name = λ o. refl; start = λ o. refl; end = λ o. refl }
-is_read tag.Small = record { name = λ o. refl; start = λ o. refl; end = λ o. refl }
-is_read tag.Span = record { name = λ o. refl; start = λ o. refl; end = λ o. refl }
-is_read tag.Code = record { name = λ o. refl; start = λ o. refl; end = λ o. refl }
-is_read tag.Isolated = record { name = λ o. refl; start = λ o. refl; end = λ o. refl }
-is_read tag.Italic = record { name = λ o. refl; start = λ o. refl; end = λ o. refl }
-is_read tag.Division = record { name = λ o. refl; start = λ o. refl; end = λ o. refl }
-is_read tag.Details = record { name = λ o. refl; start = λ o. refl; end = λ o. refl }
-is_read tag.Summary = record { name = λ o. refl; start = λ o. refl; end = λ o. refl }
-is_read tag.Form = record { name = λ o. refl; start = λ o. refl; end = λ o. refl }
-is_read tag.Button = record { name = λ o. refl; start = λ o. refl; end = λ o. refl }
+is_read t = record { name = λ o. refl; start = λ o. refl; end = λ o. refl }
 
 pub start_read : (t : Tag) (more : List Attribute) (opened : List (List ℕ))
     → read (within opened) (start_tag t (attributes_html more)) ≡ within (tag_name t ∷ opened)
+unfolding start_tag
 start_read t more opened =
     tag_read (tag_name t) more 62 [] opened (within (tag_name t ∷ opened)) ((is_read t).name opened) refl
     ((is_read t).start opened)

@@ -109,10 +109,10 @@ attributes_html attributes = flat_map attribute_html attributes
 abbrev pub tag_html : List ℕ → List ℕ → List ℕ → List ℕ
 tag_html name attributes end = codes "<" ++ (name ++ (attributes ++ end))
 
-abbrev pub start_tag : Tag → List ℕ → List ℕ
+unfoldable pub start_tag : Tag → List ℕ → List ℕ
 start_tag t attributes = tag_html (tag_name t) attributes (codes ">")
 
-abbrev pub end_tag : Tag → List ℕ
+unfoldable pub end_tag : Tag → List ℕ
 end_tag t = codes "</" ++ (tag_name t ++ (if ends_line t then codes ">\n" else codes ">"))
 
 -- an element with this text in it, and one without an end

@@ -120,6 +120,7 @@ fn push_tag(
 }
 
 /// Appends the start of an element.
+#[tactic(auto, unfolding(crate::specs::Html::start_tag))]
 pub(crate) fn push_start(
     text: &mut Vec<u8>,
     tag: Tag,
@@ -145,6 +146,7 @@ pub(crate) fn push_void(
 }
 
 /// Appends the end of an element.
+#[tactic(auto, unfolding(crate::specs::Html::end_tag))]
 pub(crate) fn push_end(text: &mut Vec<u8>, tag: Tag) -> Result<(), AllocError>
     ensures { OnOk result (text.new.items ≡ text.old.items ++ end_tag tag) }
 {

@@ -46,10 +46,6 @@ module _ (x1 x2 x3 x4 x5 : List ℕ) where
       ≡ a ++ (s ++ (x1 ++ (x2 ++ (x3 ++ (x4 ++ e)))))
   together4 a s e = simp append_assoc
 
-  together5 : (a s e : List ℕ) → ((((((a ++ s) ++ x1) ++ x2) ++ x3) ++ x4) ++ x5) ++ e
-      ≡ a ++ (s ++ (x1 ++ (x2 ++ (x3 ++ (x4 ++ (x5 ++ e))))))
-  together5 a s e = simp append_assoc
-
 module _ (a b c d e f : Writing) (t : Tag) (attributes x1 x2 x3 x4 : List ℕ) where
   -- where it begins with the first of it
   pub enclosed_begun : Becomes b (adding x1 (beginning t attributes a)) → Becomes c (adding x2 b)
@@ -60,13 +56,3 @@ module _ (a b c d e f : Writing) (t : Tag) (attributes x1 x2 x3 x4 : List ℕ) w
       x2 two) x3 three) x4 four) closed)
       (start_tag t attributes ++ (x1 ++ (x2 ++ (x3 ++ (x4 ++ end_tag t)))))
       (together4 x1 x2 x3 x4 [] a.text (start_tag t attributes) (end_tag t)) refl refl
-
-pub enclosed_five : (a b c d e f g h : Writing) (t : Tag) (attributes x1 x2 x3 x4 x5 : List ℕ)
-    → Becomes b (beginning t attributes a) → Becomes c (adding x1 b) → Becomes d (adding x2 c)
-    → Becomes e (adding x3 d) → Becomes f (adding x4 e) → Becomes g (adding x5 f) → Becomes h (ending g)
-    → Becomes h (adding (start_tag t attributes ++ (x1 ++ (x2 ++ (x3 ++ (x4 ++ (x5 ++ end_tag t)))))) a)
-enclosed_five a b c d e f g h t attributes x1 x2 x3 x4 x5 begun one two three four five closed =
-    finish (end (add (add (add (add (add (begin (start a) t attributes begun) x1 one) x2 two) x3 three) x4 four)
-    x5 five) closed)
-    (start_tag t attributes ++ (x1 ++ (x2 ++ (x3 ++ (x4 ++ (x5 ++ end_tag t))))))
-    (together5 x1 x2 x3 x4 x5 a.text (start_tag t attributes) (end_tag t)) refl refl

@@ -90,7 +90,7 @@ more_note count =
 abbrev pub more_releases : ℕ → List ℕ
 more_releases count = if nat_lt LISTED count then more_note count else []
 
-abbrev pub releases_part : List Sheet → List ℕ
+unfoldable pub releases_part : List Sheet → List ℕ
 releases_part releases =
     start_tag tag.Section (valued (codes " id=\"") (codes "releases")) ++ (heading_html (codes "Releases") None
     ++ (start_tag tag.Division (wide (codes "Releases")) ++ (release_table releases ++ (end_tag tag.Division

@@ -8,7 +8,7 @@
 //! The definitions are in `specs/`: which messages differ (`Changes.antt`) and what has become of them (`Fates.antt`,
 //! `Marks.antt`), the part of the last release (`LastRelease.antt`) with the nodes that must act (`Act.antt`) and the
 //! lists of messages (`Since.antt`), and the releases (`Releases.antt`).
-#![tactic(auto)]
+#![tactic(auto, using(markup::proofs::Changes::joins))]
 
 mod act;
 mod changes;

@@ -202,11 +202,11 @@ byte_words =
     start_tag tag.HeadCell [] ++ (codes "Byte " ++ (quiet (codes "bits") ++ end_tag tag.HeadCell))
 
 -- the same, and the bits of a byte from left to right
-abbrev pub head_row : List ℕ
+unfoldable pub head_row : List ℕ
 head_row =
     start_tag tag.Row [] ++ (byte_words ++ (flat_map bit_head (7 ∷ 6 ∷ 5 ∷ 4 ∷ 3 ∷ 2 ∷ 1 ∷ 0 ∷ []) ++ end_tag tag.Row))
 
-abbrev pub layout_heads : List ℕ
+unfoldable pub layout_heads : List ℕ
 layout_heads = start_tag tag.TableHead [] ++ (head_row ++ end_tag tag.TableHead)
 
 -- heads and rows

@@ -93,6 +93,7 @@ fn open_card(
 }
 
 /// Adds the paragraph of the message's facts.
+#[tactic(auto, unfolding(markup::specs::Html::start_tag, markup::specs::Html::end_tag))]
 fn put_facts_line(page: &mut Markup, subject: &Subject<'_>, message: &Message)
     ensures { Becomes page.new (adding (paragraph (facts_id message.now.name)
         (facts_html subject.now.is_j1939 message.now)) page.old) }

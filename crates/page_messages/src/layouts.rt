@@ -95,6 +95,7 @@ fn put_byte_words(page: &mut Markup)
 }
 
 /// Adds the row of the heads.
+#[tactic(auto, using(markup::proofs::Changes::joins), unfolding(crate::specs::Layouts::head_row))]
 fn put_head_row(page: &mut Markup)
     ensures { Becomes page.new (adding head_row page.old) }
 {
@@ -105,6 +106,7 @@ fn put_head_row(page: &mut Markup)
 }
 
 /// Adds the heads of a layout.
+#[tactic(auto, using(markup::proofs::Changes::joins), unfolding(crate::specs::Layouts::layout_heads))]
 fn put_heads(page: &mut Markup)
     ensures { Becomes page.new (adding layout_heads page.old) }
 {

@@ -10,7 +10,7 @@
 //! What the parts tell is found here too: [`used_bits`] counts the bits that signals have, [`receivers_of`] lists the
 //! nodes that receive a message, and a layout is drawn from the bits that signals hold, in reading order. Each is found
 //! by sorting, so a part takes time in proportion to what it shows.
-#![tactic(auto)]
+#![tactic(auto, using(markup::proofs::Changes::joins))]
 
 mod bits;
 mod byte_rows;

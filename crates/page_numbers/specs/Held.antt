@@ -31,22 +31,22 @@ abbrev pub ident_head : Ident → List ℕ
 ident_head i = around tag.HeadCell [] (around tag.Code [] (ident_hex i))
 
 -- the identifier, its DBC number, and on a J1939 network its parameter group
-abbrev pub number_cells : Bool → Ident → List ℕ
+unfoldable pub number_cells : Bool → Ident → List ℕ
 number_cells is_j1939 i =
     ident_head i
     ++ (number_cell (dbc_number i) ++ (if is_j1939 then group_cell (ident_fields i) else []))
 
 -- its name in the last release that has it, a dash where none has
-abbrev pub name_cell : Option (List ℕ) → List ℕ
+unfoldable pub name_cell : Option (List ℕ) → List ℕ
 name_cell name = element_html tag.Cell [] (unwrap_or name (codes "-"))
 
 -- the team of its block, if it is in one
-abbrev pub team_cell : List (List ℕ) → Option (List ℕ) → List ℕ
+unfoldable pub team_cell : List (List ℕ) → Option (List ℕ) → List ℕ
 team_cell names None = element_html tag.Cell [] []
 team_cell names (Some team) = cell (badge names team)
 
 -- a row: the identifier's numbers, its last name, its releases, and whose its block is
-abbrev pub held_row : Bool → List (List ℕ) → List GrantedBlock → List Sheet → Ident → List ℕ
+unfoldable pub held_row : Bool → List (List ℕ) → List GrantedBlock → List Sheet → Ident → List ℕ
 held_row is_j1939 names blocks releases i =
     around tag.Row []
     (number_cells is_j1939 i ++ (name_cell (last_name releases i)

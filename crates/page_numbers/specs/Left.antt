@@ -60,7 +60,7 @@ share_html class n =
     else element_html tag.Italic (classed class ++ valued (codes " style=\"flex:") (decimal (short n))) []
 
 -- a bar of what is live, held and free, in the team's colour
-abbrev pub bar_cell : List (List ℕ) → List ℕ → Counts → List ℕ
+unfoldable pub bar_cell : List (List ℕ) → List ℕ → Counts → List ℕ
 bar_cell names team left =
     cell (around tag.Division (codes " class=\"bar\"")
     (share_html (class_in shade.Live names team) left.live
@@ -76,7 +76,7 @@ few_html n =
     if n == 0 then element_html tag.Emphasis [] (codes "none")
     else around tag.Emphasis [] (codes "only " ++ decimal (short n))
 
-abbrev pub free_html : Counts → List ℕ
+unfoldable pub free_html : Counts → List ℕ
 free_html left = if few left then few_html left.free else decimal (short left.free)
 
 -- a comma and the run for each
@@ -92,14 +92,14 @@ abbrev pub more_html : ℕ → List ℕ
 more_html n = if n == 0 then [] else codes " and " ++ (decimal n ++ codes " more")
 
 -- the first runs of free numbers, and how many more there are
-abbrev pub runs_cell : NumberForm → List Run → List ℕ
+unfoldable pub runs_cell : NumberForm → List Run → List ℕ
 runs_cell form runs =
     cell (runs_html (width_of (block_form form)) (take 4 runs) ++ more_html (length runs - 4))
 
 -- ---- rows
 
 -- a team's numbers of a kind
-abbrev pub left_row : List (List ℕ) → List ℕ → NumberForm → Counts → List ℕ
+unfoldable pub left_row : List (List ℕ) → List ℕ → NumberForm → Counts → List ℕ
 left_row names team form left =
     around tag.Row []
     (around tag.HeadCell [] (badge names team) ++ (element_html tag.Cell [] (form_words form)
@@ -139,7 +139,7 @@ abbrev pub run_of : Range → Run
 run_of b = record { first = b.first; last = b.last }
 
 -- a block and whose it is
-abbrev pub block_item : List (List ℕ) → GrantedBlock → List ℕ
+unfoldable pub block_item : List (List ℕ) → GrantedBlock → List ℕ
 block_item names g =
     around tag.Item []
     (element_html tag.Bold [] (block_words g.block.form) ++ (codes " " ++ (both (width_of g.block.form) (run_of g.block)

@@ -67,6 +67,7 @@ fn put_ident(page: &mut Markup, ident: &Ident)
 }
 
 /// Adds the cells of the identifier's numbers.
+#[tactic(auto, using(markup::proofs::Changes::joins), unfolding(crate::specs::Held::number_cells))]
 fn put_numbers(page: &mut Markup, ident: &Ident, is_j1939: bool)
     ensures { Becomes page.new (adding (number_cells is_j1939 ident.now) page.old) }
 {
@@ -78,6 +79,7 @@ fn put_numbers(page: &mut Markup, ident: &Ident, is_j1939: bool)
 }
 
 /// Adds a cell with the identifier's name in the last release that has it.
+#[tactic(auto, using(markup::proofs::Changes::joins), unfolding(crate::specs::Held::name_cell))]
 fn put_last_name(page: &mut Markup, releases: &FrozenSheets, ident: &Ident)
     ensures { Becomes page.new (adding (name_cell (last_name releases.now ident.now)) page.old) }
 {
@@ -97,6 +99,7 @@ fn put_team(page: &mut Markup, letters: &Letters<'_>, team: &[u8])
 }
 
 /// Adds a cell with the team of the identifier's block, if it is in one.
+#[tactic(auto, using(markup::proofs::Changes::joins), unfolding(crate::specs::Held::team_cell))]
 fn put_team_of(page: &mut Markup, letters: &Letters<'_>, blocks: &Blocks<'_>, ident: &Ident)
     ensures { Becomes page.new
         (adding (team_cell letters.now (team_of blocks.now ident.now)) page.old) }
@@ -108,6 +111,7 @@ fn put_team_of(page: &mut Markup, letters: &Letters<'_>, blocks: &Blocks<'_>, id
 }
 
 /// Adds the row of a held identifier.
+#[tactic(auto, using(markup::proofs::Changes::joins), unfolding(crate::specs::Held::held_row))]
 fn put_row(
     alloc: Global,
     page: &mut Markup,

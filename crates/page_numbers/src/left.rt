@@ -121,6 +121,7 @@ fn put_share(page: &mut Markup, class: &[u8], count: u128)
 }
 
 /// Adds a cell with a bar of what is live, held and free, in the team's colour.
+#[tactic(auto, using(markup::proofs::Changes::joins), unfolding(crate::specs::Left::bar_cell))]
 fn put_bar(page: &mut Markup, letters: &Letters<'_>, team: &[u8], tally: &Tally)
     ensures { Becomes page.new
         (adding (bar_cell letters.now team.now (counts_of tally.now)) page.old) }
@@ -160,6 +161,7 @@ fn put_few(page: &mut Markup, free: u128)
 }
 
 /// Adds how many numbers are free, in red where they are few.
+#[tactic(auto, using(markup::proofs::Changes::joins), unfolding(crate::specs::Left::free_html))]
 fn put_free(page: &mut Markup, tally: &Tally)
     ensures { Becomes page.new (adding (free_html (counts_of tally.now)) page.old) }
 {
@@ -221,6 +223,7 @@ fn first_runs(runs: &[Run]) -> &[Run]
 }
 
 /// Adds a cell with the first runs of free numbers, and how many more there are.
+#[tactic(auto, using(markup::proofs::Changes::joins), unfolding(crate::specs::Left::runs_cell))]
 fn put_runs_cell(page: &mut Markup, form: NumberForm, runs: &[Run])
     ensures { Becomes page.new (adding (runs_cell form runs.now) page.old) }
 {
@@ -242,6 +245,7 @@ fn put_team_head(page: &mut Markup, letters: &Letters<'_>, team: &[u8])
 }
 
 /// Adds the row of a team's numbers of a kind.
+#[tactic(auto, using(markup::proofs::Changes::joins), unfolding(crate::specs::Left::left_row))]
 fn put_row(page: &mut Markup, letters: &Letters<'_>, team: &[u8], form: NumberForm, tally: &Tally)
     ensures { Becomes page.new
         (adding (left_row letters.now team.now form (counts_of tally.now)) page.old) }
@@ -361,6 +365,7 @@ fn put_teams(
 // ---- blocks
 
 /// Adds a block and whose it is.
+#[tactic(auto, using(markup::proofs::Changes::joins), unfolding(crate::specs::Left::block_item))]
 fn put_block(page: &mut Markup, letters: &Letters<'_>, granted: &GrantedBlock)
     ensures { Becomes page.new (adding (block_item letters.now granted.now) page.old) }
 {

@@ -7,7 +7,7 @@
 //!   `specs/Map.antt`, and `Rows.antt` for which rows there are.
 //! - [`put_spns`]: where each suspect parameter number is, or last was ([`SpnRows`]). `specs/Spns.antt`.
 //! - [`put_held`]: the identifiers that are held for good. `specs/Held.antt`.
-#![tactic(auto)]
+#![tactic(auto, using(markup::proofs::Changes::joins))]
 
 mod cells;
 mod charts;

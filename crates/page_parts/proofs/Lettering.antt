@@ -24,11 +24,13 @@ enough (suc k) (suc l) i is_small h g = elim (cases_lt i 26) [
 ]
 
 pub one_letter : (i : ℕ) (is_small : Bool) → i < 26 → letter i is_small ≡ last i is_small
+unfolding letter
 one_letter i is_small few =
     ap (λ b. cond b [] (letters_within i (i / 26 - 1) is_small) ++ last i is_small) (lt-ltb i 26 few)
 
 pub more_letters : (i : ℕ) (is_small : Bool) → 26 ≤ i
     → letter i is_small ≡ letter (i / 26 - 1) is_small ++ last i is_small
+unfolding letter
 more_letters i is_small many =
     ap (λ b. cond b [] (letters_within i (i / 26 - 1) is_small) ++ last i is_small) (le-ltb i 26 many)
     ∙ ap (λ v. v ++ last i is_small)

@@ -31,7 +31,7 @@ letters_within (suc k) i is_small =
     ++ escaped ((first_letter is_small + i % 26) ∷ [])
 
 -- the letter of an index
-abbrev pub letter : ℕ → Bool → List ℕ
+unfoldable pub letter : ℕ → Bool → List ℕ
 letter i is_small = letters_within (suc i) i is_small
 
 abbrev pub letter_at : Option ℕ → Bool → List ℕ → List ℕ
@@ -39,7 +39,7 @@ letter_at (Some i) is_small otherwise = letter i is_small
 letter_at None is_small otherwise = escaped otherwise
 
 -- the letter of the name, or `otherwise` where it has none
-abbrev pub letter_or : List (List ℕ) → List ℕ → Bool → List ℕ → List ℕ
+unfoldable pub letter_or : List (List ℕ) → List ℕ → Bool → List ℕ → List ℕ
 letter_or names name is_small otherwise = letter_at (index_in names name) is_small otherwise
 
 -- what stands before a name: its letter in its colour
@@ -50,5 +50,5 @@ before_name (Some i) =
     ++ (letter i false ++ (end_tag tag.Bold ++ escaped (194 ∷ 160 ∷ [])))
 
 -- the name after its letter in its colour; a name without a letter alone
-abbrev pub badge : List (List ℕ) → List ℕ → List ℕ
+unfoldable pub badge : List (List ℕ) → List ℕ → List ℕ
 badge names name = before_name (index_in names name) ++ escaped name

@@ -19,7 +19,7 @@ least_digits Four = 4
 least_digits Eight = 8
 
 -- a number in upper case hexadecimal digits, with zeros before it up to the width
-abbrev pub hex : HexWidth → ℕ → List ℕ
+unfoldable pub hex : HexWidth → ℕ → List ℕ
 hex width n = escaped (filled 48 (least_digits width) (digits 16 true n))
 
 -- an identifier: 3 digits of 11 bits, 8 of 29
@@ -28,7 +28,7 @@ ident_hex (Std n) = hex Three n
 ident_hex (Ext n) = hex Eight n
 
 -- as FF01, or FF01-FF09
-abbrev pub hex_run : HexWidth → Run → List ℕ
+unfoldable pub hex_run : HexWidth → Run → List ℕ
 hex_run width r = hex width r.first ++ (if r.first == r.last then [] else codes "-" ++ hex width r.last)
 
 -- a run in decimal, and where it has a width in hexadecimal too: `65281-65289 (FF01-FF09)`

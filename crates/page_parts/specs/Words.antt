@@ -5,19 +5,19 @@ use Rattle.markup.specs.Html.{element_html, end_tag, escaped, start_tag, valued}
 use Rattle.markup.specs.declared.tag.Tag.TheVariants as tag
 
 -- in grey
-abbrev pub quiet : List ℕ → List ℕ
+unfoldable pub quiet : List ℕ → List ℕ
 quiet words = element_html tag.Span (codes " class=\"q\"") words
 
 -- apart from the direction of what is around it
-abbrev pub isolated : List ℕ → List ℕ
+unfoldable pub isolated : List ℕ → List ℕ
 isolated words = element_html tag.Isolated [] words
 
 -- `1 node`, `2 nodes`
-abbrev pub counted : ℕ → List ℕ → List ℕ
+unfoldable pub counted : ℕ → List ℕ → List ℕ
 counted count one = decimal count ++ (codes " " ++ (escaped one ++ (if count == 1 then [] else codes "s")))
 
 -- `5`, or `1-3`
-abbrev pub run_html : Run → List ℕ
+unfoldable pub run_html : Run → List ℕ
 run_html r = decimal r.first ++ (if r.first == r.last then [] else codes "-" ++ decimal r.last)
 
 -- a dot between two facts
@@ -39,7 +39,7 @@ abbrev pub part_link : List ℕ → List ℕ → List ℕ
 part_link name words = element_html tag.Link (to_part name) words
 
 -- how many changes break a receiver: `! 3 breaking`
-abbrev pub bad : ℕ → List ℕ → List ℕ
+unfoldable pub bad : ℕ → List ℕ → List ℕ
 bad count words =
     start_tag tag.Bold (codes " class=\"bad\"")
     ++ (codes "! " ++ (decimal count ++ (codes " " ++ (escaped words ++ end_tag tag.Bold))))

@@ -68,6 +68,7 @@ fn class_of(shade: Shade, index: Option<usize>) -> &'static [u8]
 }
 
 /// Adds the letter of an index: A to Z, and then AA, AB and so on.
+#[tactic(auto, unfolding(crate::specs::Letters::letter))]
 fn put_letter(page: &mut Markup, index: usize, is_small: bool)
     ensures { Becomes page.new (adding (letter index is_small) page.old) }
 {
@@ -120,6 +121,7 @@ impl<'a> Letters<'a> {
     }
 
     /// Adds the letter of the name, or `otherwise` where it has none.
+    #[tactic(auto, unfolding(crate::specs::Letters::letter_or))]
     pub fn put_letter_or(&self, page: &mut Markup, name: &[u8], is_small: bool, otherwise: &str)
         ensures { Becomes page.new
             (adding (letter_or self.now name.now is_small otherwise.now) page.old) }
@@ -131,6 +133,7 @@ impl<'a> Letters<'a> {
     }
 
     /// Adds the name after its letter in its colour; a name without a letter alone.
+    #[tactic(auto, unfolding(crate::specs::Letters::badge))]
     pub fn put_badge(&self, page: &mut Markup, name: &[u8])
         ensures { Becomes page.new (adding (badge self.now name.now) page.old) }
     {

@@ -18,6 +18,7 @@ pub enum HexWidth {
 }
 
 /// Adds a number in upper case hexadecimal digits, at least as many as the width has.
+#[tactic(auto, unfolding(crate::specs::Numbers::hex))]
 pub fn put_hex(page: &mut Markup, width: HexWidth, number: u32)
     ensures { Becomes page.new (adding (hex width number) page.old) }
 {
@@ -48,6 +49,7 @@ pub fn put_number_cell(page: &mut Markup, number: u64)
 }
 
 /// Adds a run of numbers: `5`, or `1-3`.
+#[tactic(auto, unfolding(crate::specs::Words::run_html))]
 fn put_run(page: &mut Markup, run: Run)
     ensures { Becomes page.new (adding (run_html run) page.old) }
 {
@@ -59,6 +61,7 @@ fn put_run(page: &mut Markup, run: Run)
 }
 
 /// Adds a run of numbers in hexadecimal, as FF01 or FF01-FF09.
+#[tactic(auto, unfolding(crate::specs::Numbers::hex_run))]
 fn put_hex_run(page: &mut Markup, width: HexWidth, run: Run)
     ensures { Becomes page.new (adding (hex_run width run) page.old) }
 {

@@ -5,6 +5,7 @@ ghost use Rattle.page_parts.specs.Words.{bad, counted, dot, isolated, quiet};
 use markup::{Attribute, Markup, Tag};
 
 /// Adds words in grey.
+#[tactic(auto, unfolding(crate::specs::Words::quiet))]
 pub fn put_quiet(page: &mut Markup, words: &[u8])
     ensures { Becomes page.new (adding (quiet words.now) page.old) }
 {
@@ -12,6 +13,7 @@ pub fn put_quiet(page: &mut Markup, words: &[u8])
 }
 
 /// Adds a text that somebody wrote, apart from the direction of what is around it.
+#[tactic(auto, unfolding(crate::specs::Words::isolated))]
 pub fn put_isolated(page: &mut Markup, words: &[u8])
     ensures { Becomes page.new (adding (isolated words.now) page.old) }
 {
@@ -19,6 +21,7 @@ pub fn put_isolated(page: &mut Markup, words: &[u8])
 }
 
 /// Adds a number, and what is counted: one of them, or with an `s`.
+#[tactic(auto, unfolding(crate::specs::Words::counted))]
 pub fn put_count(page: &mut Markup, count: usize, one: &[u8])
     ensures { Becomes page.new (adding (counted count one.now) page.old) }
 {
@@ -38,6 +41,7 @@ pub fn put_dot(page: &mut Markup)
 }
 
 /// Adds how many changes break a receiver: `! 3 breaking`.
+#[tactic(auto, unfolding(crate::specs::Words::bad))]
 pub fn put_bad(page: &mut Markup, count: usize, words: &[u8])
     ensures { Becomes page.new (adding (bad count words.now) page.old) }
 {

@@ -7,6 +7,7 @@ use Rattle.page_changes.proofs.Steps.{add, by, end, finish, start}
 use Rattle.page_changes.proofs.releases.put_part.Goals as goal
 
 pub returns : goal.returns
+unfolding releases_part
 returns c =
     finish (end (add (end (add (by (by (start c.args.page.now)
     (with_part (codes "releases") (codes "Releases") None) (λ w. refl) c.open_part.ensures)

@@ -6,9 +6,11 @@ use Rattle.page_parts.specs.declared.letters.Shade.TheVariants as shade
 use Rattle.page_numbers.specs.Elements.{around}
 use Rattle.page_numbers.specs.Left.{share_html}
 use Rattle.page_numbers.proofs.Closing.{closed, instead}
+use Rattle.page_numbers.specs.Left.{bar_cell}
 use Rattle.page_numbers.proofs.left.put_bar.Goals as goal
 
 pub returns : goal.returns
+unfolding bar_cell
 returns c =
     let names = c.args.letters.now in
     let team = c.args.team.now in

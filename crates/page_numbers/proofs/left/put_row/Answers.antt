@@ -8,9 +8,11 @@ use Rattle.page_numbers.specs.Counts.{counts_of, granted, short}
 use Rattle.page_numbers.specs.Elements.{around}
 use Rattle.page_numbers.specs.Left.{bar_cell, form_words, free_html, held_cell, runs_cell}
 use Rattle.page_numbers.proofs.Closing.{closed, instead}
+use Rattle.page_numbers.specs.Left.{left_row}
 use Rattle.page_numbers.proofs.left.put_row.Goals as goal
 
 pub returns : goal.returns
+unfolding left_row
 returns c =
     let names = c.args.letters.now in
     let team = c.args.team.now in

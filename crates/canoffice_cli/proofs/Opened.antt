@@ -299,15 +299,3 @@ nothing_reported path reported lost = record {
   made = λ new sound. absurd new;
   statistics = λ begun sound. absurd sound;
 }
-
-pub nothing_looked_up : (path : List ℕ) (look : Look) (shown : Result (Option (List ℕ)) Lost)
-    → IsLookedUp nothing_known nothing_known path look shown
-nothing_looked_up path look shown = record {
-  of_held = λ h office holds legal sound. absurd sound;
-  held = λ h holds sound. absurd holds;
-  completed = λ h holds sound. absurd holds;
-  left = λ h holds sound. absurd holds;
-  older = λ h holds sound. absurd holds;
-  statistics = λ begun sound. absurd sound;
-  of_none = λ new. absurd new;
-}

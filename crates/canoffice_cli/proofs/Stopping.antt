@@ -33,10 +33,6 @@ pub far_at_refusal : (strict : Bool) (arrivals : List Arrival) (zs : List Answer
     → IsTrue strict × EndsRefused zs → IsFarEnough strict arrivals zs None
 far_at_refusal strict arrivals zs some ends = record { some = some; all = λ none. inr ends; stops = λ s. inr ends.1 }
 
-pub far_at_end : (strict : Bool) (arrivals : List Arrival) (zs : List Answer) → length zs ≡ length arrivals
-    → length zs ≤ length arrivals → (IsTrue strict → NoneRefused zs) → IsFarEnough strict arrivals zs None
-far_at_end strict arrivals zs all some none = record { some = some; all = λ _. inl all; stops = λ s. inl (none s) }
-
 pub far_at_loss : (strict : Bool) (arrivals : List Arrival) (zs : List Answer) (lost : Lost)
     → length zs ≤ length arrivals
     → (IsTrue strict → NoneRefused zs) → IsFarEnough strict arrivals zs (Some lost)

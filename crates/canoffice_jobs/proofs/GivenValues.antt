@@ -1,31 +1,24 @@
 -- If clap reports no fault, each required argument has its values, and they pass its parser.
-use Rattle.std.proofs.Common.{◌≡◌, ◌⊎◌, ◌∙◌, ◌<◌, ◌&&◌, ◌||◌, ℕ, Bool, cond, true, false, not, refl, sym, ap, subst}
-use Rattle.std.proofs.Common.{arith, inl, inr, List, [], ◌∷◌, ◌++◌, length, Option, Some, None, true≢false}
-use Rattle.std.specs.Prelude.{find, pos, fold, unwrap_or, option_map, option_and_then, slice_get}
+use Rattle.std.proofs.Common.{◌≡◌, ◌∙◌, ◌<◌, ◌&&◌, ◌||◌, Bool, cond, true, false, not, refl, sym, ap, subst}
+use Rattle.std.proofs.Common.{arith, List, [], ◌∷◌, length, Option, Some, None, true≢false}
+use Rattle.std.specs.Prelude.{find, unwrap_or, option_map, option_and_then, slice_get}
 use Rattle.std.specs.List.{list_all, list_any}
 use Rattle.std.specs.Option.{option_map_or}
 use Rattle.std.specs.Str.{bytes_eq}
-use Rattle.std.proofs.lemmas.List.Folds.{list_any-append}
 use Rattle.std.proofs.lemmas.Slice.Eq.{bytes_eq-Decides}
-use Rattle.clap.specs.Facts.{explicit_source, parser_of_value}
-use Rattle.clap.specs.Lexer.{without_minus}
-use Rattle.clap.specs.Values.{IsSignedIn, read_as, reading_of}
-use Rattle.clap.specs.ValueTests.{accepts}
-use Rattle.clap.specs.declared.builder.value_parser.ValueParser.TheVariants.{Signed}
-use Rattle.clap.proofs.ValueTestLemmas.{accepts-Accepts}
+use Rattle.clap.specs.Facts.{explicit_source}
+use Rattle.clap.specs.Values.{read_as}
 use Rattle.clap.specs.Kinds.{Kinds, check_kinds}
 use Rattle.clap.specs.Faults.{check_fault, level_fault, walk_fault}
-use Rattle.clap.specs.Takes.{is_given, value_passes}
-use Rattle.clap.specs.Walk.{Names, Row, Rule, Text, all_of, arg_by_id, at_row, default_rows, first_of, has_row}
-use Rattle.clap.specs.Walk.{more_values, is_empty, nothing_held, one_of, reading_by, row_text, rows_after, settled}
-use Rattle.clap.specs.Walk.{walk, walk_from, with_default, with_values}
+use Rattle.clap.specs.Takes.{is_given}
+use Rattle.clap.specs.Walk.{Names, Row, Rule, Text, all_of, first_of}
+use Rattle.clap.specs.Walk.{nothing_held, one_of, row_text, rows_after, settled}
+use Rattle.clap.specs.Walk.{walk, walk_from}
 use Rattle.clap.specs.Simple.{Shape}
 use Rattle.clap.specs.declared.builder.value_parser.Reading.{Reading}
-use Rattle.clap.specs.declared.parser.matches.ValueSource.{ValueSource}
-use Rattle.clap.specs.declared.parser.matches.ValueSource.TheVariants.{DefaultValue}
 use Rattle.clap.proofs.WalkLemmas.{both}
-use Rattle.canoffice_jobs.proofs.NoFault.{or_true, both_true, left_true, none_first, none_next, Among, any_among}
-use Rattle.canoffice_jobs.proofs.FilledRows.{wants_values, is_taken, Fills, IsReadBy, RowsFill, same_id, settled_fills}
+use Rattle.canoffice_jobs.proofs.NoFault.{none_first, none_next}
+use Rattle.canoffice_jobs.proofs.FilledRows.{wants_values, is_taken, Fills, IsReadBy, RowsFill, settled_fills}
 use Rattle.canoffice_jobs.proofs.FilledWalk.{IsNoHelp, StopKeeps, walk_keeps, defaults_fill}
 
 -- ---- one level of a parse that reports no fault
@@ -178,135 +171,7 @@ required_is_filled s names words has below id e negates needs =
     row_is_filled s.rules id rows row.0 row.1 parts.1
     (found_fills s.rules id rows row.0 (rows_fill s names words has below e) row.1)
 
--- an argument that takes a value is not there, or has one
-pub optional_is_filled : (s : Shape) (names : Names) (words : List Text) (has : Bool) (below : Kinds) (id : Text)
-    → level_fault s names nothing_held words has below ≡ []
-    → wants_values s.rules id ≡ true
-    → ((first_of id (rows_after s.rules names words) ≡ None) × (all_of id (rows_after s.rules names words) ≡ None))
-    ⊎ IsFilled s.rules id (rows_after s.rules names words)
-optional_is_filled s names words has below id e wants =
-    go (find (λ r. bytes_eq r.id id) (rows_after s.rules names words)) refl
-  where
-    go : (o : Option Row) → find (λ r. bytes_eq r.id id) (rows_after s.rules names words) ≡ o
-        → ((first_of id (rows_after s.rules names words) ≡ None) × (all_of id (rows_after s.rules names words) ≡ None))
-        ⊎ IsFilled s.rules id (rows_after s.rules names words)
-    go None same = inl (
-      ap (option_and_then (λ (r : Row). slice_get r.values 0)) same,
-      ap (option_map (λ (r : Row). r.values)) same,
-    )
-    go (Some row) same = inr
-        (row_is_filled s.rules id _ row same wants
-        (found_fills s.rules id _ row (rows_fill s names words has below e) same))
-
 -- ---- an argument with default values
-
-has_row_at : (id other : Text) (change : Row → List Row) (missing rows : List Row)
-    → ((r : Row) → bytes_eq r.id id ≡ true → has_row id (change r) ≡ true)
-    → has_row id rows ≡ true → has_row id (at_row other change missing rows) ≡ true
-has_row_at id other change missing [] kept e = absurd (true≢false (sym e))
-has_row_at id other change missing (r ∷ rs) kept e =
-    go (bytes_eq r.id other) (bytes_eq r.id id) refl e (has_row_at id other change missing rs kept)
-  where
-    go : (b here : Bool) → bytes_eq r.id id ≡ here → (here || has_row id rs) ≡ true
-        → (has_row id rs ≡ true → has_row id (at_row other change missing rs) ≡ true)
-        → has_row id (cond b (change r ++ rs) (r ∷ at_row other change missing rs)) ≡ true
-    go true true t e rest = list_any-append (λ x. bytes_eq x.id id) (change r) rs ∙ left_true _ _ (kept r t)
-    go true false t e rest = list_any-append (λ x. bytes_eq x.id id) (change r) rs ∙ or_true _ _ e
-    go false true t e rest = left_true _ _ t
-    go false false t e rest = or_true _ _ (rest e)
-
-has_row_put : (id : Text) (change : Row → List Row) (missing rows : List Row)
-    → ((r : Row) → bytes_eq r.id id ≡ true → has_row id (change r) ≡ true)
-    → has_row id missing ≡ true → has_row id (at_row id change missing rows) ≡ true
-has_row_put id change missing [] kept e = e
-has_row_put id change missing (r ∷ rs) kept e = go (bytes_eq r.id id) refl (has_row_put id change missing rs kept e)
-  where
-    go : (b : Bool) → bytes_eq r.id id ≡ b → has_row id (at_row id change missing rs) ≡ true
-        → has_row id (cond b (change r ++ rs) (r ∷ at_row id change missing rs)) ≡ true
-    go true t rest = list_any-append (λ x. bytes_eq x.id id) (change r) rs ∙ left_true _ _ (kept r t)
-    go false t rest = or_true _ _ rest
-
-with_values_kept : (id other : Text) (how : Reading) (source : ValueSource) (vs : List Text) (rows : List Row)
-    → has_row id rows ≡ true → has_row id (with_values other how source vs rows) ≡ true
-with_values_kept id other how source vs rows e =
-    has_row_at id other (more_values source vs)
-    (record { id = other; values = vs; count = None; source = Some source; reading = how } ∷ []) rows
-    (λ r t. left_true _ _ t) e
-
-with_values_put : (id : Text) (how : Reading) (source : ValueSource) (vs : List Text) (rows : List Row)
-    → has_row id (with_values id how source vs rows) ≡ true
-with_values_put id how source vs rows =
-    has_row_put id (more_values source vs)
-    (record { id = id; values = vs; count = None; source = Some source; reading = how } ∷ []) rows
-    (λ r t. left_true _ _ t) (left_true _ _ (same_id id))
-
-default_kept : (id : Text) (rows : List Row) (a : Rule) → has_row id rows ≡ true
-    → has_row id (with_default rows a) ≡ true
-default_kept id rows a e = go (has_row a.id rows) a.defaults
-  where
-    go : (b : Bool) (values : List Text) → has_row id (cond b rows (default_rows a.id (reading_by a) values rows))
-        ≡ true
-    go true values = e
-    go false [] = e
-    go false (v ∷ vs) = with_values_kept id a.id (reading_by a) DefaultValue (v ∷ vs) rows e
-
-default_put : (rows : List Row) (a : Rule) → not (is_empty a.defaults) ≡ true
-    → has_row a.id (with_default rows a) ≡ true
-default_put rows a e = go (has_row a.id rows) a.defaults refl e
-  where
-    go : (b : Bool) (values : List Text) → has_row a.id rows ≡ b → not (is_empty values) ≡ true
-        → has_row a.id (cond b rows (default_rows a.id (reading_by a) values rows)) ≡ true
-    go true values t e = t
-    go false [] t e = absurd (true≢false (sym e))
-    go false (v ∷ vs) t e = with_values_put a.id (reading_by a) DefaultValue (v ∷ vs) rows
-
-defaults_kept : (id : Text) (rest : List Rule) (rows : List Row) → has_row id rows ≡ true
-    → has_row id (fold with_default rows rest) ≡ true
-defaults_kept id [] rows e = e
-defaults_kept id (a ∷ rest) rows e = defaults_kept id rest (with_default rows a) (default_kept id rows a e)
-
--- an argument of the id has default values
-abbrev pub has_defaults : List Rule → Text → Bool
-has_defaults c id = list_any (λ a. bytes_eq a.id id && not (is_empty a.defaults)) c
-
-defaults_put : (id : Text) (rest : List Rule) (rows : List Row) → has_defaults rest id ≡ true
-    → has_row id (fold with_default rows rest) ≡ true
-defaults_put id [] rows e = absurd (true≢false (sym e))
-defaults_put id (a ∷ rest) rows e =
-    go (bytes_eq a.id id && not (is_empty a.defaults)) refl e (defaults_put id rest (with_default rows a))
-  where
-    go : (b : Bool) → (bytes_eq a.id id && not (is_empty a.defaults)) ≡ b → (b || has_defaults rest id) ≡ true
-        → (has_defaults rest id ≡ true → has_row id (fold with_default (with_default rows a) rest) ≡ true)
-        → has_row id (fold with_default (with_default rows a) rest) ≡ true
-    go true t e more =
-        let parts = both _ _ t in
-        let put : has_row id (with_default rows a) ≡ true =
-        subst (λ i. has_row i (with_default rows a) ≡ true) ((bytes_eq-Decides a.id id).0 parts.0)
-        (default_put rows a parts.1) in
-        defaults_kept id rest (with_default rows a) put
-    go false t e more = more e
-
-there_row : (id : Text) (rows : List Row) → has_row id rows ≡ true → (row : Row)
-    × (find (λ r. bytes_eq r.id id) rows ≡ Some row)
-there_row id [] e = absurd (true≢false (sym e))
-there_row id (r ∷ rs) e = go (bytes_eq r.id id) e (there_row id rs)
-  where
-    go : (b : Bool) → (b || has_row id rs) ≡ true
-        → (has_row id rs ≡ true → (row : Row) × (find (λ x. bytes_eq x.id id) rs ≡ Some row))
-        → (row : Row) × (cond b (Some r) (find (λ x. bytes_eq x.id id) rs) ≡ Some row)
-    go true e more = (r, refl)
-    go false e more = more e
-
--- an argument with default values has a value
-pub defaulted_is_filled : (s : Shape) (names : Names) (words : List Text) (has : Bool) (below : Kinds) (id : Text)
-    → level_fault s names nothing_held words has below ≡ []
-    → has_defaults s.rules id ≡ true → wants_values s.rules id ≡ true
-    → IsFilled s.rules id (rows_after s.rules names words)
-defaulted_is_filled s names words has below id e defaults wants =
-    let rows = rows_after s.rules names words in
-    let row = there_row id rows (defaults_put id s.rules _ defaults) in
-    row_is_filled s.rules id rows row.0 row.1 wants
-    (found_fills s.rules id rows row.0 (rows_fill s names words has below e) row.1)
 
 -- ---- an argument whose id no other has
 
@@ -314,64 +179,6 @@ defaulted_is_filled s names words has below id e defaults wants =
 abbrev pub is_only : List Rule → Text → Bool
 is_only [] id = true
 is_only (x ∷ xs) id = cond (bytes_eq x.id id) (not (list_any (λ a. bytes_eq a.id id) xs)) (is_only xs id)
-
-only_one : (c : List Rule) (id : Text) (a b : Rule) → is_only c id ≡ true → arg_by_id c id ≡ Some a → Among b c
-    → bytes_eq b.id id ≡ true → b ≡ a
-only_one [] id a b only found of same = absurd of
-only_one (x ∷ xs) id a b only found of same = go (bytes_eq x.id id) refl only found of (only_one xs id a b)
-  where
-    go : (t : Bool) → bytes_eq x.id id ≡ t → cond t (not (list_any (λ y. bytes_eq y.id id) xs)) (is_only xs id) ≡ true
-        → cond t (Some x) (arg_by_id xs id) ≡ Some a
-        → (b ≡ x) ⊎ Among b xs → (is_only xs id ≡ true → arg_by_id xs id ≡ Some a → Among b xs → bytes_eq b.id id ≡ true
-        → b ≡ a) → b ≡ a
-    go true t only found (inl is) more = is ∙ ap (λ o. unwrap_or o x) found
-    go true t only found (inr of) more =
-        let any : list_any (λ y. bytes_eq y.id id) xs ≡ true = any_among (λ y. bytes_eq y.id id) xs b of same in
-        absurd (true≢false (sym only ∙ ap not any))
-    go false t only found (inl is) more = absurd (true≢false (sym same ∙ ap (λ (y : Rule). bytes_eq y.id id) is ∙ t))
-    go false t only found (inr of) more = more only found of same
-
-any_witness : {X : Type 0} (q : X → Bool) (xs : List X) → list_any q xs ≡ true → (x : X) × Among x xs × (q x ≡ true)
-any_witness q [] e = absurd (true≢false (sym e))
-any_witness q (x ∷ xs) e = go (q x) refl e (any_witness q xs)
-  where
-    go : (b : Bool) → q x ≡ b → (b || list_any q xs) ≡ true
-        → (list_any q xs ≡ true → (y : _) × Among y xs × (q y ≡ true)) → (y : _) × ((y ≡ x) ⊎ Among y xs) × (q y ≡ true)
-    go true t e more = (x, inl refl, t)
-    go false t e more = let rest = more e in (rest.0, inr rest.1, rest.2)
-
--- the argument has a value, each of its values passes its parser, and a typed getter reads the first as the parser says
-pub record IsFilledBy (a : Rule) (id : Text) (rows : List Row) : Type 0 where
-  pub value : Text
-  pub more : List Text
-  pub first : first_of id rows ≡ Some value
-  pub all : all_of id rows ≡ Some (value ∷ more)
-  pub read : one_of id rows ≡ Some (read_as (reading_by a) value)
-  pub passes : list_all (value_passes a) (value ∷ more) ≡ true
-
-pub filled_by_only : (c : List Rule) (id : Text) (rows : List Row) (a : Rule) → is_only c id ≡ true
-    → arg_by_id c id ≡ Some a → IsFilled c id rows → IsFilledBy a id rows
-filled_by_only c id rows a only found filled =
-    let by = filled.read_by in
-    let is : by.0 ≡ a = only_one c id a by.0 only found by.1 ((bytes_eq-Decides by.0.id id).1 by.2) in
-    let how : filled.how ≡ reading_by a = by.3 ∙ ap reading_by is in
-    record {
-      value = filled.value;
-      more = filled.more;
-      first = filled.first;
-      all = filled.all;
-      read = filled.read ∙ ap (λ h. Some (read_as h filled.value)) how;
-      passes = each (filled.value ∷ filled.more) filled.passes;
-    }
-  where
-    each : (vs : List Text) → list_all (is_taken c id) vs ≡ true → list_all (value_passes a) vs ≡ true
-    each [] e = refl
-    each (v ∷ vs) e =
-        let parts = both _ _ e in
-        let taken = any_witness (λ x. bytes_eq x.id id && value_passes x v) c parts.0 in
-        let here = both _ _ taken.2 in
-        let is : taken.0 ≡ a = only_one c id a taken.0 only found taken.1 here.0 in
-        both_true _ _ (ap (λ x. value_passes x v) (sym is) ∙ here.1) (each vs parts.1)
 
 -- ---- a command with no subcommand
 
@@ -386,23 +193,3 @@ and_false false = refl
 module _ (s : Shape) (words : List Text) (id : Text) (passes : Passes s words) where
   pub leaf_required : needs_value s.rules id ≡ true → IsFilled s.rules id (rows_after s.rules [] words)
   leaf_required needs = required_is_filled s [] words false [] id passes (and_false s.subcommand_negates_reqs) needs
-
-  pub leaf_defaulted : has_defaults s.rules id ≡ true → wants_values s.rules id ≡ true
-      → IsFilled s.rules id (rows_after s.rules [] words)
-  leaf_defaulted defaults wants = defaulted_is_filled s [] words false [] id passes defaults wants
-
-  pub leaf_optional : wants_values s.rules id ≡ true
-      → ((first_of id (rows_after s.rules [] words) ≡ None) × (all_of id (rows_after s.rules [] words) ≡ None))
-      ⊎ IsFilled s.rules id (rows_after s.rules [] words)
-  leaf_optional wants = optional_is_filled s [] words false [] id passes wants
-
--- the text that a typed getter of clap reads of an argument that is a number in a range, for `signed_reads`
-pub number_in_range : (a : Rule) (id : Text) (rows : List Row) (low high : ℕ)
-    → a.parser ≡ Some (Signed (pos low) (pos high)) → IsFilledBy a id rows
-    → (text : Text) × (one_of id rows ≡ Some (without_minus text)) × IsSignedIn (pos low) (pos high) text
-number_in_range a id rows low high parser filled = (
-  filled.value,
-  filled.read ∙ ap (λ p. Some (read_as (reading_of (parser_of_value p)) filled.value)) parser,
-  accepts-Accepts a.ignore_case (Signed (pos low) (pos high)) filled.value
-      (ap (λ p. accepts a.ignore_case (parser_of_value p) filled.value) (sym parser) ∙ (both _ _ filled.passes).0),
-)

@@ -16,10 +16,6 @@ pub both_true : (a b : Bool) → a ≡ true → b ≡ true → (a && b) ≡ true
 both_true true b e f = f
 both_true false b e f = absurd (true≢false (sym e))
 
-pub left_true : (a b : Bool) → a ≡ true → (a || b) ≡ true
-left_true true b e = refl
-left_true false b e = absurd (true≢false (sym e))
-
 -- ---- kinds: none comes of two steps where none comes of either
 
 pub none_first : (a b : Kinds) → or_else a b ≡ [] → a ≡ []

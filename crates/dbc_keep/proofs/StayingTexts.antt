@@ -1,6 +1,6 @@
 -- What the words of a statement show, and the text of those that stay.
 use Rattle.std.proofs.Common.{◌≡◌, ◌+◌, ◌<◌, ◌++◌, ℕ, Bool, true, false, List, [], ◌∷◌, map, filter, drop, length, take}
-use Rattle.std.proofs.Common.{get_or, Some, None, refl, sym, ap, subst, ◌∙◌}
+use Rattle.std.proofs.Common.{get_or, None, refl, sym, ap, subst, ◌∙◌}
 use Rattle.std.proofs.lemmas.List.{take_more}
 use Rattle.std.specs.List.{flat_map}
 use Rattle.std.proofs.lemmas.List.Elements.{filter-append, filter_map-append}
@@ -23,7 +23,6 @@ use Rattle.dbc_keep_law.specs.Law.{EachOnce, Keeps, KeptIsRead, StatementsAreFou
 use Rattle.dbc_keep_law.specs.Passages.{Passage, line_of, pieces_from}
 use Rattle.dbc_keep_law.specs.Staying.{Word, reason, reason_by, stays, word_of}
 use Rattle.dbc_keep_law.specs.Staying.{words_of}
-use Rattle.dbc_keep_law.specs.declared.reason.Reason.{Reason}
 use Rattle.dbc_read.specs.Passed.{start_and_keyword}
 use Rattle.dbc_read.specs.declared.passed.Passed.{Passed}
 
@@ -56,20 +55,6 @@ message_stays s source one e =
     ∙ ap (λ (k : Keyword). reason_by s k (map token_word (to_mark (drop 1 (tokens_at source one.at))))) e
 
 -- ---- one more
-
-module _ (s : Sheet) (source : List ℕ) (one : Passed) where
-  pub one_stays : reason s (found_in source one) ≡ None → staying s source (one ∷ []) ≡ one ∷ []
-  one_stays e = rw e refl
-
-  pub one_goes : (r : Reason) → reason s (found_in source one) ≡ Some r → staying s source (one ∷ []) ≡ []
-  one_goes r e = rw e refl
-
-  pub none_left_out : reason s (found_in source one) ≡ None → left_out s source (one ∷ []) ≡ []
-  none_left_out e = rw e refl
-
-  pub one_left_out : (r : Reason) → reason s (found_in source one) ≡ Some r
-      → left_out s source (one ∷ []) ≡ record { statement = one; reason = r } ∷ []
-  one_left_out r e = rw e refl
 
 module _ (s : Sheet) (source : List ℕ) (xs : List Passed) (i : ℕ) (d : Passed) (h : i < length xs) where
   abbrev x : Passed

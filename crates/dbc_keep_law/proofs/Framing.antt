@@ -66,9 +66,6 @@ pub frame_any : {A : Type 0} {F : List Token → Type 0} {rule : Rule A} {ts : L
     → Frame Any rule ts x rest → Frame F rule ts x rest
 frame_any f = record { run = f.run; parts = f.parts; moves = λ moved others alike _. f.moves moved others alike tt }
 
-framed_any : {A : Type 0} {F : List Token → Type 0} {rule : Rule A} → Framed Any rule → Framed F rule
-framed_any f = record { each = λ ts x rest h. frame_any (f.each ts x rest h) }
-
 pub frame_map : {A : Type 0} {F : List Token → Type 0} {rule other : Rule A} {ts : List Token} {x : A}
     {rest : List Token}
     → ((us : List Token) (y : A) (more : List Token) → rule us y more → other us y more) → Frame F rule ts x rest
@@ -143,13 +140,6 @@ followed_moves : (test : List Token → Bool) (x : Unit {0}) (moved others : Lis
     → test others ≡ true → followed test (moved ++ others) x others
 followed_moves test x [] others alike h = record { passes = h; all = refl }
 followed_moves test x (u ∷ moved) others alike h = absurd alike
-
-framed_followed : (test : List Token → Bool) → Framed (λ ts. test ts ≡ true) (followed test)
-framed_followed test =
-    record {
-      each = λ ts x rest h.
-          record { run = []; parts = sym h.all; moves = λ moved others alike f. followed_moves test x moved others alike f };
-    }
 
 none_moves : {A : Type 0} (r : Rule A) (moved others : List Token) → Alike [] moved
     → optional r (moved ++ others) None others

@@ -80,7 +80,3 @@ pub arrived : (h : List Answered) (a : ArrivalSeen) (answer : Answer) (s : State
 arrived h a answer s held left = inl (h ++ answered_as a answer ∷ [], (answer, refl, refl), held, left)
 
 -- ---- an example: after what is no arrival a crash leaves the history alone
-
-no_arrival : (h : List Answered) (l : Look) (db : Trees) → FollowsRequested h (shows l) db → Keeps h db
-no_arrival h l db (inl keeps) = keeps
-no_arrival h l db (inr one) = absurd (let arrival : shows l ≡ arrives one.0 = one.1 in cc)

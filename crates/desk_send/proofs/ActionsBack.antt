@@ -1,5 +1,5 @@
 -- The values of an action's fields give that action.
-use Rattle.std.proofs.Common.{◌≡◌, ◌≢◌, ◌≤◌, ◌<◌, ◌^◌, ◌&&◌, ℕ, true, List, [], ◌∷◌, Option, Some, None, refl, arith}
+use Rattle.std.proofs.Common.{◌≡◌, ◌≢◌, ◌≤◌, ◌<◌, ◌^◌, ◌&&◌, ℕ, true, List, [], ◌∷◌, Some, refl, arith}
 use Rattle.std.proofs.Common.{nat_le}
 use Rattle.std.proofs.lemmas.Bool.{and_parts}
 use Rattle.std.proofs.lemmas.Bool.Decides.{nat_tests}
@@ -90,10 +90,6 @@ given_back act.Reject is values h = refl
 given_back act.Release is values h = refl
 
 -- ---- each value is one that its field may have
-
-some_weaker : {A : Type 0} (P Q : A → Type 0) → ((x : A) → P x → Q x) → (o : Option A) → IfSome o P → IfSome o Q
-some_weaker P Q w None h = tt
-some_weaker P Q w (Some x) h = w x h
 
 is_mark : (mux : Mux) → IsMux mux → IfSome (mark_of mux) (λ m. IsMux m × (m ≢ Always))
 is_mark Always is = tt

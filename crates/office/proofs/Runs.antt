@@ -8,12 +8,11 @@ use Rattle.office_types.specs.Command.{IsCommand}
 use Rattle.office_types.specs.PlainName.{IsPlainName}
 use Rattle.office_types.specs.State.{by_name}
 use Rattle.office_types.specs.declared.book.SpnBook.{SpnBook}
-use Rattle.office_types.specs.declared.change.Decision.{Decision}
 use Rattle.office_types.specs.declared.command.Command.{Command}
 use Rattle.office_types.specs.declared.reply.Reply.{Reply}
 use Rattle.office_types.specs.declared.state.Net.{Net}
 use Rattle.office_types.specs.declared.state.Office.{Office}
-use Rattle.office_rules.specs.Change.{IsDecision, NetAndBook, all_applied, left_after}
+use Rattle.office_rules.specs.Change.{left_after}
 use Rattle.office_rules.specs.Commands.{outcome}
 use Rattle.office_rules.specs.Kept.{IsOffice}
 use Rattle.office_rules.specs.Outcome.{Outcome, Refusing, Changing, reply_of}
@@ -33,13 +32,6 @@ left_so : (o : Office) (name : List ℕ) (sorted : IsStrictlySortedBy by_name o.
     → with_both o (left_after (record { net = net_named o name; book = o.book }) out) ≡ office_after o out
 left_so o name sorted (Refusing r) = sym (nothing_applied o name sorted)
 left_so o name sorted (Changing r n e) = refl
-
--- what is decided on a network that is there, and carried out on it and the book, is done on them
-pub decided_there : (team : List ℕ) (c : Command) (d : Decision) (before after : NetAndBook)
-    → IsDecision team before c d → after ≡ all_applied c.net d.changes before
-    → IsDoneOn team c before d.reply after
-decided_there team c d before after h is =
-    record { reading = h.reading; read = h.read; answered = h.decides.reply; left = is ∙ h.decides.changes }
 
 -- and is a step of the office, whose network at the index is left so
 pub done_step : (o : Office) (i : ℕ) (y n : Net) (book : SpnBook) (team : List ℕ) (c : Command) (reply : Reply)

@@ -1,6 +1,6 @@
 -- What clap's matches and errors say of the job and of the fault.
-use Rattle.std.proofs.Common.{◌≡◌, ◌∷◌, map, ◌⊎◌, ◌&&◌, ◌||◌, inl, inr, ap, Bool, List, [], Option, Some, None, codes, option_map, refl}
-use Rattle.std.proofs.Common.{subst, true, false, true≢false, sym, ◌∙◌}
+use Rattle.std.proofs.Common.{◌≡◌, ◌∷◌, map, ◌⊎◌, ◌&&◌, ◌||◌, inl, inr, ap, Bool, List, [], Option, Some, None, codes}
+use Rattle.std.proofs.Common.{option_map, refl, subst, true, false, true≢false, sym, ◌∙◌}
 use Rattle.std.specs.Prelude.{find}
 use Rattle.std.specs.Borrow.{Bor}
 use Rattle.std.specs.List.{list_any}

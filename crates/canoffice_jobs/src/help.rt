@@ -138,7 +138,7 @@ const ENDS: &[(&str, &str)] = &[
          \n\
          Exit status:\n  \
          0  it was printed\n  \
-         1  what is asked for isn't there\n  \
+         1  there is no such network, message, node, name or number\n  \
          2  the command line is wrong\n  \
          3  the database or the desk fails",
     ),

@@ -93,7 +93,7 @@ pub const APPLY: Subcommand = (
             "db",
             Form::Value,
             "FILE",
-            "The office's database, which is made where there is none; else it is in memory",
+            "The office's database, made if the file isn't there; without it the office is in memory",
         ),
         (
             "explain",

@@ -6,42 +6,20 @@
 #![tactic(auto)]
 
 #[cfg(test)]
-mod asking;
-#[cfg(test)]
-mod canonical_parts;
-#[cfg(test)]
 mod changes;
-#[cfg(test)]
-mod comparisons;
 #[cfg(test)]
 mod copies;
 #[cfg(test)]
 mod decimals;
 #[cfg(test)]
-mod echoes;
-#[cfg(test)]
 mod identifiers;
-#[cfg(test)]
-mod kept;
 #[cfg(test)]
 mod layouts;
 #[cfg(test)]
 mod lists;
-#[cfg(test)]
-mod looks;
 #[cfg(test)]
 mod made;
 #[cfg(test)]
 mod masks;
 #[cfg(test)]
 mod numbers;
-#[cfg(test)]
-mod read_faults;
-#[cfg(test)]
-mod reasons;
-#[cfg(test)]
-mod remarks;
-#[cfg(test)]
-mod request_lines;
-#[cfg(test)]
-mod sending;

@@ -2,9 +2,14 @@
 //! streams, given to the program's library.
 #![tactic(auto)]
 
-use canoffice_host::{
-    HostDatabases, HostDesks, HostFiles, JobFault, Progress, Status, deliver, fault_report,
-    not_utf8_fault, perform,
+mod databases;
+mod desks;
+mod files;
+
+use crate::databases::HostDatabases;
+use crate::desks::HostDesks;
+use canoffice_cli::{
+    HostFiles, JobFault, Progress, Status, deliver, fault_report, not_utf8_fault, perform,
 };
 use std::alloc::AllocError;
 use std::env;

@@ -9,7 +9,7 @@ use Rattle.canoffice_cli.specs.Delivery.{IsDelivered, Writing}
 use Rattle.canoffice_cli.specs.Outcome.{memory_lost, outcome_of, final_outcome}
 use Rattle.office_script.specs.Files.{Files, Holding}
 use Rattle.canoffice_cli.specs.Databases.{Databases}
-use Rattle.canoffice_desks.specs.Desks.{Desks}
+use Rattle.desk_send.specs.Desks.{Desks}
 use Rattle.canoffice_jobs.specs.CommandLine.{entered, is_check, lint_entered}
 use Rattle.canoffice_jobs.specs.Meant.{meant_after, name_before_help, words_meant}
 use Rattle.canoffice_cli.specs.Performance.{IsAnswered, IsEnteredAnswer, IsPerformed}

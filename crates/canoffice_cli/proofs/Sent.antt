@@ -7,10 +7,10 @@ use Rattle.std.specs.List.{AllZip}
 use Rattle.std.specs.declared.alloc.AllocError.{AllocError}
 use Rattle.std.proofs.lemmas.List.{length-map, map-append}
 use Rattle.std.proofs.lemmas.Slice.Zip.{AllZip-long}
-use Rattle.canoffice_desks.specs.Desks.{AreStill, Desks, Takes, TakesNone, Turn}
-use Rattle.canoffice_desks.specs.Replies.{Comes, HasCome}
-use Rattle.canoffice_desks.specs.declared.sending.SendFault.{SendFault}
-use Rattle.canoffice_desks.proofs.Trying.{comes_more, takes_nothing, takes_on}
+use Rattle.desk_send.specs.Desks.{AreStill, Desks, Takes, TakesNone, Turn}
+use Rattle.desk_send.specs.Replies.{Comes, HasCome}
+use Rattle.desk_send.specs.declared.sending.SendFault.{SendFault}
+use Rattle.desk_send.proofs.Trying.{comes_more, takes_nothing, takes_on}
 use Rattle.desk_send.specs.Request.{IsFirstUnsent, IsSentAs}
 use Rattle.office_history.specs.declared.arrival.Answer.{Answer}
 use Rattle.office_history.specs.declared.arrival.Arrival.{Arrival}

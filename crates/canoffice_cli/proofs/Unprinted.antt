@@ -2,7 +2,7 @@
 use Rattle.std.proofs.Common.{◌⊎◌, inl, inr, Result, Ok, Err}
 use Rattle.std.specs.Prelude.{OnErr}
 use Rattle.std.specs.declared.alloc.AllocError.{AllocError}
-use Rattle.canoffice_desks.specs.Desks.{Desks}
+use Rattle.desk_send.specs.Desks.{Desks}
 use Rattle.canoffice_cli.specs.Outcome.{Outcome}
 use Rattle.canoffice_cli.specs.Unprinted.{IsUnprinted}
 use Rattle.canoffice_cli.specs.declared.report.Report.{Report}

@@ -2,7 +2,7 @@
 use Rattle.std.specs.Prelude.{◌≡◌, ◌⊎◌, ◌↔◌, ◌++◌, ℕ, Bool, List, [], Option, IsTrue, codes, decimal}
 use Rattle.std.specs.Prelude.{if◌then◌else◌}
 use Rattle.std.specs.Option.{option_map}
-use Rattle.canoffice_desks.specs.Desks.{Desks}
+use Rattle.desk_send.specs.Desks.{Desks}
 use Rattle.dbc_advice.specs.ShownPath.{shown_path}
 use Rattle.dbc_compare.specs.List.{compare_text, has_no_difference}
 use Rattle.dbc_grammar.specs.Reads.{Reads}

@@ -1,6 +1,6 @@
 -- What is printed of what came of asking a desk.
 use Rattle.std.specs.Prelude.{ℕ, ◌++◌, List, Ok, Err, codes, decimal}
-use Rattle.canoffice_desks.specs.Desks.{Asked}
+use Rattle.desk_send.specs.Desks.{Asked}
 use Rattle.desk_client.specs.Received.{cut, not_http, too_long, whole}
 use Rattle.desk_client.specs.declared.fault.AskFault.TheVariants.{Connect, Connection}
 use Rattle.desk_client.specs.declared.received.Status.{Status}

@@ -1,6 +1,6 @@
 -- What a look at an office prints.
 use Rattle.std.specs.Prelude.{◌≡◌, ℕ, Bool, List, [], ◌∷◌, Option, Some, None, Result, Ok, Err, IfOk, IsErr, OnOk}
-use Rattle.canoffice_desks.specs.Desks.{Asked, Desks, Takes, TakesNone, turn}
+use Rattle.desk_send.specs.Desks.{Asked, Desks, Takes, TakesNone, turn}
 use Rattle.canoffice_jobs.specs.Words.{requests_look, show_look}
 use Rattle.canoffice_jobs.specs.declared.what.What.{What}
 use Rattle.desk_client.specs.Request.{request_bytes}

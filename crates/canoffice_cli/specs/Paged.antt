@@ -2,7 +2,7 @@
 use Rattle.std.specs.Prelude.{◌≡◌, ◌⊎◌, ◌==◌, ◌-◌, ℕ, Bool, not, List, codes, drop, length, map, if◌then◌else◌}
 use Rattle.std.specs.List.{suffix_len}
 use Rattle.std.specs.Str.{bytes_eq}
-use Rattle.canoffice_desks.specs.Desks.{Desks}
+use Rattle.desk_send.specs.Desks.{Desks}
 use Rattle.canoffice_jobs.specs.Words.{page_look}
 use Rattle.dbc_grammar.specs.Reads.{ReadsAs}
 use Rattle.dbc_lex.specs.declared.fault.ReadFault.{ReadFault}

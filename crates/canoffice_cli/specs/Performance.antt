@@ -2,7 +2,7 @@
 use Rattle.std.specs.Prelude.{◌≡◌, ◌⊎◌, ⊤, ℕ, Bool, false, List, map, Option, Some, None, option_map, Result, Ok, Err}
 use Rattle.std.specs.Prelude.{string_bytes}
 use Rattle.std.specs.Borrow.{Bor}
-use Rattle.canoffice_desks.specs.Desks.{Desks, TakesNone}
+use Rattle.desk_send.specs.Desks.{Desks, TakesNone}
 use Rattle.dbc_advice.specs.ShownPath.{shown_path}
 use Rattle.office_history.specs.declared.arrival.Answer.{Answer}
 use Rattle.office_script.specs.Files.{Files, Holding, unknown, absent, holding}

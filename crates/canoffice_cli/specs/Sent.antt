@@ -3,10 +3,10 @@ use Rattle.std.specs.Prelude.{◌≡◌, ◌⊎◌, ◌==◌, ◌+◌, ◌-◌, 
 use Rattle.std.specs.Prelude.{Option, Some, None, Result, Ok, Err}
 use Rattle.std.specs.List.{AllZip}
 use Rattle.std.specs.Option.{option_map}
-use Rattle.canoffice_desks.specs.Desks.{Desks, Takes, TakesNone, Turn}
-use Rattle.canoffice_desks.specs.Replies.{Comes}
-use Rattle.canoffice_desks.specs.declared.sending.SendFault.{SendFault}
-use Rattle.canoffice_desks.specs.declared.sending.SendFault.TheVariants as fault
+use Rattle.desk_send.specs.Desks.{Desks, Takes, TakesNone, Turn}
+use Rattle.desk_send.specs.Replies.{Comes}
+use Rattle.desk_send.specs.declared.sending.SendFault.{SendFault}
+use Rattle.desk_send.specs.declared.sending.SendFault.TheVariants as fault
 use Rattle.desk_send.specs.Request.{IsFirstUnsent, IsSentAs}
 use Rattle.office_history.specs.declared.arrival.Answer.{Answer}
 use Rattle.office_history.specs.declared.arrival.Arrival.{Arrival}

@@ -1,6 +1,6 @@
 -- What is left where memory runs out before an outcome is printed.
 use Rattle.std.specs.Prelude.{◌⊎◌, List}
-use Rattle.canoffice_desks.specs.Desks.{Desks, TakesNone}
+use Rattle.desk_send.specs.Desks.{Desks, TakesNone}
 use Rattle.office_history.specs.declared.arrival.Answer.{Answer}
 use Rattle.canoffice_cli.specs.Databases.{AreKept, Databases}
 use Rattle.canoffice_cli.specs.Outcome.{Outcome}

@@ -2,7 +2,7 @@
 //!
 //! - What the words of the command line request is in the crate `canoffice_jobs`.
 //! - `files` reads files and standard input: those of the machine, or those of a list in memory. `databases` has the
-//!   offices in databases, of which one in memory is here, and the crate `canoffice_desks` those that desks serve;
+//!   offices in databases, of which one in memory is here, and `Desks` of the crate `desk_send` those that desks serve;
 //!   those of the machine are in the program itself.
 //! - `apply`, `sending`, `looking`, `exporting`, `migrating`, `serving`, `charting`, `checking`,
 //!   `comparing`, `formatting`, `paging` and `tabling` do the jobs. `answering` answers the arrivals of a script, by an
@@ -46,13 +46,13 @@ mod tabling;
 
 pub use answering::{Answers, answer_on, answers_when_closed, nothing_answered};
 pub use apply::apply_script;
-pub use canoffice_desks::{Desks, NoDesk};
 pub use canoffice_jobs::{Extras, Job, JobFault, Manner, Place, Sending, job_of, not_utf8_fault};
 pub use charting::chart_report;
 pub use checking::check_report;
 pub use comparing::{compare_releases_report, compare_report};
 pub use databases::{Databases, MemoryDatabase};
 pub use delivery::deliver;
+pub use desk_send::{Desks, NoDesk};
 pub use exporting::export_report;
 pub use files::{
     FileSource, HostFiles, ListedFiles, NamedFile, PathFault, StandardInput, bytes_at,

@@ -9,9 +9,9 @@ use crate::checking::fault_line;
 use crate::databases::Databases;
 use crate::looking::look_report;
 use crate::report::{Report, Status};
-use canoffice_desks::Desks;
 use canoffice_jobs::{Place, page_look};
 use dbc_read::{ReadCode, read};
+use desk_send::Desks;
 use office_page::file_page;
 use std::alloc::{AllocError, Global};
 

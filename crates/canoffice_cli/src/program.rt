@@ -20,8 +20,8 @@ use crate::progress::Progress;
 use crate::report::{Report, Status, help, usage};
 use crate::sending::send_report;
 use crate::serving::serve_report;
-use canoffice_desks::Desks;
 use canoffice_jobs::{Job, JobFault, is_check, job_of, lint_entered, name_before_help};
+use desk_send::Desks;
 use std::alloc::{AllocError, Global};
 use std::io::Write;
 

@@ -1,7 +1,7 @@
 //! Sending a script to a desk.
 ghost use Rattle.std.specs.Prelude.{◌≡◌, ◌∷◌, length, List, IfOk, IfSome, OnErr};
 ghost use Rattle.std.specs.List.{AllZip};
-ghost use Rattle.canoffice_desks.specs.Desks.{TakesNone};
+ghost use Rattle.desk_send.specs.Desks.{TakesNone};
 ghost use Rattle.desk_send.specs.Request.{IsSentAs};
 ghost use Rattle.office_history.specs.declared.arrival.Arrival.{Arrival as AnArrival};
 ghost use Rattle.office_script.specs.Lines.{lines_of};
@@ -20,9 +20,8 @@ use crate::progress::{Progress, RequestLines};
 use crate::report::{Report, bad_line};
 use crate::room::Room;
 use base::Items;
-use canoffice_desks::{Desks, SendFault, reply_to};
 use canoffice_jobs::Sending;
-use desk_send::post_requests;
+use desk_send::{Desks, SendFault, post_requests, reply_to};
 use office_history::Arrival;
 use office_script::{Dash, arrivals_of, first_line, says_nothing};
 use std::alloc::{AllocError, Global};

@@ -8,8 +8,10 @@ pub mod Flat
 pub mod JsonTexts
 pub mod Lists
 pub mod ObjectTexts
+pub mod ReplyRows
 pub mod RequestsBack
 pub mod Rows
 pub mod TargetsBack
 pub mod TextsThere
+pub mod Trying
 pub mod ValuesBack

@@ -6,3 +6,5 @@ pub mod Target
 pub mod Request
 pub mod Answer
 pub mod Writing
+pub mod Desks
+pub mod Replies

@@ -3,7 +3,7 @@ ghost use Rattle.std.specs.Prelude.{IsTrue, ◌∷◌, []};
 ghost use Rattle.std.specs.Result.{result_map_both};
 ghost use Rattle.desk_client.specs.Received.{seen};
 ghost use Rattle.desk_client.specs.Request.{is_target, request_bytes};
-ghost use Rattle.canoffice_desks.specs.Desks.{AreStill, Desks as Known, Takes, TakesNone, turn};
+ghost use Rattle.desk_send.specs.Desks.{AreStill, Desks as Known, Takes, TakesNone, turn};
 
 use desk_client::{AskFault, Received};
 use office_types::LookForm;
@@ -49,7 +49,7 @@ pub trait Desks {
 pub struct NoDesk;
 
 impl Desks for NoDesk {
-    ghost use Rattle.canoffice_desks.specs.Desks.{no_desk};
+    ghost use Rattle.desk_send.specs.Desks.{no_desk};
 
     ghost known = { λ _. no_desk };
 

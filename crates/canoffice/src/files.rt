@@ -8,7 +8,7 @@ use canoffice_cli::Lost;
 use sqlite::{Alter, Connection};
 
 /// What is done on a connection.
-pub trait Work {
+pub(crate) trait Work {
     /// What comes of it.
     type Done;
 
@@ -41,7 +41,7 @@ fn settled<S: Alter + Drop, W: Work>(
 
 /// Opens the database file at the path, does the work, and closes it: what came of the work, and how closing went. The
 /// error is why the file wasn't opened: then nothing was done.
-pub fn on_file<W: Work>(
+pub(crate) fn on_file<W: Work>(
     rt: &HostRuntime,
     path: &str,
     work: &mut W,

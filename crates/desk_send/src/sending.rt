@@ -2,12 +2,12 @@
 ghost use Rattle.std.specs.Prelude.{Ok};
 ghost use Rattle.std.specs.Result.{result_map_both};
 ghost use Rattle.desk_client.specs.Received.{seen, whole};
-ghost use Rattle.canoffice_desks.specs.Desks.{AreStill, TakesNone};
-ghost use Rattle.canoffice_desks.specs.Replies.{HasCome, IsStep, Shows};
+ghost use Rattle.desk_send.specs.Desks.{AreStill, TakesNone};
+ghost use Rattle.desk_send.specs.Replies.{HasCome, IsStep, Shows};
 
+use crate::answer::answer_of;
 use crate::desks::Desks;
 use desk_client::{AskFault, Received, Response};
-use desk_send::answer_of;
 use desk_types::DeskFault;
 use office_history::Answer;
 use std::alloc::{AllocError, Global};

@@ -2,12 +2,12 @@
 use Rattle.std.proofs.Common.{◌≡◌, ◌++◌, ◌∷◌, ℕ, zero, suc, Bool, true, false, List, [], Result, Ok, Err, refl, sym}
 use Rattle.std.proofs.Common.{subst, append_assoc, append-nil}
 use Rattle.office_history.specs.declared.arrival.Answer.{Answer}
-use Rattle.canoffice_desks.specs.Desks.{AreStill, Asked, Desks, Takes, TakesNone, Turn, turn}
-use Rattle.canoffice_desks.specs.Replies.{Comes, EndsWith, GoesOn, HasCome, IsStep, Shows, is_again}
-use Rattle.canoffice_desks.specs.declared.sending.SendFault.{SendFault}
-use Rattle.canoffice_desks.specs.declared.sending.SendFault.TheVariants.{Memory, NoReply}
-use Rattle.canoffice_desks.specs.declared.sending.Step.{Step}
-use Rattle.canoffice_desks.specs.declared.sending.Step.TheVariants as step
+use Rattle.desk_send.specs.Desks.{AreStill, Asked, Desks, Takes, TakesNone, Turn, turn}
+use Rattle.desk_send.specs.Replies.{Comes, EndsWith, GoesOn, HasCome, IsStep, Shows, is_again}
+use Rattle.desk_send.specs.declared.sending.SendFault.{SendFault}
+use Rattle.desk_send.specs.declared.sending.SendFault.TheVariants.{Memory, NoReply}
+use Rattle.desk_send.specs.declared.sending.Step.{Step}
+use Rattle.desk_send.specs.declared.sending.Step.TheVariants as step
 
 pub still_on : (first before after : Desks) → AreStill first before → AreStill before after → AreStill first after
 still_on first before after early late = λ port request came may. early port request came (late port request came may)

@@ -5,11 +5,11 @@ use Rattle.desk_client.specs.declared.fault.AskFault.TheVariants.{Connect, Conne
 use Rattle.desk_send.specs.Answer.{IsAnswer, IsWritten}
 use Rattle.desk_types.specs.declared.fault.DeskFault.TheVariants as desk
 use Rattle.office_history.specs.declared.arrival.Answer.{Answer}
-use Rattle.canoffice_desks.specs.Desks.{Asked, Desks, Takes, Turn, turn}
-use Rattle.canoffice_desks.specs.declared.sending.SendFault.{SendFault}
-use Rattle.canoffice_desks.specs.declared.sending.SendFault.TheVariants.{NoReply, Memory}
-use Rattle.canoffice_desks.specs.declared.sending.Step.{Step}
-use Rattle.canoffice_desks.specs.declared.sending.Step.TheVariants as step
+use Rattle.desk_send.specs.Desks.{Asked, Desks, Takes, Turn, turn}
+use Rattle.desk_send.specs.declared.sending.SendFault.{SendFault}
+use Rattle.desk_send.specs.declared.sending.SendFault.TheVariants.{NoReply, Memory}
+use Rattle.desk_send.specs.declared.sending.Step.{Step}
+use Rattle.desk_send.specs.declared.sending.Step.TheVariants as step
 
 -- Whether the request is sent again: where no connection was made or it failed, where the response is cut, and where
 -- the office couldn't answer, which is status 503. Nobody knows then whether it was carried out.

@@ -16,9 +16,9 @@ use std::rt::Files;
 /// The machine's database files, as SQLite has them. Nothing is known of them, since no contract speaks of the
 /// machine's disk.
 #[derive(Clone, Copy)]
-pub struct HostDatabases<'r> {
+pub(crate) struct HostDatabases<'r> {
     /// The runtime.
-    pub rt: &'r HostRuntime,
+    pub(crate) rt: &'r HostRuntime,
 }
 
 /// Whether there is no file at the path, as far as the machine says, or an empty one. Opening it would make a database.

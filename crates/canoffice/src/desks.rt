@@ -1,6 +1,6 @@
 //! The desks of the machine that the program runs on.
-use canoffice_desks::Desks;
 use desk_client::{AskFault, Received, ask, send};
+use desk_send::Desks;
 use office_types::LookForm;
 use std::alloc::Global;
 use std::thread;
@@ -13,13 +13,13 @@ const PAUSE_SECONDS: u64 = 1;
 /// The desks on the machine's ports, on 127.0.0.1. Nothing is known of them, since no contract speaks of what a socket
 /// gives.
 #[derive(Clone, Copy)]
-pub struct HostDesks<'r> {
+pub(crate) struct HostDesks<'r> {
     /// The runtime.
-    pub rt: &'r HostRuntime,
+    pub(crate) rt: &'r HostRuntime,
 }
 
 impl Desks for HostDesks<'_> {
-    ghost use Rattle.canoffice_desks.specs.Desks.{unknown_desks};
+    ghost use Rattle.desk_send.specs.Desks.{unknown_desks};
 
     ghost known = { λ _. unknown_desks };
 

@@ -9,9 +9,9 @@ use Rattle.desk_types.specs.declared.fault.DeskFault.TheVariants.{Memory, Read, 
 use Rattle.office_history.specs.declared.arrival.Answer.TheVariants.{Reply, KeyReused}
 use Rattle.office_types.specs.declared.refusal.Refusal.TheVariants as no
 use Rattle.office_types.specs.declared.reply.Reply.TheVariants as reply
-use Rattle.canoffice_desks.specs.Desks.{no_desk, turn, unknown_desks}
-use Rattle.canoffice_desks.specs.Replies.{Comes, IsReply, is_again}
-use Rattle.canoffice_desks.specs.declared.sending.SendFault.TheVariants.{NoReply}
+use Rattle.desk_send.specs.Desks.{no_desk, turn, unknown_desks}
+use Rattle.desk_send.specs.Replies.{Comes, IsReply, is_again}
+use Rattle.desk_send.specs.declared.sending.SendFault.TheVariants.{NoReply}
 
 sent_again : map is_again (Err Connect ∷ Err (Connection Write) ∷ Err (Connection Read) ∷ Ok cut
     ∷ Ok (whole (Other 503) []) ∷ []) ≡ true ∷ true ∷ true ∷ true ∷ true ∷ []

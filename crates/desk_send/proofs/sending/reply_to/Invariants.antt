@@ -1,7 +1,7 @@
 use Rattle.std.proofs.Common.{◌≤◌}
-use Rattle.canoffice_desks.specs.Desks.{AreStill}
-use Rattle.canoffice_desks.proofs.Trying.{SoFar}
-use Rattle.canoffice_desks.proofs.sending.reply_to.Given as goal
+use Rattle.desk_send.specs.Desks.{AreStill}
+use Rattle.desk_send.proofs.Trying.{SoFar}
+use Rattle.desk_send.proofs.sending.reply_to.Given as goal
 
 -- what comes in the tries that are left comes in all of them, after the turns so far
 abbrev pub invariant-loop-left : goal.invariant-loop-left

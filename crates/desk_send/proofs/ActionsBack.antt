@@ -18,20 +18,19 @@ use Rattle.office_types.specs.declared.command.Pdu.{Pdu}
 use Rattle.office_types.specs.declared.command.Pdu.TheVariants as pdu
 use Rattle.office_types.specs.declared.command.Task.TheVariants as task
 use Rattle.office_fields.specs.Given.{NamedValue}
-use Rattle.office_fields.specs.Kind.{action_fields, action_of, addressed_to, fields_of, range_of}
+use Rattle.office_fields.specs.Kind.{action_fields, action_of, addressed_to, fields_of, kind_of, range_of}
 use Rattle.office_fields.specs.Requested.{command_of, part_of}
 use Rattle.office_fields.specs.declared.field.Field.TheVariants as field
 use Rattle.office_fields.specs.declared.kind.CommandKind.TheVariants.{Act}
 use Rattle.desk_send.specs.Texts.{addressing_of}
-use Rattle.desk_send.specs.Fields.{ActionsComeBack, all_named, destination_of, entries_of, filled, kind_of, mark_of}
+use Rattle.desk_send.specs.Fields.{ActionsComeBack, all_named, destination_of, entries_of, filled, mark_of}
 use Rattle.desk_send.proofs.Entries.{AreEntries, AreGiven, all_given, all_known, are_apart, are_fields}
 
 -- ---- what a reader makes of the fields
 
 mux_back : (mux : Mux) → unwrap_or (mark_of mux) Always ≡ mux
 mux_back Always = refl
-mux_back Multiplexor = refl
-mux_back (Under n) = refl
+mux_back it = refl
 
 pdu_back : (p : Pdu) → addressed_to (addressing_of p) (destination_of p) ≡ Some p
 pdu_back (pdu.Addressed destination) = refl
@@ -84,10 +83,7 @@ given_back (act.TakeBits c) is values h =
 given_back (act.SetValues c) is values h = rw (h.0, h.1.0, h.1.1.0) refl
 given_back (act.RemoveSignal path) is values h = rw (h.0, h.1.0) refl
 given_back (act.Retire name) is values h = rw h.0 refl
-given_back act.Submit is values h = refl
-given_back act.Approve is values h = refl
-given_back act.Reject is values h = refl
-given_back act.Release is values h = refl
+given_back a is values h = refl
 
 -- ---- each value is one that its field may have
 
@@ -102,9 +98,7 @@ is_destination pdu.Broadcast is = tt
 
 greatest_is : (form : BlockForm) → greatest_of form ≤ 536870911
 greatest_is block.Std = omega arith
-greatest_is block.Ext = omega arith
-greatest_is block.Pgn = omega arith
-greatest_is block.Spn = omega arith
+greatest_is b = omega arith
 
 greatest_small : (r : Range) → IsRange r → (r.first < 2 ^ 32) × (r.last < 2 ^ 32)
 greatest_small r is = (
@@ -145,61 +139,22 @@ are_entries (act.TakeBits c) is = (
 are_entries (act.SetValues c) is = (is.0.message, (is.0.signal, (is.1, tt)))
 are_entries (act.RemoveSignal path) is = (is.message, (is.signal, tt))
 are_entries (act.Retire name) is = (is, tt)
-are_entries act.Submit is = tt
-are_entries act.Approve is = tt
-are_entries act.Reject is = tt
-are_entries act.Release is = tt
+are_entries a is = tt
 
 -- ---- the names are apart, and those of the command's fields
 
 pub names_apart : (a : Action) (net : List ℕ) → are_apart (filled field.Net net ∷ entries_of a) ≡ true
 names_apart (act.OpenNet c) net = refl
-names_apart (act.Grant c) net = refl
-names_apart (act.AddNode name) net = refl
-names_apart (act.TakeIdent c) net = refl
-names_apart (act.TakePgn c) net = refl
-names_apart (act.TakeSpn c) net = refl
-names_apart (act.TakeBits c) net = refl
-names_apart (act.SetValues c) net = refl
-names_apart (act.RemoveSignal path) net = refl
-names_apart (act.Retire name) net = refl
-names_apart act.Submit net = refl
-names_apart act.Approve net = refl
-names_apart act.Reject net = refl
-names_apart act.Release net = refl
+names_apart a net = refl
 
 pub are_known_fields : (a : Action) (net : List ℕ)
     → are_fields (fields_of (Act (kind_of a))) (filled field.Net net ∷ entries_of a) ≡ true
 are_known_fields (act.OpenNet c) net = refl
-are_known_fields (act.Grant c) net = refl
-are_known_fields (act.AddNode name) net = refl
-are_known_fields (act.TakeIdent c) net = refl
-are_known_fields (act.TakePgn c) net = refl
-are_known_fields (act.TakeSpn c) net = refl
-are_known_fields (act.TakeBits c) net = refl
-are_known_fields (act.SetValues c) net = refl
-are_known_fields (act.RemoveSignal path) net = refl
-are_known_fields (act.Retire name) net = refl
-are_known_fields act.Submit net = refl
-are_known_fields act.Approve net = refl
-are_known_fields act.Reject net = refl
-are_known_fields act.Release net = refl
+are_known_fields a net = refl
 
 are_part_fields : (a : Action) → are_fields (action_fields (kind_of a)) (entries_of a) ≡ true
 are_part_fields (act.OpenNet c) = refl
-are_part_fields (act.Grant c) = refl
-are_part_fields (act.AddNode name) = refl
-are_part_fields (act.TakeIdent c) = refl
-are_part_fields (act.TakePgn c) = refl
-are_part_fields (act.TakeSpn c) = refl
-are_part_fields (act.TakeBits c) = refl
-are_part_fields (act.SetValues c) = refl
-are_part_fields (act.RemoveSignal path) = refl
-are_part_fields (act.Retire name) = refl
-are_part_fields act.Submit = refl
-are_part_fields act.Approve = refl
-are_part_fields act.Reject = refl
-are_part_fields act.Release = refl
+are_part_fields a = refl
 
 -- ---- the whole command, and a part of a bundle
 

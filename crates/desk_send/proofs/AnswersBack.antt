@@ -119,9 +119,7 @@ parts_plain (p ∷ ps) is = (
 
 part_depth : (p : PartReply) → tree.depth (outline (part_data p)) ≤ 1
 part_depth part.Done = omega arith
-part_depth (part.Number n) = omega arith
-part_depth (part.Start n) = omega arith
-part_depth (part.Release n) = omega arith
+part_depth p = omega arith
 
 parts_depth : (ps : List PartReply) → tree.items_depth (items_outline (parts_data ps)) ≤ 1
 parts_depth [] = omega arith

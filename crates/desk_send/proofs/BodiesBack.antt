@@ -24,7 +24,7 @@ use Rattle.office_types.specs.declared.command.Action.TheVariants as act
 use Rattle.office_types.specs.declared.command.Task.TheVariants as task
 use Rattle.office_fields.specs.Field.{row_of}
 use Rattle.office_fields.specs.Given.{NamedValue, Readings}
-use Rattle.office_fields.specs.Kind.{action_fields, action_of_word, action_word, fields_of}
+use Rattle.office_fields.specs.Kind.{action_fields, action_of_word, action_word, fields_of, kind_of}
 use Rattle.office_fields.specs.Requested.{are_parts}
 use Rattle.office_fields.specs.Value.{Value}
 use Rattle.office_fields.specs.declared.field.Field.{Field}
@@ -38,7 +38,7 @@ use Rattle.desk_call.specs.Body.{bytes_of, command_in, each_given, given_as, giv
 use Rattle.desk_call.specs.Body.{json_in, json_name, named}
 use Rattle.desk_call.specs.Bundle.{bundle_in, has_just_part, is_part_name, part_in, parts_of_items}
 use Rattle.desk_head.proofs.Parameters.{Lacks}
-use Rattle.desk_send.specs.Fields.{Entry, all_named, entries_of, filled, kind_of, named_of, texts_as}
+use Rattle.desk_send.specs.Fields.{Entry, all_named, entries_of, filled, named_of, texts_as}
 use Rattle.desk_send.specs.Json.{data_of, items_by, part_data, whole_data, with_as, with_entries, with_entry, with_list}
 use Rattle.desk_send.specs.Texts.{IsValue, text_of}
 use Rattle.desk_send.proofs.ActionsBack.{are_entries, command_back, part_back}
@@ -235,32 +235,7 @@ record IsTabled (a : Action) (net : List ℕ) : Type 0 where
 is_tabled : (a : Action) (net : List ℕ) → IsTabled a net
 is_tabled (act.OpenNet c) net =
     record { fields = refl; apart = refl; known = refl; part = refl; other = refl; word = refl }
-is_tabled (act.Grant c) net =
-    record { fields = refl; apart = refl; known = refl; part = refl; other = refl; word = refl }
-is_tabled (act.AddNode name) net =
-    record { fields = refl; apart = refl; known = refl; part = refl; other = refl; word = refl }
-is_tabled (act.TakeIdent c) net =
-    record { fields = refl; apart = refl; known = refl; part = refl; other = refl; word = refl }
-is_tabled (act.TakePgn c) net =
-    record { fields = refl; apart = refl; known = refl; part = refl; other = refl; word = refl }
-is_tabled (act.TakeSpn c) net =
-    record { fields = refl; apart = refl; known = refl; part = refl; other = refl; word = refl }
-is_tabled (act.TakeBits c) net =
-    record { fields = refl; apart = refl; known = refl; part = refl; other = refl; word = refl }
-is_tabled (act.SetValues c) net =
-    record { fields = refl; apart = refl; known = refl; part = refl; other = refl; word = refl }
-is_tabled (act.RemoveSignal path) net =
-    record { fields = refl; apart = refl; known = refl; part = refl; other = refl; word = refl }
-is_tabled (act.Retire name) net =
-    record { fields = refl; apart = refl; known = refl; part = refl; other = refl; word = refl }
-is_tabled act.Submit net =
-    record { fields = refl; apart = refl; known = refl; part = refl; other = refl; word = refl }
-is_tabled act.Approve net =
-    record { fields = refl; apart = refl; known = refl; part = refl; other = refl; word = refl }
-is_tabled act.Reject net =
-    record { fields = refl; apart = refl; known = refl; part = refl; other = refl; word = refl }
-is_tabled act.Release net =
-    record { fields = refl; apart = refl; known = refl; part = refl; other = refl; word = refl }
+is_tabled a net = record { fields = refl; apart = refl; known = refl; part = refl; other = refl; word = refl }
 
 given_of : (fs gs : List Field) (d : Data) (values : List NamedValue) → fs ≡ gs → given_in fs d ≡ Some values
     → given_in gs d ≡ Some values

@@ -10,12 +10,12 @@ use Rattle.decimal.specs.Printing as printed
 use Rattle.dbc_sheet.specs.declared.value_texts.ValueText.{ValueText}
 use Rattle.office_types.specs.declared.command.Action.{Action}
 use Rattle.office_fields.specs.Field.{row_of}
-use Rattle.office_fields.specs.Kind.{action_word}
+use Rattle.office_fields.specs.Kind.{action_word, kind_of}
 use Rattle.office_fields.specs.Value.{Value, where_true}
 use Rattle.office_fields.specs.declared.field.FieldKind.{FieldKind}
 use Rattle.office_fields.specs.declared.field.FieldKind.TheVariants as kind
 use Rattle.desk_call.specs.Body.{json_name}
-use Rattle.desk_send.specs.Fields.{Entry, entries_of, kind_of}
+use Rattle.desk_send.specs.Fields.{Entry, entries_of}
 use Rattle.desk_send.specs.Json.{data_of, items_by, pair_data, part_data, text_data, whole_data, with_entries}
 use Rattle.desk_send.specs.Json.{with_entry, with_list}
 use Rattle.desk_send.specs.Texts.{text_of}

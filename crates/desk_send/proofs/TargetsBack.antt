@@ -13,7 +13,7 @@ use Rattle.office_types.specs.PlainName.{IsPlainName}
 use Rattle.office_types.specs.declared.command.Task.{Task}
 use Rattle.office_types.specs.declared.command.Task.TheVariants.{Act, Import, Bundle}
 use Rattle.office_history.specs.Key.{is_key_byte}
-use Rattle.office_fields.specs.Kind.{action_word, kind_of_word}
+use Rattle.office_fields.specs.Kind.{action_word, kind_of, kind_of_word}
 use Rattle.office_fields.specs.declared.kind.ActionKind.{ActionKind}
 use Rattle.office_fields.specs.declared.kind.ActionKind.TheVariants as kind
 use Rattle.office_fields.specs.declared.kind.CommandKind.TheVariants as command
@@ -25,7 +25,6 @@ use Rattle.desk_head.proofs.Matching.{Finds, all_end, all_parameters, at_part, p
 use Rattle.desk_head.proofs.Parameters.{first_alone}
 use Rattle.desk_head.proofs.TargetParts.{IsPart, all_weaker, is_part_byte, plain_part}
 use Rattle.desk_call.specs.Call.{net_in}
-use Rattle.desk_send.specs.Fields.{kind_of}
 use Rattle.desk_send.specs.Target.{PostsLeadThere, posting_of, task_target}
 
 abbrev value_of : RouteOf Route → Route
@@ -69,35 +68,11 @@ a_part word some short seen = record { some = some; short = short; seen = seen }
 
 word_part : (k : ActionKind) → IsPart (action_word k)
 word_part kind.OpenNet = a_part (codes "open_net") (omega arith) (omega arith) refl
-word_part kind.Grant = a_part (codes "grant") (omega arith) (omega arith) refl
-word_part kind.AddNode = a_part (codes "add_node") (omega arith) (omega arith) refl
-word_part kind.TakeIdent = a_part (codes "take_ident") (omega arith) (omega arith) refl
-word_part kind.TakePgn = a_part (codes "take_pgn") (omega arith) (omega arith) refl
-word_part kind.TakeSpn = a_part (codes "take_spn") (omega arith) (omega arith) refl
-word_part kind.TakeBits = a_part (codes "take_bits") (omega arith) (omega arith) refl
-word_part kind.SetValues = a_part (codes "set_values") (omega arith) (omega arith) refl
-word_part kind.RemoveSignal = a_part (codes "remove_signal") (omega arith) (omega arith) refl
-word_part kind.Retire = a_part (codes "retire") (omega arith) (omega arith) refl
-word_part kind.Submit = a_part (codes "submit") (omega arith) (omega arith) refl
-word_part kind.Approve = a_part (codes "approve") (omega arith) (omega arith) refl
-word_part kind.Reject = a_part (codes "reject") (omega arith) (omega arith) refl
-word_part kind.Release = a_part (codes "release") (omega arith) (omega arith) refl
+word_part k = a_part (action_word k) (omega arith) (omega arith) refl
 
 named_kind : (k : ActionKind) → kind_of_word (action_word k) ≡ Some (command.Act k)
 named_kind kind.OpenNet = refl
-named_kind kind.Grant = refl
-named_kind kind.AddNode = refl
-named_kind kind.TakeIdent = refl
-named_kind kind.TakePgn = refl
-named_kind kind.TakeSpn = refl
-named_kind kind.TakeBits = refl
-named_kind kind.SetValues = refl
-named_kind kind.RemoveSignal = refl
-named_kind kind.Retire = refl
-named_kind kind.Submit = refl
-named_kind kind.Approve = refl
-named_kind kind.Reject = refl
-named_kind kind.Release = refl
+named_kind k = refl
 
 do_word : IsPart (codes "do")
 do_word = a_part (codes "do") (omega arith) (omega arith) refl

@@ -28,7 +28,7 @@ use Rattle.office_types.specs.declared.command.Task.{Task}
 use Rattle.office_types.specs.declared.command.Task.TheVariants.{Act, Import, Bundle}
 use Rattle.office_fields.specs.Field.{row_of}
 use Rattle.office_fields.specs.Given.{Readings}
-use Rattle.office_fields.specs.Kind.{action_word}
+use Rattle.office_fields.specs.Kind.{action_word, kind_of}
 use Rattle.office_fields.specs.Value.{Value, where_true, ◌>>=◌}
 use Rattle.office_fields.specs.declared.field.Field.TheVariants as field
 use Rattle.office_fields.specs.declared.field.FieldKind.{FieldKind}
@@ -41,7 +41,7 @@ use Rattle.desk_call.specs.Body.{json_name}
 use Rattle.office_history.specs.Key.{is_key_byte}
 use Rattle.desk_head.proofs.TargetParts.{IsPart, name_part, plain_part}
 use Rattle.desk_send.specs.Body.{is_text_action, is_text_task, task_body}
-use Rattle.desk_send.specs.Fields.{Entry, destination_of, entries_of, filled, kind_of, mark_of}
+use Rattle.desk_send.specs.Fields.{Entry, destination_of, entries_of, filled, mark_of}
 use Rattle.desk_send.specs.Json.{action_data, bundle_data, data_of, items_by, pair_data, part_data, text_data, with_as}
 use Rattle.desk_send.specs.Json.{with_entries, with_entry, with_list}
 use Rattle.office_types.specs.declared.command.Pdu.{Pdu}
@@ -148,17 +148,10 @@ value_some kind.IdentForm v is = text_some (text_of kind.IdentForm v) (ident_for
 value_some kind.BlockForm v is = text_some (text_of kind.BlockForm v) (block_form_utf8 v)
 value_some kind.Addressing v is = text_some (addressing_word v) (addressing_utf8 v is.0 is.1)
 value_some kind.ByteOrder v is = text_some (text_of kind.ByteOrder v) (order_utf8 v)
-value_some kind.Truth v is = refl
 value_some kind.Mark v is = text_some (indicator_of v) (mark_utf8 v is.0)
-value_some kind.Number v is = refl
-value_some kind.Reviews v is = refl
-value_some kind.Length v is = refl
-value_some kind.Priority v is = refl
-value_some kind.Address v is = refl
-value_some kind.Size v is = refl
-value_some kind.Start v is = refl
 value_some kind.Decimal v is = text_some (printed.text_of v) (decimal_utf8 v is)
 value_some kind.ValueText v is = pair_some v is
+value_some k v is = refl
 
 -- ---- fields
 
@@ -218,21 +211,13 @@ and_true true = refl
 and_true false = refl
 
 action_held : (a : Action) → list_all is_held_entry (entries_of a) ≡ is_text_action a
-action_held (act.OpenNet c) = refl
-action_held (act.Grant c) = refl
-action_held (act.AddNode name) = refl
 action_held (act.TakeIdent c) = rw (any_option c.message.node, any_option c.want) refl
 action_held (act.TakePgn c) = rw (any_option c.message.node, any_option (destination_of c.pdu)) refl
 action_held (act.TakeSpn c) = rw (any_option c.same) refl
 action_held (act.TakeBits c) =
     rw (any_option (mark_of c.mux), any_list c.receivers, any_option c.start) (and_true (is_utf8 c.unit))
 action_held (act.SetValues c) = and_true (list_all (λ v. is_utf8 v.text) c.values)
-action_held (act.RemoveSignal path) = refl
-action_held (act.Retire name) = refl
-action_held act.Submit = refl
-action_held act.Approve = refl
-action_held act.Reject = refl
-action_held act.Release = refl
+action_held a = refl
 
 action_some : (net : List ℕ) (a : Action) → IsPlainName net → IsAction a
     → is_some (action_data net a) ≡ is_text_action a

@@ -50,9 +50,7 @@ ident_form_back ident.Extended = refl
 
 block_form_back : (v : BlockForm) → value_from kind.BlockForm (text_of kind.BlockForm v) ≡ Some v
 block_form_back block.Std = refl
-block_form_back block.Ext = refl
-block_form_back block.Pgn = refl
-block_form_back block.Spn = refl
+block_form_back b = refl
 
 pdu_back : (p : Pdu) → value_from kind.Addressing (addressing_word (addressing_of p)) ≡ Some (addressing_of p)
 pdu_back (pdu.Addressed destination) = refl
@@ -100,11 +98,7 @@ value_text_back v is =
 -- ---- all kinds
 
 pub values_come_back : ValuesComeBack
-values_come_back kind.NetName v is = rw is refl
-values_come_back kind.Team v is = rw is refl
-values_come_back kind.Name v is = rw is refl
 values_come_back kind.Text v is = rw (text_test v is) refl
-values_come_back kind.Path v is = rw is refl
 values_come_back kind.NetKind v is = net_kind_back v
 values_come_back kind.IdentForm v is = ident_form_back v
 values_come_back kind.BlockForm v is = block_form_back v
@@ -121,3 +115,4 @@ values_come_back kind.Size v is = size_back v is
 values_come_back kind.Start v is = up_to v 65535 (omega (arith, is)) (omega arith)
 values_come_back kind.Decimal v is = decimal_back v is
 values_come_back kind.ValueText v is = value_text_back v is
+values_come_back k v is = rw is refl

@@ -9,9 +9,9 @@ use Rattle.office_types.specs.declared.command.Action.TheVariants as act
 use Rattle.office_types.specs.declared.command.Command.{Command}
 use Rattle.office_types.specs.declared.command.Task.{Task}
 use Rattle.office_types.specs.declared.command.Task.TheVariants.{Act, Import, Bundle}
+use Rattle.office_fields.specs.Kind.{kind_of}
 use Rattle.desk_call.specs.Body.{command_in}
 use Rattle.desk_call.specs.Bundle.{bundle_in}
-use Rattle.desk_send.specs.Fields.{kind_of}
 use Rattle.desk_send.specs.Json.{action_data, bundle_data}
 
 abbrev pub task_body : List ℕ → Task → Option (List ℕ)

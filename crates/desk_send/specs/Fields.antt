@@ -10,32 +10,14 @@ use Rattle.office_types.specs.declared.command.Pdu.{Pdu}
 use Rattle.office_types.specs.declared.command.Pdu.TheVariants as pdu
 use Rattle.office_fields.specs.Field.{row_of}
 use Rattle.office_fields.specs.Given.{NamedValue, Readings}
-use Rattle.office_fields.specs.Kind.{action_of}
+use Rattle.office_fields.specs.Kind.{action_of, kind_of}
 use Rattle.office_fields.specs.Value.{Value}
 use Rattle.office_fields.specs.declared.field.Field.{Field}
 use Rattle.office_fields.specs.declared.field.Field.TheVariants as field
 use Rattle.office_fields.specs.declared.field.Occurrence.{Occurrence}
 use Rattle.office_fields.specs.declared.field.Occurrence.TheVariants.{Required, Optional, Repeated}
-use Rattle.office_fields.specs.declared.kind.ActionKind.{ActionKind}
-use Rattle.office_fields.specs.declared.kind.ActionKind.TheVariants as kind
 use Rattle.desk_call.specs.Body.{named}
 use Rattle.desk_send.specs.Texts.{addressing_of, text_of}
-
-abbrev pub kind_of : Action → ActionKind
-kind_of (act.OpenNet c) = kind.OpenNet
-kind_of (act.Grant c) = kind.Grant
-kind_of (act.AddNode name) = kind.AddNode
-kind_of (act.TakeIdent c) = kind.TakeIdent
-kind_of (act.TakePgn c) = kind.TakePgn
-kind_of (act.TakeSpn c) = kind.TakeSpn
-kind_of (act.TakeBits c) = kind.TakeBits
-kind_of (act.SetValues c) = kind.SetValues
-kind_of (act.RemoveSignal path) = kind.RemoveSignal
-kind_of (act.Retire name) = kind.Retire
-kind_of act.Submit = kind.Submit
-kind_of act.Approve = kind.Approve
-kind_of act.Reject = kind.Reject
-kind_of act.Release = kind.Release
 
 -- ---- fields with their values
 
@@ -83,10 +65,7 @@ entries_of (act.SetValues c) =
     filled field.Message c.path.message ∷ filled field.Signal c.path.signal ∷ filled field.Value c.values ∷ []
 entries_of (act.RemoveSignal path) = filled field.Message path.message ∷ filled field.Signal path.signal ∷ []
 entries_of (act.Retire name) = filled field.Message name ∷ []
-entries_of act.Submit = []
-entries_of act.Approve = []
-entries_of act.Reject = []
-entries_of act.Release = []
+entries_of a = []
 
 -- ---- as named values
 

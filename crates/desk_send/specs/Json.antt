@@ -10,7 +10,7 @@ use Rattle.dbc_sheet.specs.declared.value_texts.ValueText.{ValueText}
 use Rattle.office_types.specs.declared.command.Action.{Action}
 use Rattle.office_fields.specs.Field.{row_of}
 use Rattle.office_fields.specs.Given.{Readings}
-use Rattle.office_fields.specs.Kind.{action_word}
+use Rattle.office_fields.specs.Kind.{action_word, kind_of}
 use Rattle.office_fields.specs.Value.{Value, ◌>>=◌, where_true}
 use Rattle.office_fields.specs.declared.field.Field.TheVariants as field
 use Rattle.office_fields.specs.declared.field.FieldKind.{FieldKind}
@@ -18,7 +18,7 @@ use Rattle.office_fields.specs.declared.field.FieldKind.TheVariants as kind
 use Rattle.office_fields.specs.declared.field.Occurrence.{Occurrence}
 use Rattle.office_fields.specs.declared.field.Occurrence.TheVariants.{Required, Optional, Repeated}
 use Rattle.desk_call.specs.Body.{json_name}
-use Rattle.desk_send.specs.Fields.{Entry, entries_of, filled, kind_of}
+use Rattle.desk_send.specs.Fields.{Entry, entries_of, filled}
 use Rattle.desk_send.specs.Texts.{text_of}
 
 -- ---- values

@@ -4,12 +4,11 @@ use Rattle.office_types.specs.PlainName.{IsPlainName}
 use Rattle.office_types.specs.declared.command.Command.{Command}
 use Rattle.office_types.specs.declared.command.Task.{Task}
 use Rattle.office_types.specs.declared.command.Task.TheVariants.{Act, Import, Bundle}
-use Rattle.office_fields.specs.Kind.{action_word}
+use Rattle.office_fields.specs.Kind.{action_word, kind_of}
 use Rattle.desk_head.specs.Target.{endpoint_of}
 use Rattle.desk_head.specs.declared.endpoint.Endpoint.TheVariants.{Does}
 use Rattle.desk_head.specs.declared.endpoint.Posting.{Posting}
 use Rattle.desk_head.specs.declared.endpoint.Posting.TheVariants as posting
-use Rattle.desk_send.specs.Fields.{kind_of}
 
 -- the name of the network, unless the body has it
 abbrev pub task_target : List ℕ → Task → List ℕ

@@ -13,8 +13,7 @@ ghost use Rattle.desk_send.specs.Writing.{Writes};
 use crate::actions::put_action;
 use crate::members::{Members, put_text};
 use crate::unwritten::Unwritten;
-use crate::words::kind_of;
-use office_fields::Field;
+use office_fields::{ActionKind, Field};
 use office_types::{Action, NetName};
 use serde_json::{Map, Value, put};
 use std::alloc::{AllocError, Global};
@@ -39,7 +38,7 @@ fn part_value(alloc: Global, action: &Action) -> Result<Value, Unwritten>
     ensures { Writes view (part_data action.now) result }
 {
     let mut members = Map::new(alloc);
-    let word = Value::try_from_str(alloc, kind_of(action).word())?;
+    let word = Value::try_from_str(alloc, ActionKind::of(action).word())?;
     put(&mut members, alloc, "command", word)?;
     put_action(alloc, &mut members, action)?;
     Ok(Value::Object(members))

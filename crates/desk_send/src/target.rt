@@ -2,7 +2,7 @@
 ghost use Rattle.std.specs.Prelude.{◌≡◌, ◌++◌, IfOk};
 ghost use Rattle.desk_send.specs.Target.{target_of, task_target};
 
-use crate::words::kind_of;
+use office_fields::ActionKind;
 use office_types::{Command, Task};
 use std::alloc::{AllocError, Global};
 
@@ -18,7 +18,7 @@ fn task_target(alloc: Global, net: &[u8], task: &Task) -> Result<Vec<u8>, AllocE
     ensures { IfOk result (λ target. target.items ≡ task_target net.now task.now) }
 {
     match task {
-        Task::Act(action) => joined(alloc, b"/do/", kind_of(action).word().as_bytes()),
+        Task::Act(action) => joined(alloc, b"/do/", ActionKind::of(action).word().as_bytes()),
         Task::Import(_) => joined(alloc, b"/import/", net),
         Task::Bundle(_) => joined(alloc, b"/bundle/", net),
     }

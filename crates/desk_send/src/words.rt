@@ -1,14 +1,13 @@
-//! Values that are one word of a few, and the kind of an action.
+//! Values that are one word of a few.
 ghost use Rattle.std.specs.Prelude.{◌≡◌};
 ghost use Rattle.desk_call.specs.Body.{json_name};
-ghost use Rattle.desk_send.specs.Fields.{kind_of};
 ghost use Rattle.desk_send.specs.Texts.{addressing_of, addressing_word, block_form_word, ident_form_word};
 ghost use Rattle.desk_send.specs.Texts.{net_kind_word, order_word};
 
 use bitlayout::Order;
 use can_id::IdentForm;
-use office_fields::{ActionKind, Field};
-use office_types::{Action, BlockForm, NetKind, Pdu};
+use office_fields::Field;
+use office_types::{BlockForm, NetKind, Pdu};
 
 /// The name of a field's member.
 pub(crate) fn json_name(field: Field) -> &'static str
@@ -65,27 +64,5 @@ pub(crate) fn order_word(order: Order) -> &'static str
     match order {
         Order::Intel => "intel",
         Order::Motorola => "motorola",
-    }
-}
-
-/// The kind of the action.
-pub(crate) fn kind_of(action: &Action) -> ActionKind
-    ensures { result ≡ kind_of action.now }
-{
-    match action {
-        Action::OpenNet(_) => ActionKind::OpenNet,
-        Action::Grant(_) => ActionKind::Grant,
-        Action::AddNode(_) => ActionKind::AddNode,
-        Action::TakeIdent(_) => ActionKind::TakeIdent,
-        Action::TakePgn(_) => ActionKind::TakePgn,
-        Action::TakeSpn(_) => ActionKind::TakeSpn,
-        Action::TakeBits(_) => ActionKind::TakeBits,
-        Action::SetValues(_) => ActionKind::SetValues,
-        Action::RemoveSignal(_) => ActionKind::RemoveSignal,
-        Action::Retire(_) => ActionKind::Retire,
-        Action::Submit => ActionKind::Submit,
-        Action::Approve => ActionKind::Approve,
-        Action::Reject => ActionKind::Reject,
-        Action::Release => ActionKind::Release,
     }
 }

@@ -3,38 +3,17 @@ ghost use Rattle.std.specs.Prelude.{◌≡◌, IfOk, IfSome, None, Some, string_
 ghost use Rattle.office_types.specs.declared.book.SpnBook.{SpnBook as Book};
 ghost use Rattle.office_rules.specs.Change.{Decides};
 ghost use Rattle.office_rules.specs.Commands.{acted};
-ghost use Rattle.office_reasons.specs.Bundles.{action_word, refused_text};
+ghost use Rattle.office_reasons.specs.Bundles.{refused_text};
 
 use crate::actions::action_reason;
 use crate::plain::plain_meaning;
 use crate::seen::Seen;
 use office_decide::{Draft, change_all, decide_by, draft_of, walk};
 use office_facts::scope_of;
+use office_fields::ActionKind;
 use office_net::decide_open_net;
 use office_types::{Action, Decision, FileFault, Net, NetName, Parts, Refusal, SpnBook, Team};
 use std::alloc::{AllocError, Global};
-
-/// The word of the command.
-fn action_word(action: &Action) -> &'static str
-    ensures { result.now ≡ action_word action.now }
-{
-    match action {
-        Action::OpenNet(_) => "open_net",
-        Action::Grant(_) => "grant",
-        Action::AddNode(_) => "add_node",
-        Action::TakeIdent(_) => "take_ident",
-        Action::TakePgn(_) => "take_pgn",
-        Action::TakeSpn(_) => "take_spn",
-        Action::TakeBits(_) => "take_bits",
-        Action::SetValues(_) => "set_values",
-        Action::RemoveSignal(_) => "remove_signal",
-        Action::Retire(_) => "retire",
-        Action::Submit => "submit",
-        Action::Approve => "approve",
-        Action::Reject => "reject",
-        Action::Release => "release",
-    }
-}
 
 /// What is decided on the command on this network.
 fn decided_on(
@@ -132,7 +111,7 @@ fn refused_text(
     ensures { IfOk result (λ text. string_bytes text
         ≡ refused_text number part.now refusal reason.now) }
 {
-    let word = action_word(part);
+    let word = ActionKind::of(part).word();
     let code = refusal.number();
     let name = refusal.name();
     format!(in alloc; "command {number}, {word}, is refused {code} {name}: {reason}")

@@ -79,13 +79,9 @@ module _ (team name : List ℕ) (book : SpnBook) where
 
 -- an action is answered as a part can be
 part_is_single : (r : Reply) → whole_reply (part_reply r) ≡ r → CanAnswerSingle (answer.Reply r)
-part_is_single reply.Done is = tt
-part_is_single (reply.Number n) is = tt
-part_is_single (reply.Start n) is = tt
-part_is_single (reply.Counts new same) is = tt
-part_is_single (reply.Release n) is = tt
 part_is_single (reply.Refused why) is = cc
 part_is_single (reply.Bundle ps) is = cc
+part_is_single r is = tt
 
 single_reply : (ts : List (Test Refusal)) (out : Outcome) → AreSingle ts → IsDecidedBy (first_refusal ts) out
     → Leaves (λ r n e. CanAnswerSingle (answer.Reply r)) out → CanAnswerSingle (answer.Reply (reply_of out))

@@ -64,7 +64,4 @@ pub of_stated : (files : Files) (t : FileTask) (name bytes stated : List ℕ)
     → IsStated files t name bytes stated → (answers : List Answer) → IsExplanation files t name bytes answers stated
 of_stated files (task.Apply database manner) name bytes stated is answers =
     (stated, is, no_reasons name bytes stated answers)
-of_stated files (task.Check lint json) name bytes stated is answers = is
-of_stated files (task.Format keep) name bytes stated is answers = is
-of_stated files (task.Page path) name bytes stated is answers = is
-of_stated files (task.Table json) name bytes stated is answers = is
+of_stated files t name bytes stated is answers = is

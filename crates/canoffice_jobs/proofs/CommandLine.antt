@@ -85,12 +85,8 @@ line_fault_of words kind (Usage text) (inr among) is = inl (kind, is.0, is.1, am
 line_fault_of words kind Memory has is = tt
 
 abbrev pub is_memory : ValueFault → Bool
-is_memory (value.WrongNumber number word) = false
-is_memory (value.WrongPlace command fault) = false
-is_memory (value.WrongWhat fault) = false
-is_memory (value.UnknownRemark word) = false
-is_memory value.InputTwice = false
 is_memory value.Memory = true
+is_memory v = false
 
 -- a fault of the values of the subcommand that was entered is one that the words have
 pub value_fault_of : (words : List Text) (found : ValueFault) (fault : JobFault) → HasValueFault words found

@@ -176,10 +176,7 @@ module _ (c : List Rule) (again : Bool) where
   used_as_fills action.Append a how raw rows of read fills e h =
       with_values_fills c a.id how CommandLine raw rows read (fills e) h
   used_as_fills action.Count a how raw rows of read fills e h = counted_fills c a how raw rows of read e h
-  used_as_fills action.Help a how raw rows of read fills e h = h
-  used_as_fills action.HelpShort a how raw rows of read fills e h = h
-  used_as_fills action.HelpLong a how raw rows of read fills e h = h
-  used_as_fills action.Version a how raw rows of read fills e h = h
+  used_as_fills it a how raw rows of read fills e h = h
 
   used_fills : (a : Rule) (values : List Text) (rows : List Row) → Among a c → use_fault again a values rows ≡ []
       → RowsFill c rows → RowsFill c (used a values rows)

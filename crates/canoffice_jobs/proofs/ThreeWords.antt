@@ -11,18 +11,12 @@ word_at words i = (slice_index_or words i record { ref_ptr = (0, 0); now = [] })
 pub none_of_others : (words : List (Bor (List ℕ))) → length words ≢ 3
     → name_before_help (map (λ s. s.now) words) ≡ None
 unfolding name_before_help
-none_of_others [] other = refl
-none_of_others (a ∷ []) other = refl
-none_of_others (a ∷ b ∷ []) other = refl
 none_of_others (a ∷ b ∷ c ∷ []) other = absurd (other refl)
-none_of_others (a ∷ b ∷ c ∷ d ∷ more) other = refl
+none_of_others it other = refl
 
 -- of three words the last two decide
 pub by_three : (words : List (Bor (List ℕ))) → length words ≡ 3 → name_before_help (map (λ s. s.now) words)
     ≡ if is_help_of_help (word_at words 1) (word_at words 2) then Some (word_at words 0) else None
 unfolding name_before_help
-by_three [] three = cc
-by_three (a ∷ []) three = cc
-by_three (a ∷ b ∷ []) three = cc
 by_three (a ∷ b ∷ c ∷ []) three = refl
-by_three (a ∷ b ∷ c ∷ d ∷ more) three = cc
+by_three it three = cc

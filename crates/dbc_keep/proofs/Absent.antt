@@ -7,7 +7,7 @@ use Rattle.std.specs.List.{flat_map}
 use Rattle.dbc_lex.specs.declared.token.Token.{Token as TextToken}
 use Rattle.dbc_grammar.specs.Fields.{same_kind}
 use Rattle.dbc_grammar.specs.declared.token.TokenKind.{TokenKind}
-use Rattle.dbc_grammar.specs.declared.token.TokenKind.TheVariants.{Mark, Name, Number, Text}
+use Rattle.dbc_grammar.specs.declared.token.TokenKind.TheVariants.{Name}
 use Rattle.dbc_sheet.specs.declared.sheet.Sheet.{Sheet}
 use Rattle.dbc_words.specs.Name.{no_node}
 use Rattle.dbc_keep.specs.Staying.{all_seen, seen}
@@ -38,9 +38,7 @@ absent_append s (c ∷ cs) ds =
 
 pub other_kind : (k : TokenKind) → (k ≡ Name → ⊥) → false ≡ same_kind Name k
 other_kind Name other = absurd (other refl)
-other_kind Number other = refl
-other_kind Text other = refl
-other_kind Mark other = refl
+other_kind it other = refl
 
 module _ (s : Sheet) (w : Word) where
   pub no_name_cited : is_name_word w ≡ false → first_absent s (node_cited w) ≡ None

@@ -1,5 +1,5 @@
 -- Each skipped statement is in the kept text once.
-use Rattle.std.proofs.Common.{◌≡◌, ◌==◌, ◌+◌, ◌<◌, ◌≤◌, ◌++◌, ℕ, Bool, true, false, List, [], ◌∷◌, filter, refl, sym}
+use Rattle.std.proofs.Common.{◌≡◌, ◌==◌, ◌+◌, ◌++◌, ℕ, Bool, true, false, List, [], ◌∷◌, filter, refl, sym}
 use Rattle.std.proofs.Common.{ap, subst, ◌∙◌}
 use Rattle.std.proofs.Common.{append-nil, append_assoc, arith, IsPermutation}
 use Rattle.std.specs.Prelude.{nat_le}
@@ -16,7 +16,6 @@ use Rattle.std.proofs.lemmas.List.Sorted.{
 }
 use Rattle.dbc_words.specs.declared.keyword.Keyword.{Keyword}
 use Rattle.dbc_words.specs.declared.keyword.Keyword.TheVariants.{Message}
-use Rattle.dbc_sheet.specs.declared.sheet.Sheet.{Sheet}
 use Rattle.dbc_keep_law.specs.Kept.{at_place, completed, declarations, default_passage, defaults_spn, defines_spn}
 use Rattle.dbc_keep_law.specs.Kept.{definition_passage, lines_at, place_of, said}
 use Rattle.dbc_keep_law.specs.Law.{EachOnce}

@@ -1,5 +1,5 @@
 -- A skipped statement is the one that is found at its offset.
-use Rattle.std.proofs.Common.{◌≡◌, ◌⊎◌, ◌≤◌, ◌+◌, ℕ, Bool, true, false, List, [], ◌∷◌, ◌++◌, map, filter, length, drop}
+use Rattle.std.proofs.Common.{◌≡◌, ◌≤◌, ◌+◌, ℕ, Bool, true, false, List, [], ◌∷◌, ◌++◌, map, filter, length, drop}
 use Rattle.std.proofs.Common.{min, Option, Some, None, option_map, refl, sym, ap, subst, ◌∙◌, inl, inr, arith}
 use Rattle.std.proofs.Common.{append_assoc}
 use Rattle.std.specs.List.{AllByRecursion}
@@ -12,15 +12,13 @@ use Rattle.dbc_words.specs.declared.keyword.Keyword.TheVariants.{Message, Signal
 use Rattle.dbc_words.specs.declared.keyword.Keyword.TheVariants.{AttributeValue}
 use Rattle.dbc_grammar.specs.Division.{AreParts, Part}
 use Rattle.dbc_grammar.specs.Fields.{key_of}
-use Rattle.dbc_grammar.specs.Grammar.{begins_next, comment_line, file_comment, first_word, is_open, line}
+use Rattle.dbc_grammar.specs.Grammar.{begins_next, comment_line, file_comment, is_open, line}
 use Rattle.dbc_grammar.specs.Grammar.{message_comment}
-use Rattle.dbc_grammar.specs.Grammar.{message_line, next, node_comment, nodes_line, other_line, passed_line}
-use Rattle.dbc_grammar.specs.Grammar.{independent_line, passed_attribute, passed_comment, passed_value_texts}
-use Rattle.dbc_grammar.specs.Grammar.{signal_comment, skipped, spn_line, statement, symbols_line, table_line}
-use Rattle.dbc_grammar.specs.Grammar.{timing_line}
-use Rattle.dbc_grammar.specs.Grammar.{value_texts_line, value_type_line, version_line}
+use Rattle.dbc_grammar.specs.Grammar.{message_line, next, node_comment, other_line, passed_line}
+use Rattle.dbc_grammar.specs.Grammar.{independent_line, passed_attribute, passed_value_texts}
+use Rattle.dbc_grammar.specs.Grammar.{signal_comment, spn_line, statement}
+use Rattle.dbc_grammar.specs.Grammar.{value_texts_line}
 use Rattle.dbc_grammar.specs.Lexing.{Lexed, lexed}
-use Rattle.dbc_grammar.specs.Reads.{ReadsAs}
 use Rattle.dbc_grammar.specs.Rules.{Rule, either}
 use Rattle.dbc_grammar.specs.Saying.{Says, is_passed, passed_by}
 use Rattle.dbc_grammar.specs.Statement.{Content, Statement}
@@ -28,9 +26,8 @@ use Rattle.dbc_grammar.specs.Token.{Token}
 use Rattle.dbc_grammar.specs.Tokens.{HasTokens, IsFirst}
 use Rattle.dbc_grammar.proofs.Divisions.{divisions_are_parts}
 use Rattle.dbc_grammar.proofs.TokenExact.{exact}
-use Rattle.dbc_sheet.specs.declared.sheet.Sheet.{Sheet}
 use Rattle.dbc_keep_law.specs.Found.{before_next, found, others_of, run_of, to_mark, tokens_at}
-use Rattle.dbc_keep_law.specs.Law.{Keeps, StatementsAreFound}
+use Rattle.dbc_keep_law.specs.Law.{StatementsAreFound}
 use Rattle.dbc_keep_law.specs.Passages.{Passage, line_of, passage_of, passages_of, statements_of}
 use Rattle.dbc_keep_law.proofs.Ends.{
   AreOpen,

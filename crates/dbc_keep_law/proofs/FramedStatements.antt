@@ -1,45 +1,22 @@
 -- Statements that can be passed over are read the same wherever their words stand.
-use Rattle.std.proofs.Common.{◌≡◌, ◌&&◌, ℕ, true, false, List, [], ◌∷◌, ◌++◌, Option, Some, None, option_map, codes}
+use Rattle.std.proofs.Common.{◌≡◌, ℕ, true, false, List, [], ◌∷◌, ◌++◌, Option, Some, None, option_map}
 use Rattle.std.proofs.Common.{refl, sym, ap, subst, ◌∙◌, inl, inr}
-use Rattle.std.specs.List.{AllByRecursion}
-use Rattle.std.specs.Str.{bytes_eq}
-use Rattle.std.proofs.lemmas.Bool.{and_parts}
 use Rattle.std.proofs.lemmas.List.{append_cancel_right}
-use Rattle.dbc_words.specs.Keyword.{KeywordGroup, Kept, Passed, Refused, keyword_group, keyword_text}
-use Rattle.base.specs.WholeNumber.{is_numeral, whole_of}
+use Rattle.dbc_words.specs.Keyword.{KeywordGroup, Kept, Passed, Refused, keyword_group}
 use Rattle.dbc_words.specs.declared.keyword.Keyword.{Keyword}
 use Rattle.dbc_words.specs.declared.keyword.Keyword.TheVariants.{Version, NewSymbols, BitTiming, Nodes, ValueTable}
 use Rattle.dbc_words.specs.declared.keyword.Keyword.TheVariants.{Message, Signal, Comment, ValueTexts, SignalValueType}
 use Rattle.dbc_words.specs.declared.keyword.Keyword.TheVariants.{AttributeValue}
-use Rattle.dbc_grammar.specs.Fields.{is_a, is_mark, is_key, key_of, cited_number}
-use Rattle.dbc_grammar.specs.Inside.{inside_of}
+use Rattle.dbc_grammar.specs.Fields.{key_of}
 use Rattle.dbc_grammar.specs.Grammar.{is_open, version_line, symbols_line, timing_line, nodes_line, table_line}
 use Rattle.dbc_grammar.specs.Grammar.{message_line, file_comment, node_comment, message_comment, signal_comment}
-use Rattle.dbc_grammar.specs.Grammar.{value_texts_line, is_spn_name, spn_line, skipped, passed_line, passed_value_texts}
+use Rattle.dbc_grammar.specs.Grammar.{value_texts_line, spn_line, passed_line, passed_value_texts}
 use Rattle.dbc_grammar.specs.Grammar.{passed_attribute, independent_line, comment_line, other_line, line, first_word}
 use Rattle.dbc_grammar.specs.Grammar.{statement}
-use Rattle.dbc_grammar.specs.Rules.{Rule, one, either, many}
-use Rattle.dbc_grammar.specs.Statement.{
-  Content,
-  VersionIs,
-  NodesAre,
-  TableIs,
-  MessageIs,
-  CommentIs,
-  NodeCommentIs,
-  MessageCommentIs,
-  SignalCommentIs,
-  ValueTextsAre,
-  ValueTypeIs,
-  SpnIs,
-  Dropped,
-  PassedOver,
-  Statement,
-}
+use Rattle.dbc_grammar.specs.Rules.{Rule, either}
+use Rattle.dbc_grammar.specs.Statement.{Content, VersionIs, NodesAre, TableIs, MessageIs, CommentIs, Dropped, Statement}
 use Rattle.dbc_grammar.specs.Token.{Token}
-use Rattle.dbc_grammar.specs.declared.token.TokenKind.TheVariants.{Name, Number as NumberKind, Text}
-use Rattle.dbc_grammar.proofs.Exactness.{Any, only_passes}
-use Rattle.dbc_grammar.proofs.ExactFields.{kind_is, name_cited, number_where, passes}
+use Rattle.dbc_grammar.proofs.Exactness.{Any}
 use Rattle.dbc_grammar.proofs.ExactLines.{Next}
 use Rattle.dbc_keep_law.proofs.Ends.{AreOpen, Ends, ending_skipped, ending_spn}
 use Rattle.dbc_keep_law.proofs.Framing.{
@@ -115,13 +92,7 @@ CanPass (TableIs name entries) = ⊥
 CanPass (MessageIs m) = ⊥
 CanPass (CommentIs text) = ⊥
 CanPass Dropped = ⊥
-CanPass (NodeCommentIs name text) = Unit {0}
-CanPass (MessageCommentIs cited text) = Unit {0}
-CanPass (SignalCommentIs cited name text) = Unit {0}
-CanPass (ValueTextsAre cited name texts) = Unit {0}
-CanPass (ValueTypeIs cited name value_type) = Unit {0}
-CanPass (SpnIs cited name spn) = Unit {0}
-CanPass PassedOver = Unit {0}
+CanPass c = Unit {0}
 
 pub cannot : (c d : Content) → c ≡ d → (CanPass d → ⊥) → CanPass c → ⊥
 cannot c d e never can = never (subst CanPass e can)

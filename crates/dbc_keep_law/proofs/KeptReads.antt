@@ -292,64 +292,24 @@ module _ (s : Sheet) where
 -- ---- nodes and messages alone
 
 abbrev others : Content → Bool
-others (VersionIs t) = true
 others (NodesAre ns) = false
-others (TableIs n es) = true
 others (MessageIs m) = false
-others (CommentIs t) = true
-others (NodeCommentIs n t) = true
-others (MessageCommentIs cited t) = true
-others (SignalCommentIs cited n t) = true
-others (ValueTextsAre cited n vs) = true
-others (ValueTypeIs cited n v) = true
-others (SpnIs cited n p) = true
-others Dropped = true
-others PassedOver = true
+others c = true
 
 quiet_nodes_in : (c : Content) → others c ≡ true → nodes_in c ≡ None
-quiet_nodes_in (VersionIs t) h = refl
 quiet_nodes_in (NodesAre ns) h = absurd cc
-quiet_nodes_in (TableIs n es) h = refl
 quiet_nodes_in (MessageIs m) h = absurd cc
-quiet_nodes_in (CommentIs t) h = refl
-quiet_nodes_in (NodeCommentIs n t) h = refl
-quiet_nodes_in (MessageCommentIs cited t) h = refl
-quiet_nodes_in (SignalCommentIs cited n t) h = refl
-quiet_nodes_in (ValueTextsAre cited n vs) h = refl
-quiet_nodes_in (ValueTypeIs cited n v) h = refl
-quiet_nodes_in (SpnIs cited n p) h = refl
-quiet_nodes_in Dropped h = refl
-quiet_nodes_in PassedOver h = refl
+quiet_nodes_in c h = refl
 
 quiet_message_in : (c : Content) → others c ≡ true → message_in c ≡ None
-quiet_message_in (VersionIs t) h = refl
 quiet_message_in (NodesAre ns) h = absurd cc
-quiet_message_in (TableIs n es) h = refl
 quiet_message_in (MessageIs m) h = absurd cc
-quiet_message_in (CommentIs t) h = refl
-quiet_message_in (NodeCommentIs n t) h = refl
-quiet_message_in (MessageCommentIs cited t) h = refl
-quiet_message_in (SignalCommentIs cited n t) h = refl
-quiet_message_in (ValueTextsAre cited n vs) h = refl
-quiet_message_in (ValueTypeIs cited n v) h = refl
-quiet_message_in (SpnIs cited n p) h = refl
-quiet_message_in Dropped h = refl
-quiet_message_in PassedOver h = refl
+quiet_message_in c h = refl
 
 passed_other : (s : Sheet) (c : Content) → sheet_passed s c ≡ true → others c ≡ true
-passed_other s (VersionIs t) h = refl
 passed_other s (NodesAre ns) h = absurd cc
-passed_other s (TableIs n es) h = refl
 passed_other s (MessageIs m) h = absurd cc
-passed_other s (CommentIs t) h = refl
-passed_other s (NodeCommentIs n t) h = refl
-passed_other s (MessageCommentIs cited t) h = refl
-passed_other s (SignalCommentIs cited n t) h = refl
-passed_other s (ValueTextsAre cited n vs) h = refl
-passed_other s (ValueTypeIs cited n v) h = refl
-passed_other s (SpnIs cited n p) h = refl
-passed_other s Dropped h = refl
-passed_other s PassedOver h = refl
+passed_other s c h = refl
 
 pub passed_can : (ss : List Statement) (c : Content) → is_passed ss c ≡ true → CanPass c
 passed_can ss (VersionIs t) h = absurd cc
@@ -357,14 +317,8 @@ passed_can ss (NodesAre ns) h = absurd cc
 passed_can ss (TableIs n es) h = absurd cc
 passed_can ss (MessageIs m) h = absurd cc
 passed_can ss (CommentIs t) h = absurd cc
-passed_can ss (NodeCommentIs n t) h = tt
-passed_can ss (MessageCommentIs cited t) h = tt
-passed_can ss (SignalCommentIs cited n t) h = tt
-passed_can ss (ValueTextsAre cited n vs) h = tt
-passed_can ss (ValueTypeIs cited n v) h = tt
-passed_can ss (SpnIs cited n p) h = tt
 passed_can ss Dropped h = absurd cc
-passed_can ss PassedOver h = tt
+passed_can ss c h = tt
 
 module _ (s : Sheet) where
   abbrev IsOther : Content → Type 0

@@ -20,26 +20,7 @@ use Rattle.dbc_grammar.specs.Saying.{SignalKey, Says, comment_in, each_in, has_m
 use Rattle.dbc_grammar.specs.Saying.{keys_of, last_at, message_comment_in, message_in, messages_of, node_comment_in}
 use Rattle.dbc_grammar.specs.Saying.{node_names_of, nodes_in, same_signal, signal_comment_in, spn_in, table_in}
 use Rattle.dbc_grammar.specs.Saying.{value_texts_in, value_type_in, version_in, whole_message, whole_node, whole_signal}
-use Rattle.dbc_grammar.specs.Statement.{
-  Cited,
-  Content,
-  VersionIs,
-  NodesAre,
-  TableIs,
-  MessageIs,
-  CommentIs,
-  NodeCommentIs,
-  MessageCommentIs,
-  SignalCommentIs,
-  ValueTextsAre,
-  ValueTypeIs,
-  SpnIs,
-  Dropped,
-  PassedOver,
-  MessageLine,
-  SignalLine,
-  Statement,
-}
+use Rattle.dbc_grammar.specs.Statement.{Cited, Content, NodeCommentIs, MessageCommentIs, SignalCommentIs, ValueTextsAre, ValueTypeIs, SpnIs, PassedOver, MessageLine, SignalLine, Statement}
 use Rattle.dbc_law.proofs.Contents.{contents_of, node_names}
 use Rattle.dbc_law.proofs.SayingContents.{each_in-contents}
 use Rattle.dbc_keep_law.proofs.Unheard.{heard}
@@ -169,12 +150,7 @@ sheet_passed s (SignalCommentIs cited name text) = not (signal_there s cited nam
 sheet_passed s (ValueTextsAre cited name texts) = not (signal_there s cited name)
 sheet_passed s (ValueTypeIs cited name value_type) = not (signal_there s cited name)
 sheet_passed s (SpnIs cited name spn) = not (signal_there s cited name)
-sheet_passed s (VersionIs t) = false
-sheet_passed s (NodesAre ns) = false
-sheet_passed s (TableIs n es) = false
-sheet_passed s (MessageIs m) = false
-sheet_passed s (CommentIs t) = false
-sheet_passed s Dropped = false
+sheet_passed s c = false
 
 pub record Agree (ss : List Statement) (s : Sheet) : Type 0 where
   pub nodes : (name : List ℕ) → has_node ss name ≡ node_there s name
@@ -182,19 +158,13 @@ pub record Agree (ss : List Statement) (s : Sheet) : Type 0 where
   pub signals : (cited : Cited) (name : List ℕ) → has_signal ss cited name ≡ signal_there s cited name
 
 pub passed_agree : (ss : List Statement) (s : Sheet) → Agree ss s → (c : Content) → is_passed ss c ≡ sheet_passed s c
-passed_agree ss s h (VersionIs t) = refl
-passed_agree ss s h (NodesAre ns) = refl
-passed_agree ss s h (TableIs n es) = refl
-passed_agree ss s h (MessageIs m) = refl
-passed_agree ss s h (CommentIs t) = refl
 passed_agree ss s h (NodeCommentIs n t) = ap not (h.nodes n)
 passed_agree ss s h (MessageCommentIs cited t) = ap not (h.messages cited)
 passed_agree ss s h (SignalCommentIs cited n t) = ap not (h.signals cited n)
 passed_agree ss s h (ValueTextsAre cited n vs) = ap not (h.signals cited n)
 passed_agree ss s h (ValueTypeIs cited n v) = ap not (h.signals cited n)
 passed_agree ss s h (SpnIs cited n p) = ap not (h.signals cited n)
-passed_agree ss s h Dropped = refl
-passed_agree ss s h PassedOver = refl
+passed_agree ss s h c = refl
 
 -- ---- the sheet that statements say has what they define
 

@@ -39,25 +39,7 @@ use Rattle.dbc_grammar.specs.Saying.{
   whole_node,
   whole_signal,
 }
-use Rattle.dbc_grammar.specs.Statement.{
-  Content,
-  VersionIs,
-  NodesAre,
-  TableIs,
-  MessageIs,
-  CommentIs,
-  NodeCommentIs,
-  MessageCommentIs,
-  SignalCommentIs,
-  ValueTextsAre,
-  ValueTypeIs,
-  SpnIs,
-  Dropped,
-  PassedOver,
-  MessageLine,
-  SignalLine,
-  Statement,
-}
+use Rattle.dbc_grammar.specs.Statement.{Content, VersionIs, NodesAre, TableIs, MessageIs, CommentIs, NodeCommentIs, MessageCommentIs, SignalCommentIs, ValueTextsAre, ValueTypeIs, SpnIs, MessageLine, SignalLine, Statement}
 
 -- the statements without those of some contents
 abbrev pub heard : (Content → Bool) → List Statement → List Statement
@@ -139,184 +121,58 @@ keys_equal a b e =
 module _ (ss : List Statement) where
   no_version_in : (c : Content) → is_passed ss c ≡ true → version_in c ≡ None
   no_version_in (VersionIs t) h = absurd cc
-  no_version_in (NodesAre ns) h = refl
-  no_version_in (TableIs n es) h = refl
-  no_version_in (MessageIs m) h = refl
-  no_version_in (CommentIs t) h = refl
-  no_version_in (NodeCommentIs n t) h = refl
-  no_version_in (MessageCommentIs cited t) h = refl
-  no_version_in (SignalCommentIs cited n t) h = refl
-  no_version_in (ValueTextsAre cited n vs) h = refl
-  no_version_in (ValueTypeIs cited n v) h = refl
-  no_version_in (SpnIs cited n p) h = refl
-  no_version_in Dropped h = refl
-  no_version_in PassedOver h = refl
+  no_version_in c h = refl
 
   no_comment_in : (c : Content) → is_passed ss c ≡ true → comment_in c ≡ None
-  no_comment_in (VersionIs t) h = refl
-  no_comment_in (NodesAre ns) h = refl
-  no_comment_in (TableIs n es) h = refl
-  no_comment_in (MessageIs m) h = refl
   no_comment_in (CommentIs t) h = absurd cc
-  no_comment_in (NodeCommentIs n t) h = refl
-  no_comment_in (MessageCommentIs cited t) h = refl
-  no_comment_in (SignalCommentIs cited n t) h = refl
-  no_comment_in (ValueTextsAre cited n vs) h = refl
-  no_comment_in (ValueTypeIs cited n v) h = refl
-  no_comment_in (SpnIs cited n p) h = refl
-  no_comment_in Dropped h = refl
-  no_comment_in PassedOver h = refl
+  no_comment_in c h = refl
 
   no_nodes_in : (c : Content) → is_passed ss c ≡ true → nodes_in c ≡ None
-  no_nodes_in (VersionIs t) h = refl
   no_nodes_in (NodesAre ns) h = absurd cc
-  no_nodes_in (TableIs n es) h = refl
-  no_nodes_in (MessageIs m) h = refl
-  no_nodes_in (CommentIs t) h = refl
-  no_nodes_in (NodeCommentIs n t) h = refl
-  no_nodes_in (MessageCommentIs cited t) h = refl
-  no_nodes_in (SignalCommentIs cited n t) h = refl
-  no_nodes_in (ValueTextsAre cited n vs) h = refl
-  no_nodes_in (ValueTypeIs cited n v) h = refl
-  no_nodes_in (SpnIs cited n p) h = refl
-  no_nodes_in Dropped h = refl
-  no_nodes_in PassedOver h = refl
+  no_nodes_in c h = refl
 
   no_table_in : (c : Content) → is_passed ss c ≡ true → table_in c ≡ None
-  no_table_in (VersionIs t) h = refl
-  no_table_in (NodesAre ns) h = refl
   no_table_in (TableIs n es) h = absurd cc
-  no_table_in (MessageIs m) h = refl
-  no_table_in (CommentIs t) h = refl
-  no_table_in (NodeCommentIs n t) h = refl
-  no_table_in (MessageCommentIs cited t) h = refl
-  no_table_in (SignalCommentIs cited n t) h = refl
-  no_table_in (ValueTextsAre cited n vs) h = refl
-  no_table_in (ValueTypeIs cited n v) h = refl
-  no_table_in (SpnIs cited n p) h = refl
-  no_table_in Dropped h = refl
-  no_table_in PassedOver h = refl
+  no_table_in c h = refl
 
   no_message_in : (c : Content) → is_passed ss c ≡ true → message_in c ≡ None
-  no_message_in (VersionIs t) h = refl
-  no_message_in (NodesAre ns) h = refl
-  no_message_in (TableIs n es) h = refl
   no_message_in (MessageIs m) h = absurd cc
-  no_message_in (CommentIs t) h = refl
-  no_message_in (NodeCommentIs n t) h = refl
-  no_message_in (MessageCommentIs cited t) h = refl
-  no_message_in (SignalCommentIs cited n t) h = refl
-  no_message_in (ValueTextsAre cited n vs) h = refl
-  no_message_in (ValueTypeIs cited n v) h = refl
-  no_message_in (SpnIs cited n p) h = refl
-  no_message_in Dropped h = refl
-  no_message_in PassedOver h = refl
+  no_message_in c h = refl
 
   apart_node_comment_in : (key : List ℕ) → has_node ss key ≡ true → (c : Content) → is_passed ss c ≡ true
       → Apart bytes_eq key (node_comment_in c)
-  apart_node_comment_in key there (VersionIs t) h = tt
-  apart_node_comment_in key there (NodesAre ns) h = tt
-  apart_node_comment_in key there (TableIs n es) h = tt
-  apart_node_comment_in key there (MessageIs m) h = tt
-  apart_node_comment_in key there (CommentIs t) h = tt
   apart_node_comment_in key there (NodeCommentIs n t) h = false_by (has_node ss) bytes_eq names_equal n key h there
-  apart_node_comment_in key there (MessageCommentIs cited t) h = tt
-  apart_node_comment_in key there (SignalCommentIs cited n t) h = tt
-  apart_node_comment_in key there (ValueTextsAre cited n vs) h = tt
-  apart_node_comment_in key there (ValueTypeIs cited n v) h = tt
-  apart_node_comment_in key there (SpnIs cited n p) h = tt
-  apart_node_comment_in key there Dropped h = tt
-  apart_node_comment_in key there PassedOver h = tt
+  apart_node_comment_in key there c h = tt
 
   apart_message_comment_in : (key : ℕ) → has_message ss (Some key) ≡ true → (c : Content) → is_passed ss c ≡ true
       → Apart nat_eq key (message_comment_in c)
-  apart_message_comment_in key there (VersionIs t) h = tt
-  apart_message_comment_in key there (NodesAre ns) h = tt
-  apart_message_comment_in key there (TableIs n es) h = tt
-  apart_message_comment_in key there (MessageIs m) h = tt
-  apart_message_comment_in key there (CommentIs t) h = tt
-  apart_message_comment_in key there (NodeCommentIs n t) h = tt
-  apart_message_comment_in key there (MessageCommentIs None t) h = tt
   apart_message_comment_in key there (MessageCommentIs (Some n) t) h =
       false_by (λ k. has_message ss (Some k)) nat_eq numbers_equal n key h there
-  apart_message_comment_in key there (SignalCommentIs cited n t) h = tt
-  apart_message_comment_in key there (ValueTextsAre cited n vs) h = tt
-  apart_message_comment_in key there (ValueTypeIs cited n v) h = tt
-  apart_message_comment_in key there (SpnIs cited n p) h = tt
-  apart_message_comment_in key there Dropped h = tt
-  apart_message_comment_in key there PassedOver h = tt
+  apart_message_comment_in key there c h = tt
 
   apart_signal_comment_in : (key : SignalKey) → has_signal ss (Some key.0) key.1 ≡ true → (c : Content)
       → is_passed ss c ≡ true → Apart same_signal key (signal_comment_in c)
-  apart_signal_comment_in key there (VersionIs t) h = tt
-  apart_signal_comment_in key there (NodesAre ns) h = tt
-  apart_signal_comment_in key there (TableIs n es) h = tt
-  apart_signal_comment_in key there (MessageIs m) h = tt
-  apart_signal_comment_in key there (CommentIs t) h = tt
-  apart_signal_comment_in key there (NodeCommentIs n t) h = tt
-  apart_signal_comment_in key there (MessageCommentIs cited t) h = tt
-  apart_signal_comment_in key there (SignalCommentIs None n t) h = tt
   apart_signal_comment_in key there (SignalCommentIs (Some m) n t) h =
       false_by (λ (k : SignalKey). has_signal ss (Some k.0) k.1) same_signal keys_equal (m, n) key h there
-  apart_signal_comment_in key there (ValueTextsAre cited n vs) h = tt
-  apart_signal_comment_in key there (ValueTypeIs cited n v) h = tt
-  apart_signal_comment_in key there (SpnIs cited n p) h = tt
-  apart_signal_comment_in key there Dropped h = tt
-  apart_signal_comment_in key there PassedOver h = tt
+  apart_signal_comment_in key there c h = tt
 
   apart_value_texts_in : (key : SignalKey) → has_signal ss (Some key.0) key.1 ≡ true → (c : Content)
       → is_passed ss c ≡ true → Apart same_signal key (value_texts_in c)
-  apart_value_texts_in key there (VersionIs t) h = tt
-  apart_value_texts_in key there (NodesAre ns) h = tt
-  apart_value_texts_in key there (TableIs n es) h = tt
-  apart_value_texts_in key there (MessageIs m) h = tt
-  apart_value_texts_in key there (CommentIs t) h = tt
-  apart_value_texts_in key there (NodeCommentIs n t) h = tt
-  apart_value_texts_in key there (MessageCommentIs cited t) h = tt
-  apart_value_texts_in key there (SignalCommentIs cited n t) h = tt
-  apart_value_texts_in key there (ValueTextsAre None n vs) h = tt
   apart_value_texts_in key there (ValueTextsAre (Some m) n vs) h =
       false_by (λ (k : SignalKey). has_signal ss (Some k.0) k.1) same_signal keys_equal (m, n) key h there
-  apart_value_texts_in key there (ValueTypeIs cited n v) h = tt
-  apart_value_texts_in key there (SpnIs cited n p) h = tt
-  apart_value_texts_in key there Dropped h = tt
-  apart_value_texts_in key there PassedOver h = tt
+  apart_value_texts_in key there c h = tt
 
   apart_value_type_in : (key : SignalKey) → has_signal ss (Some key.0) key.1 ≡ true → (c : Content)
       → is_passed ss c ≡ true → Apart same_signal key (value_type_in c)
-  apart_value_type_in key there (VersionIs t) h = tt
-  apart_value_type_in key there (NodesAre ns) h = tt
-  apart_value_type_in key there (TableIs n es) h = tt
-  apart_value_type_in key there (MessageIs m) h = tt
-  apart_value_type_in key there (CommentIs t) h = tt
-  apart_value_type_in key there (NodeCommentIs n t) h = tt
-  apart_value_type_in key there (MessageCommentIs cited t) h = tt
-  apart_value_type_in key there (SignalCommentIs cited n t) h = tt
-  apart_value_type_in key there (ValueTextsAre cited n vs) h = tt
-  apart_value_type_in key there (ValueTypeIs None n v) h = tt
   apart_value_type_in key there (ValueTypeIs (Some m) n v) h =
       false_by (λ (k : SignalKey). has_signal ss (Some k.0) k.1) same_signal keys_equal (m, n) key h there
-  apart_value_type_in key there (SpnIs cited n p) h = tt
-  apart_value_type_in key there Dropped h = tt
-  apart_value_type_in key there PassedOver h = tt
+  apart_value_type_in key there c h = tt
 
   apart_spn_in : (key : SignalKey) → has_signal ss (Some key.0) key.1 ≡ true → (c : Content) → is_passed ss c ≡ true
       → Apart same_signal key (spn_in c)
-  apart_spn_in key there (VersionIs t) h = tt
-  apart_spn_in key there (NodesAre ns) h = tt
-  apart_spn_in key there (TableIs n es) h = tt
-  apart_spn_in key there (MessageIs m) h = tt
-  apart_spn_in key there (CommentIs t) h = tt
-  apart_spn_in key there (NodeCommentIs n t) h = tt
-  apart_spn_in key there (MessageCommentIs cited t) h = tt
-  apart_spn_in key there (SignalCommentIs cited n t) h = tt
-  apart_spn_in key there (ValueTextsAre cited n vs) h = tt
-  apart_spn_in key there (ValueTypeIs cited n v) h = tt
-  apart_spn_in key there (SpnIs None n p) h = tt
   apart_spn_in key there (SpnIs (Some m) n p) h =
       false_by (λ (k : SignalKey). has_signal ss (Some k.0) k.1) same_signal keys_equal (m, n) key h there
-  apart_spn_in key there Dropped h = tt
-  apart_spn_in key there PassedOver h = tt
+  apart_spn_in key there c h = tt
 
 -- ---- what is cited is there
 

@@ -178,9 +178,7 @@ last_are n size =
 later_are : (kind : BodyKind) (n : ℕ) → Number n → All IsField (later_fields kind n)
 later_are Html n size =
     All-cons IsField (header (codes "Content-Security-Policy") policy) (last_fields n) policy_field (last_are n size)
-later_are Json n size = last_are n size
-later_are Plain n size = last_are n size
-later_are Bytes n size = last_are n size
+later_are it n size = last_are n size
 
 head_is : (status : ℕ) (kind : BodyKind) (n : ℕ) → IsReplyStatus status → Number n
     → IsResponseHead (reply_head status (phrase_of status) kind n)
@@ -197,9 +195,7 @@ head_is status kind n of size = record {
 length_is : (kind : BodyKind) (n : ℕ) → Number n → body_length (map name_and_value (reply_fields kind n)) ≡ Some n
 unfolding body_length named
 length_is Json n of = ap whole_of of.trimmed ∙ of.value
-length_is Plain n of = ap whole_of of.trimmed ∙ of.value
-length_is Bytes n of = ap whole_of of.trimmed ∙ of.value
-length_is Html n of = ap whole_of of.trimmed ∙ of.value
+length_is it n of = ap whole_of of.trimmed ∙ of.value
 
 whole_body : (code : ℕ) (body : List ℕ) → received_by (Some (length body)) code body ≡ whole (status_of code) body
 whole_body code body =
@@ -214,9 +210,7 @@ received_is status kind body of size =
 
 few_fields : (kind : BodyKind) (n : ℕ) → length (later_fields kind n) ≤ 3
 few_fields Html n = omega arith
-few_fields Json n = omega arith
-few_fields Plain n = omega arith
-few_fields Bytes n = omega arith
+few_fields it n = omega arith
 
 body_fits : (front body : List ℕ) → length (front ++ body) ≤ response_limit → length body < 2 ^ 32
 body_fits front body fits = omega (arith, length-append front body)

@@ -15,10 +15,9 @@ use Rattle.office_types.specs.State.{by_name}
 use Rattle.office_types.specs.declared.book.SpnBlock.{SpnBlock}
 use Rattle.office_types.specs.declared.book.SpnBook.{SpnBook}
 use Rattle.office_types.specs.declared.change.Change.{Change}
-use Rattle.office_types.specs.declared.change.Change.TheVariants.{SetHead, SetMessage, RemoveMessage, AddSignal}
-use Rattle.office_types.specs.declared.change.Change.TheVariants.{RemoveSignal, SetSpn, SetValues, SetBlock}
-use Rattle.office_types.specs.declared.change.Change.TheVariants.{SetSpnBlock, Hold, EnterSpn, SetApproval}
-use Rattle.office_types.specs.declared.change.Change.TheVariants.{ClearApprovals, AddRelease}
+use Rattle.office_types.specs.declared.change.Change.TheVariants.{SetHead, AddSignal}
+use Rattle.office_types.specs.declared.change.Change.TheVariants.{RemoveSignal, SetSpn, SetValues}
+use Rattle.office_types.specs.declared.change.Change.TheVariants.{SetSpnBlock, EnterSpn}
 use Rattle.office_types.specs.declared.state.LiveMessage.{LiveMessage}
 use Rattle.office_types.specs.declared.state.Net.{Net}
 use Rattle.office_types.specs.declared.state.Office.{Office}
@@ -78,19 +77,7 @@ index_names o name i y h is = sym h.1 ∙ slice_get-get_or o.nets i y h.0 ∙ ap
 
 pub changed_there : (name : List ℕ) (c : Change) (n : Net) → changed_net name c (Some n) ≡ Some (net_changed c n)
 changed_there name (SetHead h) n = refl
-changed_there name (SetMessage m) n = refl
-changed_there name (RemoveMessage i) n = refl
-changed_there name (AddSignal message s) n = refl
-changed_there name (RemoveSignal path) n = refl
-changed_there name (SetSpn path k) n = refl
-changed_there name (SetValues path values) n = refl
-changed_there name (SetBlock g) n = refl
-changed_there name (SetSpnBlock b) n = refl
-changed_there name (Hold i) n = refl
-changed_there name (EnterSpn k) n = refl
-changed_there name (SetApproval team) n = refl
-changed_there name ClearApprovals n = refl
-changed_there name (AddRelease s) n = refl
+changed_there name it n = refl
 
 name_kept_at : (n : Net) (f : LiveMessage → LiveMessage) (o : Option LiveMessage)
     → ◌≡◌ {A = List ℕ} (let after : Net = elim o [ None ↦ n | Some m ↦ with_message n (f m) ] in after.name) n.name
@@ -99,21 +86,12 @@ name_kept_at n f (Some m) = refl
 
 -- a network keeps its name
 pub name_kept : (c : Change) (n : Net) → (net_changed c n).name ≡ n.name
-name_kept (SetHead h) n = refl
-name_kept (SetMessage m) n = refl
-name_kept (RemoveMessage i) n = refl
 name_kept (AddSignal message s) n = name_kept_at n (λ m. with_last_signal m s) (live_named n.live message)
 name_kept (RemoveSignal path) n = name_kept_at n (λ m. with_signal_out m path.signal) (live_named n.live path.message)
 name_kept (SetSpn path k) n = name_kept_at n (λ m. with_spn m path.signal k) (live_named n.live path.message)
 name_kept (SetValues path values) n =
     name_kept_at n (λ m. with_values m path.signal values) (live_named n.live path.message)
-name_kept (SetBlock g) n = refl
-name_kept (SetSpnBlock b) n = refl
-name_kept (Hold i) n = refl
-name_kept (EnterSpn k) n = refl
-name_kept (SetApproval team) n = refl
-name_kept ClearApprovals n = refl
-name_kept (AddRelease s) n = refl
+name_kept it n = refl
 
 module _ (o : Office) (name : List ℕ) (sorted : IsStrictlySortedBy by_name o.nets) where
   -- a change of the book leaves the networks

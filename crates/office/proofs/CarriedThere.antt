@@ -7,9 +7,9 @@ use Rattle.std.proofs.lemmas.Bool.{false≢true}
 use Rattle.office_types.specs.Free.{is_taken}
 use Rattle.office_types.specs.declared.book.SpnBook.{SpnBook}
 use Rattle.office_types.specs.declared.change.Change.{Change}
-use Rattle.office_types.specs.declared.change.Change.TheVariants.{SetHead, SetMessage, RemoveMessage, AddSignal}
-use Rattle.office_types.specs.declared.change.Change.TheVariants.{RemoveSignal, SetSpn, SetValues, SetBlock}
-use Rattle.office_types.specs.declared.change.Change.TheVariants.{SetSpnBlock, Hold, EnterSpn, SetApproval}
+use Rattle.office_types.specs.declared.change.Change.TheVariants.{SetHead}
+use Rattle.office_types.specs.declared.change.Change.TheVariants.{SetBlock}
+use Rattle.office_types.specs.declared.change.Change.TheVariants.{SetSpnBlock, EnterSpn, SetApproval}
 use Rattle.office_types.specs.declared.change.Change.TheVariants.{ClearApprovals, AddRelease}
 use Rattle.office_types.specs.declared.state.Net.{Net}
 use Rattle.office_types.specs.declared.state.LiveMessage.{LiveMessage}
@@ -69,19 +69,13 @@ same_index (Some index) n m live held is = record {
 pub index-kept : (o : Option NetIndex) (n : Net) (c : Change) → is_of_messages c ≡ false → IsIndexIfThere o n
     → IsIndexIfThere o (net_changed c n)
 index-kept o n (SetHead h) t is = same_index o n (net_changed (SetHead h) n) refl refl is
-index-kept o n (SetMessage m) t is = absurd (false≢true (sym t))
-index-kept o n (RemoveMessage i) t is = absurd (false≢true (sym t))
-index-kept o n (AddSignal message s) t is = absurd (false≢true (sym t))
-index-kept o n (RemoveSignal path) t is = absurd (false≢true (sym t))
-index-kept o n (SetSpn path k) t is = absurd (false≢true (sym t))
-index-kept o n (SetValues path values) t is = absurd (false≢true (sym t))
 index-kept o n (SetBlock g) t is = same_index o n (net_changed (SetBlock g) n) refl refl is
 index-kept o n (SetSpnBlock b) t is = is
-index-kept o n (Hold i) t is = absurd (false≢true (sym t))
 index-kept o n (EnterSpn k) t is = is
 index-kept o n (SetApproval team) t is = same_index o n (net_changed (SetApproval team) n) refl refl is
 index-kept o n ClearApprovals t is = same_index o n (net_changed ClearApprovals n) refl refl is
 index-kept o n (AddRelease s) t is = same_index o n (net_changed (AddRelease s) n) refl refl is
+index-kept o n it t is = absurd (false≢true (sym t))
 
 -- it is still one after such a change, whether that was made or memory ran out
 pub index-either : {A E : Type 0} (r : Result A E) (o : Option NetIndex) (n m : Net) (c : Change)
@@ -102,11 +96,9 @@ one_is (x ∷ y ∷ cs) a n first = absurd (omega (arith, n))
 
 pub two_are : (cs rest : List Change) (a b : Change) → length cs ≡ 2 → slice_get cs 1 ≡ Some b → rest ≡ remove cs 1
     → slice_get rest 0 ≡ Some a → cs ≡ a ∷ b ∷ []
-two_are [] rest a b n second left first = absurd (omega (arith, n))
-two_are (x ∷ []) rest a b n second left first = absurd (omega (arith, n))
 two_are (x ∷ y ∷ []) rest a b n second left first = λ i. some_is x a (sym (ap (λ cs. slice_get cs 0) left) ∙ first) i
     ∷ some_is y b second i ∷ []
-two_are (x ∷ y ∷ z ∷ cs) rest a b n second left first = absurd (omega (arith, n))
+two_are it rest a b n second left first = absurd (omega (arith, n))
 
 -- what holds by two things of which either is there after success
 pub by_both : {A E P Q R : Type 0} (r : Result A E) → (P → Q → R) → OnOk r P → OnOk r Q → OnOk r R

@@ -41,7 +41,5 @@ value_split word name written value e is =
 -- fewer than three words
 pub short_words : (dash : Dash) (number : ℕ) (words : List (List ℕ)) → length words < 3
     → Some (wrong_at 0 Short) ≡ words_wrong dash number words
-short_words dash number [] lt = refl
-short_words dash number (a ∷ []) lt = refl
-short_words dash number (a ∷ b ∷ []) lt = refl
 short_words dash number (a ∷ b ∷ c ∷ words) lt = absurd (omega (arith, lt))
+short_words dash number it lt = refl

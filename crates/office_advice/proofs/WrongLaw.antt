@@ -132,12 +132,10 @@ parts_step text (Some key) (Some team) (Some requested) wrong no_team no_key e =
 
 words_law : (dash : Dash) (number : ℕ) (words : List (List ℕ))
     → is_none (words_wrong dash number words) ≡ is_some (request_of_words dash number words)
-words_law dash number [] = refl
-words_law dash number (first ∷ []) = refl
-words_law dash number (first ∷ second ∷ []) = refl
 words_law dash number (first ∷ second ∷ word ∷ rest) =
     parts_step (join_with_byte 32 (word ∷ rest)) (key_of dash number first) (plain_name_of second)
     (requested_by word rest) (command_wrong (kind_of_word word) rest) _ _ (command_law word rest)
+words_law dash number it = refl
 
 line_step : (nothing : Bool) (wrong : Option Wrong) (request : Option LineRequest) → is_none wrong ≡ is_some request
     → is_none (if nothing then None else wrong)

@@ -2,7 +2,7 @@
 
 use crate::bundles::bundle_wrong;
 use crate::members::object_wrong;
-use crate::pieces::text_of;
+use crate::pieces::{Told, text_of};
 use desk_head::Posting;
 use office_advice::LineCommand;
 use office_fields::CommandKind;
@@ -43,11 +43,7 @@ fn json_of(alloc: Global, body: &[u8]) -> Result<BodyRead, AllocError> {
 }
 
 /// Why the body gives nothing of the kind, if it gives nothing.
-pub(crate) fn body_wrong(
-    alloc: Global,
-    posting: Posting,
-    body: &[u8],
-) -> Result<Option<String>, AllocError> {
+pub(crate) fn body_wrong(alloc: Global, posting: Posting, body: &[u8]) -> Told {
     if let Posting::Import = posting {
         return Ok(None);
     }

@@ -2,7 +2,7 @@
 
 use crate::heads::action_words;
 use crate::members::object_wrong;
-use crate::pieces::may_be_shown;
+use crate::pieces::{Told, may_be_shown, told};
 use crate::values::found_word;
 use office_advice::LineCommand;
 use office_fields::ActionKind;
@@ -29,31 +29,29 @@ fn word_wrong(alloc: Global, part: &Value) -> Result<String, AllocError> {
 }
 
 /// Why the value is no part of a bundle, if it is none.
-fn part_wrong(alloc: Global, part: &Value) -> Result<Option<String>, AllocError> {
+fn part_wrong(alloc: Global, part: &Value) -> Told {
     if part.as_object().is_none() {
         let found = found_word(part);
-        return Ok(Some(format!(in alloc; "a command is an object, and here {found}")?));
+        return told(format!(in alloc; "a command is an object, and here {found}"));
     }
     match kind_in(part) {
         Some(kind) => object_wrong(alloc, LineCommand::Part(kind), part),
-        None => Ok(Some(word_wrong(alloc, part)?)),
+        None => told(word_wrong(alloc, part)),
     }
 }
 
 /// Why the items are no parts of a bundle, if they are none: the first that is wrong, or how many they are.
-fn parts_wrong(alloc: Global, items: &[Value]) -> Result<Option<String>, AllocError> {
+fn parts_wrong(alloc: Global, items: &[Value]) -> Told {
     let mut number = 0u32;
     for part in items {
         number = number.saturating_add(1);
         if let Some(text) = part_wrong(alloc, part)? {
-            return Ok(Some(format!(in alloc; "command {number}: {text}")?));
+            return told(format!(in alloc; "command {number}: {text}"));
         }
     }
     let count = items.len();
     if count == 0 || count > PART_LIMIT {
-        Ok(Some(format!(in alloc;
-            "commands has {count} commands, and a bundle has 1 to {PART_LIMIT}"
-        )?))
+        told(format!(in alloc; "commands has {count} commands, and a bundle has 1 to {PART_LIMIT}"))
     } else {
         Ok(None)
     }
@@ -80,23 +78,23 @@ fn unknown_text(alloc: Global, name: &str) -> Result<String, AllocError> {
 }
 
 /// Why the value is no bundle, if it is none.
-pub(crate) fn bundle_wrong(alloc: Global, value: &Value) -> Result<Option<String>, AllocError> {
+pub(crate) fn bundle_wrong(alloc: Global, value: &Value) -> Told {
     let Some(members) = value.as_object() else {
         let found = found_word(value);
-        return Ok(Some(format!(in alloc; "a bundle is an object, and here {found}")?));
+        return told(format!(in alloc; "a bundle is an object, and here {found}"));
     };
     if let Some(name) = other_member(members) {
-        return Ok(Some(unknown_text(alloc, name)?));
+        return told(unknown_text(alloc, name));
     }
     match value.get("commands") {
-        None => Ok(Some(format!(in alloc;
+        None => told(format!(in alloc;
             "commands is missing: a list of 1 to {PART_LIMIT} commands"
-        )?)),
+        )),
         Some(list) => match list.as_array() {
             Some(items) => parts_wrong(alloc, items.as_slice()),
             None => {
                 let found = found_word(list);
-                Ok(Some(format!(in alloc; "commands is {found} and must be a list")?))
+                told(format!(in alloc; "commands is {found} and must be a list"))
             }
         },
     }

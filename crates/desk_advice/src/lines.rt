@@ -7,7 +7,7 @@ use crate::bodies::body_wrong;
 use crate::fronts::front_of;
 use crate::heads::{HeadParts, demand_wrong, head_of};
 use crate::looks::look_wrong;
-use crate::pieces::{as_line, text_of};
+use crate::pieces::{Told, as_line, text_of, told};
 use crate::reasons::{is_reported, refused_text};
 use crate::refused::{refused_of, status_of};
 use crate::senders::{key_wrong, team_wrong};
@@ -17,16 +17,16 @@ use office_types::NetName;
 use std::alloc::{AllocError, Global};
 
 /// Why a network of the target isn't named there, if the target has to name one and doesn't.
-fn net_wrong(alloc: Global, posting: Posting, target: &[u8]) -> Result<Option<String>, AllocError> {
+fn net_wrong(alloc: Global, posting: Posting, target: &[u8]) -> Told {
     if let Posting::Act(_) = posting {
         return Ok(None);
     }
     match NetName::of(alloc, first_parameter(target))? {
         Some(_net) => Ok(None),
-        None => Ok(Some(text_of(
+        None => told(text_of(
             alloc,
             "the network is malformed: 1 to 32 bytes of a to z, 0 to 9 and -",
-        )?)),
+        )),
     }
 }
 

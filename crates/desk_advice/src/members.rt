@@ -1,6 +1,6 @@
 //! Why the members of an object give no command.
 
-use crate::pieces::{may_be_shown, text_in};
+use crate::pieces::{Told, may_be_shown, text_in, told};
 use crate::senders::without_but;
 use crate::values::{found_word, phrase_in, value_unlike};
 use desk_call::{bytes_of, is_name_of, json_name};
@@ -60,11 +60,7 @@ fn missing_text(alloc: Global, field: Field) -> Result<String, AllocError> {
 }
 
 /// Why the items of a field's list are none of its kind, if JSON shows it.
-fn items_unlike(
-    alloc: Global,
-    field: Field,
-    items: &[Value],
-) -> Result<Option<String>, AllocError> {
+fn items_unlike(alloc: Global, field: Field, items: &[Value]) -> Told {
     let list = json_name(field);
     let mut number = 0u32;
     for item in items {
@@ -78,20 +74,16 @@ fn items_unlike(
 }
 
 /// Why a member is none of the field, if JSON shows it.
-fn member_unlike(
-    alloc: Global,
-    field: Field,
-    member: Option<&Value>,
-) -> Result<Option<String>, AllocError> {
+fn member_unlike(alloc: Global, field: Field, member: Option<&Value>) -> Told {
     match (field.occurrence(), member) {
         (Occurrence::Optional, None) => Ok(None),
-        (_, None) => Ok(Some(missing_text(alloc, field)?)),
+        (_, None) => told(missing_text(alloc, field)),
         (Occurrence::Repeated, Some(value)) => match value.as_array() {
             Some(items) => items_unlike(alloc, field, items.as_slice()),
             None => {
                 let name = json_name(field);
                 let found = found_word(value);
-                Ok(Some(format!(in alloc; "{name} is {found} and must be a list")?))
+                told(format!(in alloc; "{name} is {found} and must be a list"))
             }
         },
         (_, Some(value)) => value_unlike(alloc, json_name(field), field.kind(), value),
@@ -196,9 +188,9 @@ fn member_wrong(
     command: LineCommand,
     members: &Map<String, Value>,
     value: &Value,
-) -> Result<Option<String>, AllocError> {
+) -> Told {
     if let Some(name) = unknown_member(command, members) {
-        return Ok(Some(unknown_text(alloc, command, name)?));
+        return told(unknown_text(alloc, command, name));
     }
     for field in command.fields() {
         let member = value.get(json_name(*field));
@@ -211,14 +203,10 @@ fn member_wrong(
 
 /// Why the object gives no command of the kind, if it gives none: a member that is wrong by itself, else what a
 /// script's line with such values is wrong for.
-pub(crate) fn object_wrong(
-    alloc: Global,
-    command: LineCommand,
-    value: &Value,
-) -> Result<Option<String>, AllocError> {
+pub(crate) fn object_wrong(alloc: Global, command: LineCommand, value: &Value) -> Told {
     let Some(members) = value.as_object() else {
         let found = found_word(value);
-        return Ok(Some(format!(in alloc; "a command is an object, and here {found}")?));
+        return told(format!(in alloc; "a command is an object, and here {found}"));
     };
     if let Some(text) = member_wrong(alloc, command, members, value)? {
         return Ok(Some(text));
@@ -228,5 +216,5 @@ pub(crate) fn object_wrong(
         return Ok(None);
     }
     let Wrong { word: _, cause } = values_wrong(alloc, command, &given)?;
-    Ok(Some(cause_text(alloc, cause)?))
+    told(cause_text(alloc, cause))
 }

@@ -22,6 +22,14 @@ pub(crate) fn text_in(bytes: &[u8]) -> &str {
     }
 }
 
+/// A text; `None` where there is nothing to say. The error is out of memory.
+pub(crate) type Told = Result<Option<String>, AllocError>;
+
+/// The text, if there was memory for it.
+pub(crate) fn told(text: Result<String, AllocError>) -> Told {
+    Ok(Some(text?))
+}
+
 /// A text of its own.
 pub(crate) fn text_of(alloc: Global, text: &str) -> Result<String, AllocError> {
     String::from_str(alloc, text)

@@ -5,7 +5,7 @@ ghost use Rattle.office_fields.specs.Reading.{ReadsField};
 ghost use Rattle.desk_call.specs.Call.{key_of};
 ghost use Rattle.desk_advice.specs.Front.{key_in, team_in};
 
-use crate::pieces::{text_in, text_of};
+use crate::pieces::{Told, text_in, text_of, told};
 use desk_head::{Header, header_named};
 use httparse::spans::HeaderSpan;
 use office_advice::{Cause, meaning_of};
@@ -110,18 +110,18 @@ pub(crate) fn key_in(
 }
 
 /// Why the header names no team, if it doesn't.
-pub(crate) fn team_wrong(alloc: Global, team: Header<'_>) -> Result<Option<String>, AllocError> {
+pub(crate) fn team_wrong(alloc: Global, team: Header<'_>) -> Told {
     if is_team(alloc, team)? {
         return Ok(None);
     }
     let meaning = meaning_of(alloc, Cause::Team)?;
     let form = text_in(without_but(&meaning));
     let wanted = Wanted { name: "Team", form };
-    Ok(Some(header_wrong(alloc, wanted, team)?))
+    told(header_wrong(alloc, wanted, team))
 }
 
 /// Why the header gives no key, if it doesn't.
-pub(crate) fn key_wrong(alloc: Global, key: Header<'_>) -> Result<Option<String>, AllocError> {
+pub(crate) fn key_wrong(alloc: Global, key: Header<'_>) -> Told {
     if is_key(alloc, key)? {
         return Ok(None);
     }
@@ -129,7 +129,7 @@ pub(crate) fn key_wrong(alloc: Global, key: Header<'_>) -> Result<Option<String>
         name: "Request-Key",
         form: "a key is 1 to 64 bytes from ! to ~, and not - alone",
     };
-    Ok(Some(header_wrong(alloc, wanted, key)?))
+    told(header_wrong(alloc, wanted, key))
 }
 
 /// A meaning without the `, but ` that it begins with.

@@ -1,6 +1,6 @@
 //! What JSON values are, and what they must be.
 
-use crate::pieces::{text_in, text_of};
+use crate::pieces::{Told, text_in, text_of, told};
 use desk_call::bytes_of;
 use office_advice::phrase_of;
 use office_fields::FieldKind;
@@ -54,24 +54,18 @@ fn found_in_pair(value: &Value) -> Option<&'static str> {
 }
 
 /// Why the value of the name is none of the kind, if JSON shows it.
-pub(crate) fn value_unlike(
-    alloc: Global,
-    name: &str,
-    kind: FieldKind,
-    value: &Value,
-) -> Result<Option<String>, AllocError> {
+pub(crate) fn value_unlike(alloc: Global, name: &str, kind: FieldKind, value: &Value) -> Told {
     if bytes_of(alloc, kind, value)?.is_some() {
         return Ok(None);
     }
     let found = found_word(value);
     let wanted = wanted_word(kind);
     let phrase = phrase_in(alloc, kind)?;
-    let text = if found != wanted {
-        format!(in alloc; "{name} is {found} and must be {wanted}: {phrase}")?
+    if found != wanted {
+        told(format!(in alloc; "{name} is {found} and must be {wanted}: {phrase}"))
     } else if let Some(other) = found_in_pair(value) {
-        format!(in alloc; "{name} has {other} in it and must be {phrase}")?
+        told(format!(in alloc; "{name} has {other} in it and must be {phrase}"))
     } else {
-        format!(in alloc; "{name} must be {phrase}")?
-    };
-    Ok(Some(text))
+        told(format!(in alloc; "{name} must be {phrase}"))
+    }
 }

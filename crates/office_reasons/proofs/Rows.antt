@@ -3,7 +3,7 @@ use Rattle.std.proofs.Common.{◌≡◌, [], ◌∷◌, Some, None, true, false,
 use Rattle.std.specs.Fmt.{digits}
 use Rattle.std.specs.Prelude.{codes}
 use Rattle.bitlayout.specs.declared.layout.Order.TheVariants.{Intel, Motorola}
-use Rattle.bitlayout.specs.declared.place.Mux.TheVariants.{Always, Multiplexor, Under}
+use Rattle.bitlayout.specs.declared.place.Mux.TheVariants.{Multiplexor}
 use Rattle.can_id.specs.declared.ident.Ident.TheVariants as id
 use Rattle.office_reasons.specs.Bits.{bytes_text, start_text}
 use Rattle.office_reasons.specs.Blocks.{nearest_of}

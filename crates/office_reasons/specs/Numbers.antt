@@ -1,5 +1,5 @@
 -- What is reported of numbers, and of the names of new messages.
-use Rattle.std.specs.Prelude.{ℕ, ◌==◌, ◌||◌, ◌&&◌, nat_lt, Bool, false, List, ◌++◌, Option, codes, decimal}
+use Rattle.std.specs.Prelude.{ℕ, ◌==◌, ◌||◌, ◌&&◌, nat_lt, Bool, false, List, ◌++◌, codes, decimal}
 use Rattle.std.specs.Prelude.{if◌then◌else◌}
 use Rattle.std.specs.Option.{option_map_or}
 use Rattle.can_id.specs.Form.{greatest_number}

@@ -1,5 +1,5 @@
 -- Signals and their bits in sentences, as a DBC file has them.
-use Rattle.std.specs.Prelude.{ℕ, Bool, true, false, ◌&&◌, List, [], ◌++◌, codes, decimal}
+use Rattle.std.specs.Prelude.{ℕ, Bool, true, false, List, [], ◌++◌, codes, decimal}
 use Rattle.bitlayout.specs.Clash.{collide}
 use Rattle.bitlayout.specs.Mux.{indicator_of}
 use Rattle.bitlayout.specs.Order.{order_number}

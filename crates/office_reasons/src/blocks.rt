@@ -8,28 +8,23 @@ ghost use Rattle.office_reasons.specs.Blocks.{team_text};
 ghost use Rattle.office_reasons.specs.Few.{few_text};
 ghost use Rattle.office_reasons.specs.Pieces.{range_text};
 
+use crate::case::{Case, Told, told};
 use crate::few::few_text;
 use crate::pieces::{form_word, is_spn, range_text, shown};
 use office_facts::{blocks_of, spn_blocks_of};
-use office_types::{Block, BlockForm, GrantedBlock, Net, SpnBlock, SpnBook, Team};
+use office_types::{Block, BlockForm, GrantedBlock, SpnBlock, Team};
 use std::alloc::{AllocError, Global};
 
 /// The numbers of the team's blocks of a form on the network.
-pub(crate) fn team_blocks(
-    alloc: Global,
-    team: &Team,
-    net: &Net,
-    book: &SpnBook,
-    form: BlockForm,
-) -> Result<Vec<Block>, AllocError>
+pub(crate) fn team_blocks(case: &Case<'_>, form: BlockForm) -> Result<Vec<Block>, AllocError>
     ensures { IfOk result (λ blocks. blocks.items
-        ≡ (if is_spn form then spn_blocks_of book.now net.now.name team.now
-        else blocks_of net.now.blocks team.now form)) }
+        ≡ (if is_spn form then spn_blocks_of case.now.book.now case.now.net.now.name case.now.team.now
+        else blocks_of case.now.net.now.blocks case.now.team.now form)) }
 {
     if is_spn(form) {
-        spn_blocks_of(alloc, book, &net.name, team)
+        spn_blocks_of(case.alloc, case.book, &case.net.name, case.team)
     } else {
-        blocks_of(alloc, net.blocks.as_slice(), team, form)
+        blocks_of(case.alloc, case.net.blocks.as_slice(), case.team, form)
     }
 }
 
@@ -66,20 +61,16 @@ fn own_text(alloc: Global, form: BlockForm, block: Block) -> Result<String, Allo
 }
 
 /// The blocks of the team on the network, whatever their form.
-fn own_blocks(
-    alloc: Global,
-    team: &Team,
-    net: &Net,
-    book: &SpnBook,
-) -> Result<Vec<String>, AllocError> {
+fn own_blocks(case: &Case<'_>) -> Result<Vec<String>, AllocError> {
+    let alloc = case.alloc;
     let mut list = Vec::new(alloc);
-    for granted in net.blocks.as_slice() {
-        if granted.team == *team {
+    for granted in case.net.blocks.as_slice() {
+        if granted.team == *case.team {
             let text = own_text(alloc, granted.block.form(), granted.block.numbers())?;
             list.push(text)?;
         }
     }
-    for block in spn_blocks_of(alloc, book, &net.name, team)? {
+    for block in team_blocks(case, BlockForm::Spn)? {
         let text = own_text(alloc, BlockForm::Spn, block)?;
         list.push(text)?;
     }
@@ -107,21 +98,17 @@ pub(crate) fn spn_numbers(granted: &SpnBlock) -> Block
 }
 
 /// The blocks of the form on the network, whosever they are.
-fn blocks_of_form(
-    alloc: Global,
-    net: &Net,
-    book: &SpnBook,
-    form: BlockForm,
-) -> Result<Vec<String>, AllocError> {
+fn blocks_of_form(case: &Case<'_>, form: BlockForm) -> Result<Vec<String>, AllocError> {
+    let alloc = case.alloc;
     let mut list = Vec::new(alloc);
-    for granted in net.blocks.as_slice() {
+    for granted in case.net.blocks.as_slice() {
         if granted.block.form() == form {
             let text = team_text(alloc, granted.block.numbers(), &granted.team)?;
             list.push(text)?;
         }
     }
-    for granted in book.blocks.as_slice() {
-        if is_spn(form) && granted.net == net.name {
+    for granted in case.book.blocks.as_slice() {
+        if is_spn(form) && granted.net == case.net.name {
             let text = team_text(alloc, spn_numbers(granted), &granted.team)?;
             list.push(text)?;
         }
@@ -130,55 +117,38 @@ fn blocks_of_form(
 }
 
 /// Which blocks the team has on the network; `None` where it has none.
-pub(crate) fn owned_text(
-    alloc: Global,
-    team: &Team,
-    net: &Net,
-    book: &SpnBook,
-) -> Result<Option<String>, AllocError> {
-    let own = own_blocks(alloc, team, net, book)?;
+pub(crate) fn owned_text(case: &Case<'_>) -> Told {
+    let own = own_blocks(case)?;
     if own.is_empty() {
         return Ok(None);
     }
-    let own = few_text(alloc, &own)?;
+    let own = few_text(case.alloc, &own)?;
     let own = own.as_str();
-    Ok(Some(format!(in alloc; "it has {own}")?))
+    told(format!(in case.alloc; "it has {own}"))
 }
 
 /// Which blocks there are instead of one of the form: the team's own of other forms, or those of other teams.
-fn instead_text(
-    alloc: Global,
-    team: &Team,
-    net: &Net,
-    book: &SpnBook,
-    form: BlockForm,
-) -> Result<String, AllocError> {
-    if let Some(own) = owned_text(alloc, team, net, book)? {
+fn instead_text(case: &Case<'_>, form: BlockForm) -> Result<String, AllocError> {
+    if let Some(own) = owned_text(case)? {
         return Ok(own);
     }
-    let others = blocks_of_form(alloc, net, book, form)?;
+    let others = blocks_of_form(case, form)?;
     if others.is_empty() {
-        return String::from_str(alloc, "no team has one");
+        return String::from_str(case.alloc, "no team has one");
     }
-    let others = few_text(alloc, &others)?;
+    let others = few_text(case.alloc, &others)?;
     let others = others.as_str();
-    format!(in alloc; "there are {others}")
+    format!(in case.alloc; "there are {others}")
 }
 
 /// That the team has no block of the form on the network, and which there are.
-pub(crate) fn no_block(
-    alloc: Global,
-    team: &Team,
-    net: &Net,
-    book: &SpnBook,
-    form: BlockForm,
-) -> Result<String, AllocError> {
-    let instead = instead_text(alloc, team, net, book, form)?;
+pub(crate) fn no_block(case: &Case<'_>, form: BlockForm) -> Result<String, AllocError> {
+    let instead = instead_text(case, form)?;
     let instead = instead.as_str();
     let form = form_word(form);
-    let team = shown(team.as_bytes());
-    let name = shown(net.name.as_bytes());
-    format!(in alloc; "team {team} has no {form} block on {name}; {instead}")
+    let team = shown(case.team.as_bytes());
+    let name = shown(case.net.name.as_bytes());
+    format!(in case.alloc; "team {team} has no {form} block on {name}; {instead}")
 }
 
 /// How far the number is from the block: 0 where it is in it.

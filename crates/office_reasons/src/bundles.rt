@@ -6,6 +6,7 @@ ghost use Rattle.office_rules.specs.Commands.{acted};
 ghost use Rattle.office_reasons.specs.Bundles.{refused_text};
 
 use crate::actions::action_reason;
+use crate::case::{Told, told};
 use crate::plain::plain_meaning;
 use crate::seen::Seen;
 use office_decide::{Draft, change_all, decide_by, draft_of, walk};
@@ -145,7 +146,7 @@ pub(crate) fn bundle_reason(
     parts: &Parts<Action>,
     refusal: Refusal,
     seen: &Seen<'_>,
-) -> Result<Option<String>, AllocError> {
+) -> Told {
     let Refusal::BundleRefused(FileFault { fault, at }) = refusal else {
         return Ok(None);
     };
@@ -159,6 +160,5 @@ pub(crate) fn bundle_reason(
         return Ok(None);
     };
     let earlier = &all[..index];
-    let text = part_reason(alloc, team, name, (earlier, part), at, refusal, seen)?;
-    Ok(Some(text))
+    told(part_reason(alloc, team, name, (earlier, part), at, refusal, seen))
 }

@@ -5,6 +5,7 @@ ghost use Rattle.office_rules.specs.Importing.{is_live_so, may_bring, message_im
 ghost use Rattle.office_reasons.specs.Files.{excess_text};
 
 use crate::blocks::owned_text;
+use crate::case::{Case, Told, told};
 use crate::networks::no_net;
 use crate::numbers::{ident_held, live_with, name_live};
 use crate::pieces::{ident_text, ident_word, shown};
@@ -16,11 +17,11 @@ use dbc_read::{ReadCode, read};
 use dbc_sheet::{Message, Node, Sheet, Signal, ValueTable};
 use dbc_words::{MESSAGE_LIMIT, NODE_LIMIT, TABLE_LIMIT};
 use office_facts::{group_of, has_node, has_number, is_held, is_live, is_named, live_named};
-use office_types::{BlockForm, LiveMessage, Net, NetName, Refusal, SpnBook, Team, is_office};
+use office_types::{BlockForm, LiveMessage, Net, NetName, Refusal, Team, is_office};
 use std::alloc::{AllocError, Global};
 
 /// What is first amiss in the file, and where; `None` where its messages are clear.
-fn fault_reason(alloc: Global, file: &[u8]) -> Result<Option<String>, AllocError> {
+fn fault_reason(alloc: Global, file: &[u8]) -> Told {
     let Some(stated) = first_stated(alloc, file)? else {
         return Ok(None);
     };
@@ -28,8 +29,7 @@ fn fault_reason(alloc: Global, file: &[u8]) -> Result<Option<String>, AllocError
     let column = stated.position.column;
     let label = shown(&stated.label);
     let sentence = shown(&stated.sentence);
-    let text = format!(in alloc; "line {line}, column {column}: {label}: {sentence}")?;
-    Ok(Some(text))
+    told(format!(in alloc; "line {line}, column {column}: {label}: {sentence}"))
 }
 
 /// Whether a live message is equal to this one.
@@ -162,16 +162,11 @@ fn outside_text(alloc: Global, team: &Team, message: &Message) -> Result<String,
 }
 
 /// That the team may not bring the message's identifier, and which blocks it has.
-fn outside_blocks(
-    alloc: Global,
-    team: &Team,
-    net: &Net,
-    book: &SpnBook,
-    message: &Message,
-) -> Result<String, AllocError> {
-    let outside = outside_text(alloc, team, message)?;
+fn outside_blocks(case: &Case<'_>, message: &Message) -> Result<String, AllocError> {
+    let alloc = case.alloc;
+    let outside = outside_text(alloc, case.team, message)?;
     let outside = outside.as_str();
-    match owned_text(alloc, team, net, book)? {
+    match owned_text(case)? {
         Some(own) => {
             let own = own.as_str();
             format!(in alloc; "{outside}; {own}")
@@ -187,32 +182,26 @@ fn of_message(alloc: Global, message: &Message, reason: &str) -> Result<String, 
 }
 
 /// Why the message of the file can't be brought to the network.
-fn message_text(
-    alloc: Global,
-    team: &Team,
-    net: &Net,
-    book: &SpnBook,
-    message: &Message,
-) -> Result<Option<String>, AllocError> {
-    match message_refusal(team, net, message) {
+fn message_text(case: &Case<'_>, message: &Message) -> Told {
+    let alloc = case.alloc;
+    let net = case.net;
+    match message_refusal(case.team, net, message) {
         Some(Refusal::IdentTaken) => match live_with(net.live.as_slice(), &message.ident) {
-            Some(live) => Ok(Some(other_message(alloc, live, message)?)),
+            Some(live) => told(other_message(alloc, live, message)),
             None => Ok(None),
         },
         Some(Refusal::Held) => {
             let held = ident_held(alloc, net, &message.ident)?;
-            Ok(Some(of_message(alloc, message, held.as_str())?))
+            told(of_message(alloc, message, held.as_str()))
         }
         Some(Refusal::NameTaken) => match live_named(net.live.as_slice(), &message.name) {
             Some(live) => {
                 let named = name_live(alloc, net, live)?;
-                Ok(Some(of_message(alloc, message, named.as_str())?))
+                told(of_message(alloc, message, named.as_str()))
             }
             None => Ok(None),
         },
-        Some(Refusal::OutsideBlock) => {
-            Ok(Some(outside_blocks(alloc, team, net, book, message)?))
-        }
+        Some(Refusal::OutsideBlock) => told(outside_blocks(case, message)),
         _ => Ok(None),
     }
 }
@@ -254,49 +243,35 @@ fn new_messages(net: &Net, file: &[Message]) -> usize {
 }
 
 /// Of what the network would have too much with the file; `None` where it would not.
-fn excess_reason(alloc: Global, net: &Net, file: &Sheet) -> Result<Option<String>, AllocError> {
+fn excess_reason(alloc: Global, net: &Net, file: &Sheet) -> Told {
     let frame = &net.head.frame;
     let messages = new_messages(net, file.messages()).saturating_add(net.live.as_slice().len());
     if messages > MESSAGE_LIMIT {
-        let text = excess_text(alloc, net, messages, "live messages", MESSAGE_LIMIT)?;
-        return Ok(Some(text));
+        return told(excess_text(alloc, net, messages, "live messages", MESSAGE_LIMIT));
     }
     let nodes = new_nodes(frame.nodes(), file.nodes()).saturating_add(frame.nodes().len());
     if nodes > NODE_LIMIT {
-        return Ok(Some(excess_text(alloc, net, nodes, "nodes", NODE_LIMIT)?));
+        return told(excess_text(alloc, net, nodes, "nodes", NODE_LIMIT));
     }
     let tables = new_tables(frame.tables(), file.tables()).saturating_add(frame.tables().len());
     if tables > TABLE_LIMIT {
-        let text = excess_text(alloc, net, tables, "value tables", TABLE_LIMIT)?;
-        return Ok(Some(text));
+        return told(excess_text(alloc, net, tables, "value tables", TABLE_LIMIT));
     }
     Ok(None)
 }
 
 /// Why the sheet isn't brought to the network.
-fn sheet_reason(
-    alloc: Global,
-    team: &Team,
-    net: &Net,
-    book: &SpnBook,
-    file: &Sheet,
-) -> Result<Option<String>, AllocError> {
-    match first_refused(team, net, file.messages()) {
-        Some(message) => message_text(alloc, team, net, book, message),
-        None => excess_reason(alloc, net, file),
+fn sheet_reason(case: &Case<'_>, file: &Sheet) -> Told {
+    match first_refused(case.team, case.net, file.messages()) {
+        Some(message) => message_text(case, message),
+        None => excess_reason(case.alloc, case.net, file),
     }
 }
 
 /// The same of what the file reads as.
-fn read_reason(
-    alloc: Global,
-    team: &Team,
-    net: &Net,
-    book: &SpnBook,
-    file: &[u8],
-) -> Result<Option<String>, AllocError> {
-    match read(alloc, file) {
-        Ok(reading) => sheet_reason(alloc, team, net, book, &reading.sheet),
+fn read_reason(case: &Case<'_>, file: &[u8]) -> Told {
+    match read(case.alloc, file) {
+        Ok(reading) => sheet_reason(case, &reading.sheet),
         Err(fault) => match fault.code {
             ReadCode::Memory => Err(AllocError),
             _ => Ok(None),
@@ -313,12 +288,22 @@ pub(crate) fn import_reason(
     file: &[u8],
     refusal: Refusal,
     seen: &Seen<'_>,
-) -> Result<Option<String>, AllocError> {
-    match (refusal, seen.net) {
-        (Refusal::NoNet, None) => Ok(Some(no_net(alloc, name, seen.names)?)),
-        (Refusal::FileFault(_), _) => fault_reason(alloc, file),
-        (Refusal::InReview, Some(net)) => review_reason(alloc, team, net, refusal),
-        (_, Some(net)) => read_reason(alloc, team, net, seen.book, file),
-        _ => Ok(None),
+) -> Told {
+    let (net, book) = match (refusal, seen.net) {
+        (Refusal::NoNet, None) => return told(no_net(alloc, name, seen.names)),
+        (Refusal::FileFault(_), _) => return fault_reason(alloc, file),
+        (_, Some(net)) => (net, seen.book),
+        _ => return Ok(None),
+    };
+    let case = Case {
+        alloc,
+        team,
+        net,
+        book,
+        refusal,
+    };
+    match refusal {
+        Refusal::InReview => review_reason(&case),
+        _ => read_reason(&case, file),
     }
 }

@@ -16,6 +16,7 @@ mod actions;
 mod bits;
 mod blocks;
 mod bundles;
+mod case;
 mod few;
 mod files;
 mod kept;

@@ -2,12 +2,13 @@
 ghost use Rattle.std.specs.Prelude.{◌≡◌, IfOk, string_bytes};
 ghost use Rattle.office_reasons.specs.Messages.{not_owner_text, released_hint};
 
+use crate::case::{Case, Told, told};
 use crate::few::few_text;
 use crate::pieces::{ident_text, shown};
 use crate::releases::{Released, last_named};
 use dbc_words::Name;
 use office_facts::live_named;
-use office_types::{Action, LiveMessage, Net, Refusal, Team};
+use office_types::{Action, LiveMessage, Refusal, Team};
 use std::alloc::{AllocError, Global};
 
 /// The live message that the action is to change, if it is to change one.
@@ -50,9 +51,10 @@ fn owned_names(
 }
 
 /// Which live messages of the network belong to the team.
-fn owned_hint(alloc: Global, team: &Team, net: &Net) -> Result<String, AllocError> {
-    let owned = owned_names(alloc, team, net.live.as_slice())?;
-    let team = shown(team.as_bytes());
+fn owned_hint(case: &Case<'_>) -> Result<String, AllocError> {
+    let alloc = case.alloc;
+    let owned = owned_names(alloc, case.team, case.net.live.as_slice())?;
+    let team = shown(case.team.as_bytes());
     if owned.is_empty() {
         return format!(in alloc; "no live message is team {team}'s");
     }
@@ -62,15 +64,15 @@ fn owned_hint(alloc: Global, team: &Team, net: &Net) -> Result<String, AllocErro
 }
 
 /// That no live message has the name, and which release has it, or which messages are the team's.
-fn no_message(alloc: Global, team: &Team, net: &Net, name: &Name) -> Result<String, AllocError> {
-    let hint = match last_named(net.releases.as_slice(), name) {
-        Some(released) => released_hint(alloc, &released)?,
-        None => owned_hint(alloc, team, net)?,
+fn no_message(case: &Case<'_>, name: &Name) -> Result<String, AllocError> {
+    let hint = match last_named(case.net.releases.as_slice(), name) {
+        Some(released) => released_hint(case.alloc, &released)?,
+        None => owned_hint(case)?,
     };
     let hint = hint.as_str();
     let message = shown(name.as_bytes());
-    let net = shown(net.name.as_bytes());
-    format!(in alloc; "{net} has no live message {message}; {hint}")
+    let net = shown(case.net.name.as_bytes());
+    format!(in case.alloc; "{net} has no live message {message}; {hint}")
 }
 
 /// Whose the live message is.
@@ -84,19 +86,13 @@ fn not_owner(alloc: Global, team: &Team, live: &LiveMessage) -> Result<String, A
 }
 
 /// Why the message that the action names can't be changed by the team; `None` where the network doesn't show it.
-pub(crate) fn message_reason(
-    alloc: Global,
-    team: &Team,
-    net: &Net,
-    action: &Action,
-    refusal: Refusal,
-) -> Result<Option<String>, AllocError> {
+pub(crate) fn message_reason(case: &Case<'_>, action: &Action) -> Told {
     let Some(name) = named_message(action) else {
         return Ok(None);
     };
-    match (refusal, live_named(net.live.as_slice(), name)) {
-        (Refusal::NoMessage, None) => Ok(Some(no_message(alloc, team, net, name)?)),
-        (Refusal::NotOwner, Some(live)) => Ok(Some(not_owner(alloc, team, live)?)),
+    match (case.refusal, live_named(case.net.live.as_slice(), name)) {
+        (Refusal::NoMessage, None) => told(no_message(case, name)),
+        (Refusal::NotOwner, Some(live)) => told(not_owner(case.alloc, case.team, live)),
         _ => Ok(None),
     }
 }

@@ -6,15 +6,14 @@ ghost use Rattle.office_reasons.specs.Numbers.{beyond_form_text, live_text, no_s
 ghost use Rattle.office_reasons.specs.Numbers.{pdu_word, takes, there_text};
 
 use crate::blocks::{block_with, nearest, ranges_text, team_blocks};
+use crate::case::{Case, Told, told};
 use crate::networks::limit_text;
 use crate::pieces::{form_word, ident_text, ident_word, range_text, shown};
 use crate::releases::{Released, first_with, last_with};
 use can_id::{Ident, IdentForm};
 use dbc_words::{MESSAGE_LIMIT, SPN_LIMIT};
 use office_facts::{group_of, lies_in, number_in, same_ident};
-use office_types::{
-    Block, BlockForm, LiveMessage, Net, NumberForm, Pdu, SpnBook, TakePgn, Team, least_free,
-};
+use office_types::{Block, BlockForm, LiveMessage, Net, NumberForm, Pdu, TakePgn, least_free};
 use std::alloc::{AllocError, Global};
 
 /// Numbers that an identifier takes: of these blocks its own, if it has the form, or that of its parameter group, if
@@ -59,21 +58,15 @@ fn takers_text(alloc: Global, net: &Net, pool: Pool<'_>) -> Result<String, Alloc
 }
 
 /// That each identifier of the team's blocks of the form is live or held.
-pub(crate) fn idents_taken(
-    alloc: Global,
-    team: &Team,
-    net: &Net,
-    book: &SpnBook,
-    form: IdentForm,
-) -> Result<String, AllocError> {
-    let blocks = team_blocks(alloc, team, net, book, BlockForm::of_identifiers(form))?;
-    let ranges = ranges_text(alloc, &blocks)?;
+pub(crate) fn idents_taken(case: &Case<'_>, form: IdentForm) -> Result<String, AllocError> {
+    let blocks = team_blocks(case, BlockForm::of_identifiers(form))?;
+    let ranges = ranges_text(case.alloc, &blocks)?;
     let ranges = ranges.as_str();
-    let takers = takers_text(alloc, net, Pool::Idents(form, &blocks))?;
+    let takers = takers_text(case.alloc, case.net, Pool::Idents(form, &blocks))?;
     let takers = takers.as_str();
     let form = ident_word(form);
-    let team = shown(team.as_bytes());
-    format!(in alloc; "every number of {form} {ranges} of team {team} is taken ({takers})")
+    let team = shown(case.team.as_bytes());
+    format!(in case.alloc; "every number of {form} {ranges} of team {team} is taken ({takers})")
 }
 
 /// Whether a message goes to one address or to all, as scripts write it.
@@ -87,39 +80,29 @@ fn pdu_word(pdu: Pdu) -> &'static str
 }
 
 /// That the team's blocks have no parameter group of the form, or that each one is taken.
-pub(crate) fn groups_taken(
-    alloc: Global,
-    team: &Team,
-    net: &Net,
-    book: &SpnBook,
-    take: &TakePgn,
-) -> Result<String, AllocError> {
-    let blocks = team_blocks(alloc, team, net, book, BlockForm::Pgn)?;
+pub(crate) fn groups_taken(case: &Case<'_>, take: &TakePgn) -> Result<String, AllocError> {
+    let alloc = case.alloc;
+    let blocks = team_blocks(case, BlockForm::Pgn)?;
     let ranges = ranges_text(alloc, &blocks)?;
     let ranges = ranges.as_str();
     let word = pdu_word(take.pdu);
     let form = take.pdu.number_form();
-    let team = shown(team.as_bytes());
+    let team = shown(case.team.as_bytes());
     if least_free(&[], &blocks, form).is_none() {
         return format!(in alloc; "pgn {ranges} of team {team} has no {word} PGN");
     }
-    let takers = takers_text(alloc, net, Pool::Groups(form, &blocks))?;
+    let takers = takers_text(alloc, case.net, Pool::Groups(form, &blocks))?;
     let takers = takers.as_str();
     format!(in alloc; "every {word} PGN of pgn {ranges} of team {team} is taken ({takers})")
 }
 
 /// That each suspect parameter number of the team's blocks was used.
-pub(crate) fn spns_used(
-    alloc: Global,
-    team: &Team,
-    net: &Net,
-    book: &SpnBook,
-) -> Result<String, AllocError> {
-    let blocks = team_blocks(alloc, team, net, book, BlockForm::Spn)?;
-    let ranges = ranges_text(alloc, &blocks)?;
+pub(crate) fn spns_used(case: &Case<'_>) -> Result<String, AllocError> {
+    let blocks = team_blocks(case, BlockForm::Spn)?;
+    let ranges = ranges_text(case.alloc, &blocks)?;
     let ranges = ranges.as_str();
-    let team = shown(team.as_bytes());
-    format!(in alloc; "every number of spn {ranges} of team {team} was used")
+    let team = shown(case.team.as_bytes());
+    format!(in case.alloc; "every number of spn {ranges} of team {team} was used")
 }
 
 /// That the form has no such identifier.
@@ -152,29 +135,22 @@ fn whereabouts(
 
 /// That the wanted number is in none of the team's blocks, whose it is, and which of the team's is the nearest. `None`
 /// where the team has no block of the form.
-pub(crate) fn outside_block(
-    alloc: Global,
-    team: &Team,
-    net: &Net,
-    book: &SpnBook,
-    form: IdentForm,
-    number: u32,
-) -> Result<Option<String>, AllocError> {
+pub(crate) fn outside_block(case: &Case<'_>, form: IdentForm, number: u32) -> Told {
+    let alloc = case.alloc;
     if number > form.greatest() {
-        return Ok(Some(beyond_form(alloc, form, number)?));
+        return told(beyond_form(alloc, form, number));
     }
     let form = BlockForm::of_identifiers(form);
-    let blocks = team_blocks(alloc, team, net, book, form)?;
+    let blocks = team_blocks(case, form)?;
     let Some(nearest) = nearest(number, &blocks) else {
         return Ok(None);
     };
     let nearest = range_text(alloc, nearest)?;
     let nearest = nearest.as_str();
-    let place = whereabouts(alloc, net, form, number)?;
+    let place = whereabouts(alloc, case.net, form, number)?;
     let place = place.as_str();
-    let team = shown(team.as_bytes());
-    let text = format!(in alloc; "{place}; the nearest of team {team} is {nearest}")?;
-    Ok(Some(text))
+    let team = shown(case.team.as_bytes());
+    told(format!(in alloc; "{place}; the nearest of team {team} is {nearest}"))
 }
 
 /// That this live message of the network has the name.

@@ -5,6 +5,7 @@ ghost use Rattle.office_reasons.specs.Pieces.{IsSentence};
 
 use crate::actions::action_reason;
 use crate::bundles::bundle_reason;
+use crate::case::Told;
 use crate::files::import_reason;
 use crate::pieces::sentence_of;
 use crate::plain::plain_meaning;
@@ -19,7 +20,7 @@ fn shown_reason(
     command: &Command,
     refusal: Refusal,
     seen: &Seen<'_>,
-) -> Result<Option<String>, AllocError> {
+) -> Told {
     let net = &command.net;
     match &command.task {
         Task::Act(action) => action_reason(alloc, team, net, action, refusal, seen),

@@ -2,6 +2,7 @@
 ghost use Rattle.std.specs.Prelude.{◌≡◌, IfOk, string_bytes};
 ghost use Rattle.office_reasons.specs.Reviews.{draft_text, own_review_text, review_text, unapproved_text};
 
+use crate::case::{Case, Told, told};
 use crate::few::few_names;
 use crate::networks::limit_text;
 use crate::pieces::shown;
@@ -70,19 +71,16 @@ pub(crate) fn many_releases(alloc: Global, net: &Net) -> Result<String, AllocErr
 }
 
 /// Why a command that depends on the review is refused; `None` where the network doesn't show it.
-pub(crate) fn review_reason(
-    alloc: Global,
-    team: &Team,
-    net: &Net,
-    refusal: Refusal,
-) -> Result<Option<String>, AllocError> {
-    match (refusal, &net.head.phase) {
-        (Refusal::InReview, Phase::Review { submitter }) => {
-            Ok(Some(review_text(alloc, net, submitter)?))
-        }
-        (Refusal::NotInReview, Phase::Draft) => Ok(Some(draft_text(alloc, net)?)),
-        (Refusal::OwnReview, Phase::Review { .. }) => Ok(Some(own_review_text(alloc, net, team)?)),
-        (Refusal::NeedsMore, Phase::Review { .. }) => Ok(Some(needs_more(alloc, net)?)),
+pub(crate) fn review_reason(case: &Case<'_>) -> Told {
+    let alloc = case.alloc;
+    let net = case.net;
+    match (case.refusal, &net.head.phase) {
+        (Refusal::InReview, Phase::Review { submitter }) => told(review_text(
+            alloc, net, submitter,
+        )),
+        (Refusal::NotInReview, Phase::Draft) => told(draft_text(alloc, net)),
+        (Refusal::OwnReview, Phase::Review { .. }) => told(own_review_text(alloc, net, case.team)),
+        (Refusal::NeedsMore, Phase::Review { .. }) => told(needs_more(alloc, net)),
         _ => Ok(None),
     }
 }

@@ -5,6 +5,7 @@ ghost use Rattle.dbc_sheet.specs.Signals.{signal_is_multiplexor};
 ghost use Rattle.office_reasons.specs.Signals.{has_name_of, many_texts_text, no_signal_text, second_text};
 ghost use Rattle.office_reasons.specs.Signals.{signal_there_text, signals_text, unmultiplexed_text};
 
+use crate::case::{Told, told};
 use crate::few::{few_named, few_text};
 use crate::networks::limit_text;
 use crate::pieces::shown;
@@ -69,13 +70,9 @@ fn signal_there_text(
 }
 
 /// That the message has a signal of the name; `None` where it has none.
-pub(crate) fn signal_there(
-    alloc: Global,
-    message: &Message,
-    name: &Name,
-) -> Result<Option<String>, AllocError> {
+pub(crate) fn signal_there(alloc: Global, message: &Message, name: &Name) -> Told {
     match signal_named(message.signals.as_slice(), name) {
-        Some(signal) => Ok(Some(signal_there_text(alloc, message, signal)?)),
+        Some(signal) => told(signal_there_text(alloc, message, signal)),
         None => Ok(None),
     }
 }
@@ -91,12 +88,9 @@ fn second_text(alloc: Global, message: &Message, signal: &Signal) -> Result<Stri
 }
 
 /// That the message has a multiplexor; `None` where it has none.
-pub(crate) fn second_multiplexor(
-    alloc: Global,
-    message: &Message,
-) -> Result<Option<String>, AllocError> {
+pub(crate) fn second_multiplexor(alloc: Global, message: &Message) -> Told {
     match multiplexor(message.signals.as_slice()) {
-        Some(signal) => Ok(Some(second_text(alloc, message, signal)?)),
+        Some(signal) => told(second_text(alloc, message, signal)),
         None => Ok(None),
     }
 }

@@ -62,8 +62,7 @@ indicator (Under n) = Some (Under n)
 
 indicator_kept : (m : Mux) → unwrap_or (indicator m) Always ≡ m
 indicator_kept Always = refl
-indicator_kept Multiplexor = refl
-indicator_kept (Under n) = refl
+indicator_kept it = refl
 
 says_under : (n : ℕ) → n < 2 ^ 32 → (start end : ℕ)
     → mux_of (token_of (canon.word canon.space (109 ∷ decimal n)) start end) ≡ Some (Under n)

@@ -7,7 +7,7 @@ use Rattle.dbc_words.specs.Text.{IsText}
 use Rattle.dbc_words.specs.ValueType.{value_type_number}
 use Rattle.dbc_words.specs.declared.keyword.Keyword.TheVariants as keyword
 use Rattle.dbc_words.specs.declared.value_type.ValueType.{ValueType}
-use Rattle.dbc_words.specs.declared.value_type.ValueType.TheVariants.{Integer, Float, Double}
+use Rattle.dbc_words.specs.declared.value_type.ValueType.TheVariants.{Integer}
 use Rattle.dbc_words.proofs.Texts.{text-Decides}
 use Rattle.dbc_grammar.specs.Canon.{Line, each_signal, mark, number, space, spn_definitions, spn_lines, tight}
 use Rattle.dbc_grammar.specs.Canon.{type_lines, value_lines, with_spn_definitions}
@@ -85,8 +85,7 @@ value_texts_legible s h = each_signal_legible value_lines values_legible s h
 
 type_small : (type : ValueType) → value_type_number type < 2 ^ 32
 type_small Integer = omega arith
-type_small Float = omega arith
-type_small Double = omega arith
+type_small it = omega arith
 
 type_legible : (m : Message) (s : Signal) → IsMessage m → IsSignal s → AreLegibleLines (type_lines m s)
 type_legible m s h k =

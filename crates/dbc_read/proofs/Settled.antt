@@ -198,9 +198,7 @@ attached_index : (all : List dbc.Statement) (cited : CitedSignal) (a : Attachmen
     → IsSignalIn (messages_of all) cited.number cited.name.now index
     → IsCitedIndex all (content_of (attaching cited a)) index
 attached_index all cited (what.Comment text) index h = h
-attached_index all cited (what.Values texts) index h = h
-attached_index all cited (what.Type value_type) index h = h
-attached_index all cited (what.Spn spn) index h = h
+attached_index all cited w index h = h
 
 pub attached_settled : (f : Finders) (s : Statement) (cited : CitedSignal) (a : Attachment)
     (lines new_lines : List MessageLine) (old now : Gathered) (passed : List Passed)

@@ -74,9 +74,7 @@ module _ (f : Signal → Signal) (now : MessageLine) (d : MessageLine) where
 -- what is attached is no part of what the message's own statement says of the signal
 pub attached_leaves : (a : Attachment) (s : Signal) → signal_of (with_attachment a s) ≡ signal_of s
 attached_leaves (what.Comment text) s = refl
-attached_leaves (what.Values texts) s = refl
-attached_leaves (what.Type value_type) s = refl
-attached_leaves (what.Spn spn) s = refl
+attached_leaves w s = refl
 
 pub message_within : (lines : List MessageLine) (i j : ℕ) → HasSignal lines i j → i < length lines
 message_within [] i j h = absurd h

@@ -1,5 +1,5 @@
 -- No answer has a number with a fraction.
-use Rattle.std.proofs.Common.{◌≡◌, ◌||◌, ◌∙◌, Bool, false, List, [], ◌∷◌, map, refl, ap}
+use Rattle.std.proofs.Common.{◌≡◌, ◌||◌, ◌∙◌, false, List, [], ◌∷◌, map, refl, ap}
 use Rattle.serde_json.specs.View.{items_of}
 use Rattle.serde_json.specs.Written.{has_float, items_have_float}
 use Rattle.office_types.specs.declared.refusal.Refusal.{Refusal}
@@ -9,13 +9,11 @@ use Rattle.office_types.specs.declared.reply.PartReply.TheVariants as part
 use Rattle.office_types.specs.declared.reply.Reply.TheVariants.{Done, Number, Start, Counts, Release, Refused, Bundle}
 use Rattle.office_history.specs.declared.arrival.Answer.{Answer}
 use Rattle.office_history.specs.declared.arrival.Answer.TheVariants as answer
-use Rattle.desk_reply.specs.Reply.{answer_data, part_data, parts_data, refusal_data}
+use Rattle.desk_reply.specs.Reply.{answer_data, part_data, refusal_data}
 
 part_float : (p : PartReply) → has_float (part_data p) ≡ false
 part_float part.Done = refl
-part_float (part.Number n) = refl
-part_float (part.Start n) = refl
-part_float (part.Release n) = refl
+part_float p = refl
 
 parts_float : (ps : List PartReply) → items_have_float (items_of (map part_data ps)) ≡ false
 parts_float [] = refl

@@ -57,13 +57,9 @@ attribute_read (with.Columns count) opened =
     (decimal_read value value_text opened count) refl)
 attribute_read (with.Flex share) opened =
     valued_read (codes " style=\"flex:") (decimal share) number opened refl (number_read share opened) refl
-attribute_read with.Scrolls opened = refl
-attribute_read with.Open opened = refl
-attribute_read with.English opened = refl
-attribute_read with.Utf8 opened = refl
-attribute_read with.Policy opened = refl
 attribute_read (with.Name name) opened = text_read (codes " name=\"") name.now opened refl
 attribute_read (with.Content bytes) opened = text_read (codes " content=\"") bytes.now opened refl
+attribute_read w opened = refl
 
 attributes_read : (more : List Attribute) (opened : List (List ℕ))
     → read (at tagged opened) (flat_map attribute_html more) ≡ at tagged opened
@@ -89,20 +85,8 @@ if_space true v h = inl refl
 if_space false v h = h
 
 after_space : (a : Attribute) → StartsWithSpace (attribute_html a)
-after_space (with.Class classes) = inr refl
-after_space (with.Id pieces) = inr refl
-after_space (with.ToPart pieces) = inr refl
-after_space (with.Title pieces) = inr refl
-after_space (with.Label pieces) = inr refl
 after_space (with.Columns count) = if_space (count == 1) (valued (codes " colspan=\"") (decimal count)) (inr refl)
-after_space (with.Flex share) = inr refl
-after_space with.Scrolls = inr refl
-after_space with.Open = inr refl
-after_space with.English = inr refl
-after_space with.Utf8 = inr refl
-after_space with.Policy = inr refl
-after_space (with.Name name) = inr refl
-after_space (with.Content bytes) = inr refl
+after_space w = inr refl
 
 -- the bytes are read after the name as after its tag's space
 abbrev AreRead : List ℕ → List (List ℕ) → List ℕ → Type 0

@@ -3,13 +3,13 @@ use Rattle.std.proofs.Common.{◌≡◌, ℕ, ◌+◌, ◌-◌, ◌&&◌, List, 
 use Rattle.std.specs.List.{flat_map}
 use Rattle.columns.specs.Run.{runs_of}
 use Rattle.columns.specs.declared.run.Run.{Run}
-use Rattle.office_types.specs.Block.{Range}
+use Rattle.office_types.specs.Block.{Range, block_word}
 use Rattle.office_types.specs.Free.{has_form, is_taken}
 use Rattle.office_types.specs.declared.block.BlockForm.{BlockForm}
 use Rattle.office_types.specs.declared.free.NumberForm.{NumberForm}
 use Rattle.office_types.specs.declared.state.GrantedBlock.{GrantedBlock}
 use Rattle.office_seen.specs.declared.view.View.{View}
-use Rattle.office_blocks.specs.Blocks.{block_row, form_word, forms_in, free_count, free_numbers, free_runs, held_count}
+use Rattle.office_blocks.specs.Blocks.{block_row, forms_in, free_count, free_numbers, free_runs, held_count}
 use Rattle.office_blocks.specs.Blocks.{live_count, live_numbers, row_with, runs_in, step_of, taken_numbers}
 use Rattle.office_blocks.specs.Numbers.{AreNumbersOf, AreOf, of_form}
 use Rattle.office_blocks.specs.declared.numbers.FormNumbers.{FormNumbers}
@@ -49,7 +49,7 @@ module _ (live taken : List ℕ) (numbers : FormNumbers) (are : AreOf live taken
   row_same g =
       let b = g.block in
       let row : ℕ → ℕ → ℕ → List Run → List Fact =
-      λ l h f rs. of_name (form_word b.form) ∷ of_number b.first ∷ of_number b.last ∷ of_word g.team
+      λ l h f rs. of_name (block_word b.form) ∷ of_number b.first ∷ of_number b.last ∷ of_word g.team
       ∷ of_number l ∷ of_number h ∷ of_number f ∷ of_free rs ∷ [] in
       ap (λ l. row l (held_count numbers.live numbers.taken b) (free_count numbers.taken b) (free_runs numbers.taken b))
       (live_same b)

@@ -1,9 +1,9 @@
 -- Suspect parameter numbers that first arrivals are given.
 use Rattle.std.proofs.Common.{◌≡◌, ◌≢◌, ◌∙◌, ℕ, zero, suc, Bool, true, false, List, ◌++◌, [], ◌∷◌, map, All, Contains}
-use Rattle.std.proofs.Common.{Option, Some, None, refl, sym, ap, subst, arith, cond, inl, inr}
+use Rattle.std.proofs.Common.{Option, Some, None, refl, sym, subst, arith}
 use Rattle.std.specs.Prelude.{AllPairs, is_none, if◌then◌else◌}
 use Rattle.std.specs.List.{flat_map}
-use Rattle.std.proofs.lemmas.Bool.{cases_Bool, false≢true}
+use Rattle.std.proofs.lemmas.Bool.{false≢true}
 use Rattle.std.proofs.lemmas.List.Elements.{All-append, All-cons, All-head, All-nil, All-tail, All-weaker}
 use Rattle.std.proofs.lemmas.List.Kept.{AllPairs-cons}
 use Rattle.office_types.specs.declared.book.SpnBook.{SpnBook}
@@ -16,12 +16,10 @@ use Rattle.office_types.specs.declared.command.Task.TheVariants.{Act, Import, Bu
 use Rattle.office_types.specs.declared.command.TakeSpn.{TakeSpn}
 use Rattle.office_types.specs.declared.reply.PartReply.{PartReply}
 use Rattle.office_types.specs.declared.reply.Reply.{Reply}
-use Rattle.office_types.specs.declared.reply.Reply.TheVariants.{Counts, Done, Number, Refused, Release, Start}
-use Rattle.office_types.specs.declared.reply.Reply.TheVariants.{Bundle as Bundled}
+use Rattle.office_types.specs.declared.reply.Reply.TheVariants.{Number, Refused, Bundle as Bundled}
 use Rattle.office_types.specs.declared.state.Net.{Net}
 use Rattle.office_types.specs.declared.state.Office.{Office}
 use Rattle.office_rules.specs.Commands.{acted}
-use Rattle.office_rules.specs.Importing.{FileReading}
 use Rattle.office_rules.specs.Outcome.{Outcome, Refusing, Changing, entered, reply_of}
 use Rattle.office_rules.specs.Signals.{take_spn}
 use Rattle.office_rules.specs.Profile.{Profile}
@@ -169,12 +167,7 @@ by_action : (profile : Profile) (o after : Office) (team name : List ℕ) (a : A
     → Step profile o team (command_of name a) r after → AreNew o.book.used after.book.used (action_spns a r)
 by_action profile o after team name a (Number n) step =
     by_command profile o after team name a n (wants_new_spn a) refl step
-by_action profile o after team name a Done step = none_new o.book.used after.book.used
-by_action profile o after team name a (Start s) step = none_new o.book.used after.book.used
-by_action profile o after team name a (Counts new same) step = none_new o.book.used after.book.used
-by_action profile o after team name a (Release k) step = none_new o.book.used after.book.used
-by_action profile o after team name a (Refused q) step = none_new o.book.used after.book.used
-by_action profile o after team name a (Bundled reported) step = none_new o.book.used after.book.used
+by_action profile o after team name a it step = none_new o.book.used after.book.used
 
 run_used : (qs : List TeamCommand) (rs : List Reply) (o after : Office) → Run o qs rs after
     → Stays o.book.used after.book.used
@@ -202,12 +195,7 @@ by_bundle : (profile : Profile) (o after : Office) (team name : List ℕ) (parts
 by_bundle profile o after team name parts (Bundled reported) sorted step =
     by_parts profile team name parts reported o after
     (bundles_run_their_parts.done profile o after team name parts reported sorted step)
-by_bundle profile o after team name parts Done sorted step = none_new o.book.used after.book.used
-by_bundle profile o after team name parts (Number n) sorted step = none_new o.book.used after.book.used
-by_bundle profile o after team name parts (Start s) sorted step = none_new o.book.used after.book.used
-by_bundle profile o after team name parts (Counts new same) sorted step = none_new o.book.used after.book.used
-by_bundle profile o after team name parts (Release k) sorted step = none_new o.book.used after.book.used
-by_bundle profile o after team name parts (Refused q) sorted step = none_new o.book.used after.book.used
+by_bundle profile o after team name parts it sorted step = none_new o.book.used after.book.used
 
 by_task : (profile : Profile) (o after : Office) (team name : List ℕ) (t : Task) (r : Reply) → AreInOrder o
     → Step profile o team (record { net = name; task = t }) r after → AreNew o.book.used after.book.used (task_spns t r)

@@ -77,10 +77,8 @@ module _ (team name : List ℕ) (book : SpnBook) (net : Net) where
   block_taken c b e h = ap (λ t. cond t (is_spn_granted book c.block) (is_granted net c.block)) (sym e) ∙ h
 
   spn_form : (f : BlockForm) → is_spn f ≡ true → f ≡ block.Spn
-  spn_form block.Std h = absurd (false≢true h)
-  spn_form block.Ext h = absurd (false≢true h)
-  spn_form block.Pgn h = absurd (false≢true h)
   spn_form block.Spn h = refl
+  spn_form b h = absurd (false≢true h)
 
   groups_allotted : (a b : Bool) → (a && not b) ≡ false → a ≡ true → b ≡ true
   groups_allotted true true h e = refl

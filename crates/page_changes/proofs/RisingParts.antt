@@ -34,15 +34,11 @@ kept parts = filter is_of_message parts
 
 order_of_message : (p : Place) → place_is_in_message p ≡ true → order_at p ≡ number_at p + 1
 order_of_message (place.Message a b) e = refl
-order_of_message place.Sheet e = absurd (false≢true e)
-order_of_message place.Nodes e = absurd (false≢true e)
-order_of_message place.Tables e = absurd (false≢true e)
+order_of_message p e = absurd (false≢true e)
 
 order_elsewhere : (p : Place) → place_is_in_message p ≡ false → order_at p ≡ 0
 order_elsewhere (place.Message a b) e = absurd (false≢true (sym e))
-order_elsewhere place.Sheet e = refl
-order_elsewhere place.Nodes e = refl
-order_elsewhere place.Tables e = refl
+order_elsewhere p e = refl
 
 -- both in one message: then both are in a message, of one number
 same_message : (p q : Place) → are_one_message p q ≡ true
@@ -52,9 +48,7 @@ same_message (place.Message a b) (place.Message c d) e =
 same_message (place.Message a b) place.Sheet e = absurd (false≢true e)
 same_message (place.Message a b) place.Nodes e = absurd (false≢true e)
 same_message (place.Message a b) place.Tables e = absurd (false≢true e)
-same_message place.Sheet q e = absurd (false≢true e)
-same_message place.Nodes q e = absurd (false≢true e)
-same_message place.Tables q e = absurd (false≢true e)
+same_message p q e = absurd (false≢true e)
 
 -- of two messages that aren't one the numbers differ
 other_message : (p q : Place) → place_is_in_message p ≡ true → place_is_in_message q ≡ true
@@ -64,9 +58,7 @@ other_message (place.Message a b) (place.Message c d) x y e same =
 other_message (place.Message a b) place.Sheet x y e same = false≢true y
 other_message (place.Message a b) place.Nodes x y e same = false≢true y
 other_message (place.Message a b) place.Tables x y e same = false≢true y
-other_message place.Sheet q x y e same = false≢true x
-other_message place.Nodes q x y e same = false≢true x
-other_message place.Tables q x y e same = false≢true x
+other_message p q x y e same = false≢true x
 
 module _ (least : ℕ) (x : Difference) (le : least ≤ order_at x.place) where
   -- x alone, before parts that rise from its place in the order

@@ -58,11 +58,9 @@ formed team kind g h =
 -- a block that isn't of parameter groups has no numbers of another form
 pub one_form : (blocks : BlockForm) (kind : NumberForm) → blocks ≡ block_form kind → is_group kind ≡ false
     → forms_in blocks ≡ kind ∷ []
-one_form blocks number.Std e h = ap forms_in e
-one_form blocks number.Ext e h = ap forms_in e
 one_form blocks number.Pdu1 e h = absurd (false≢true (sym h))
 one_form blocks number.Pdu2 e h = absurd (false≢true (sym h))
-one_form blocks number.Spn e h = ap forms_in e
+one_form blocks n e h = ap forms_in e
 
 pub whole_count : (taken : List ℕ) (b : Range) (kind : NumberForm) → forms_in b.form ≡ kind ∷ []
     → free_count taken b ≡ length (free_numbers taken b kind)
@@ -71,11 +69,9 @@ whole_count taken b kind one =
     ∙ ap length (append-nil (free_numbers taken b kind))
 
 whole_step : (kind : NumberForm) → is_group kind ≡ false → step_of kind ≡ 1
-whole_step number.Std h = refl
-whole_step number.Ext h = refl
 whole_step number.Pdu1 h = absurd (false≢true (sym h))
 whole_step number.Pdu2 h = absurd (false≢true (sym h))
-whole_step number.Spn h = refl
+whole_step n h = refl
 
 pub whole_runs : (taken : List ℕ) (b : Range) (kind : NumberForm) → forms_in b.form ≡ kind ∷ [] → is_group kind ≡ false
     → free_runs taken b ≡ runs_of 1 (free_numbers taken b kind)
@@ -87,9 +83,7 @@ whole_runs taken b kind one whole =
 
 few_of_form : (f : BlockForm) → greatest_of f ≤ 2 ^ 32
 few_of_form form.Std = omega arith
-few_of_form form.Ext = omega arith
-few_of_form form.Pgn = omega arith
-few_of_form form.Spn = omega arith
+few_of_form f = omega arith
 
 few_numbers : (b : Range) → IsRange b → length (numbers_in b) ≤ 2 ^ 33
 few_numbers b range =

@@ -15,7 +15,7 @@ use Rattle.page_numbers.specs.declared.cells.Cell.{Cell}
 use Rattle.page_numbers.specs.declared.cells.Cell.TheVariants.{Live, Held, Free, Nobody}
 use Rattle.office_types.specs.declared.state.GrantedBlock.{GrantedBlock}
 use Rattle.page_numbers.specs.declared.charts.Chart.{Chart}
-use Rattle.page_numbers.specs.declared.charts.Chart.TheVariants.{Standard, Broadcast, Addressed, Extended}
+use Rattle.page_numbers.specs.declared.charts.Chart.TheVariants.{Standard}
 use Rattle.page_numbers.proofs.Pieces.{pieces_weaker}
 
 -- ---- the cell that a number has, and what is to say of the number
@@ -75,9 +75,7 @@ module _ (chart : Chart) (facts : Facts) (held : List ℕ) (same : HaveSame fact
 pub in_row : (chart : Chart) (row column : ℕ)
     → (number_in chart row 0 ≤ number_in chart row column) × (number_in chart row column ≤ number_in chart row 15)
 in_row Standard row column = (omega arith, omega arith)
-in_row Broadcast row column = (omega arith, omega arith)
-in_row Addressed row column = (omega arith, omega arith)
-in_row Extended row column = (omega arith, omega arith)
+in_row it row column = (omega arith, omega arith)
 
 pub cell_near : (chart : Chart) (facts : Facts) (near : List GrantedBlock) (n : ℕ) (b : List ℕ)
     → team_at near facts.form n ≡ team_at facts.blocks facts.form n

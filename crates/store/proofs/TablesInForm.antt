@@ -65,22 +65,16 @@ rows_not_all s found rows known (inr analyzed) = let every = known Analyzed (λ 
 
 pub known_form : (p : Profile) (form : SchemaForm) (h : List Answered) (db : Trees) → KeepsAs p form h db
     → form ≢ Foreign
-known_form p Bodies h db keeps foreign = cc
-known_form p Rows h db keeps foreign = cc
-known_form p All h db keeps foreign = cc
-known_form p Analyzed h db keeps foreign = cc
 known_form One Foreign h db keeps foreign = keeps.holds
 known_form Two Foreign h db keeps foreign = keeps.holds
+known_form p it h db keeps foreign = cc
 
 -- the rows of the profile are in the first table, whatever the form
 profile_same : (form : SchemaForm) → form ≢ Foreign → (db : Trees)
     → (tables_in (schema_of form) db).profile ≡ (tables_of db).profile
 unfolding schema_9 schema_13 office_schema analyzed_schema
-profile_same Bodies known db = refl
-profile_same Rows known db = refl
-profile_same All known db = refl
-profile_same Analyzed known db = refl
 profile_same Foreign known db = absurd (known refl)
+profile_same it known db = refl
 
 -- ---- what a connection holds
 
@@ -374,10 +368,8 @@ pub first_of_form : (form : SchemaForm) (t : Tables) (m : ProfileRows) → form 
     → HasProfileRows t m
     → HasProfileRowsOf form t
 first_of_form Bodies t m known first has = subst (HasProfileRows t) first has
-first_of_form Rows t m known first has = inl (subst (HasProfileRows t) first has)
-first_of_form All t m known first has = inl (subst (HasProfileRows t) first has)
-first_of_form Analyzed t m known first has = inl (subst (HasProfileRows t) first has)
 first_of_form Foreign t m known first has = absurd (known refl)
+first_of_form it t m known first has = inl (subst (HasProfileRows t) first has)
 
 on_any : {Y X : Type 0} (r : Result Y Lost) → X → OnOk r X
 on_any (Ok y) it = it

@@ -11,10 +11,8 @@ use Rattle.dbc_sheet.specs.declared.signal.Signal.{Signal}
 use Rattle.dbc_sheet.specs.declared.value_texts.ValueText.{ValueText}
 use Rattle.office_types.specs.Block.{is_spn}
 use Rattle.office_types.specs.declared.change.Change.{Change}
-use Rattle.office_types.specs.declared.change.Change.TheVariants.{SetHead, SetMessage, RemoveMessage, AddSignal}
-use Rattle.office_types.specs.declared.change.Change.TheVariants.{RemoveSignal, SetSpn, SetValues, SetBlock}
-use Rattle.office_types.specs.declared.change.Change.TheVariants.{SetSpnBlock, Hold, EnterSpn, SetApproval}
-use Rattle.office_types.specs.declared.change.Change.TheVariants.{ClearApprovals, AddRelease}
+use Rattle.office_types.specs.declared.change.Change.TheVariants.{SetMessage, AddSignal, RemoveSignal, SetSpn}
+use Rattle.office_types.specs.declared.change.Change.TheVariants.{SetValues, SetBlock, AddRelease}
 use Rattle.office_types.specs.declared.command.SignalPath.{SignalPath}
 use Rattle.office_types.specs.declared.state.GrantedBlock.{GrantedBlock}
 use Rattle.office_types.specs.declared.state.LiveMessage.{LiveMessage}
@@ -148,20 +146,8 @@ added_release r name change s number n t t2 is some =
 
 -- the first change has own blocks alone, and so do the others
 pub own_parts : (c : Change) (cs : List Change) → HaveOwnBlocks (c ∷ cs) → HaveOwnBlocks (c ∷ []) × HaveOwnBlocks cs
-own_parts (SetHead h) cs own = (tt, own)
-own_parts (SetMessage m) cs own = (tt, own)
-own_parts (RemoveMessage i) cs own = (tt, own)
-own_parts (AddSignal message s) cs own = (tt, own)
-own_parts (RemoveSignal path) cs own = (tt, own)
-own_parts (SetSpn path n) cs own = (tt, own)
-own_parts (SetValues path values) cs own = (tt, own)
 own_parts (SetBlock g) cs own = ((own.0, tt), own.1)
-own_parts (SetSpnBlock b) cs own = (tt, own)
-own_parts (Hold i) cs own = (tt, own)
-own_parts (EnterSpn n) cs own = (tt, own)
-own_parts (SetApproval team) cs own = (tt, own)
-own_parts ClearApprovals cs own = (tt, own)
-own_parts (AddRelease s) cs own = (tt, own)
+own_parts it cs own = (tt, own)
 
 -- ---- changes, one after the other
 

@@ -15,7 +15,7 @@ use Rattle.std.proofs.lemmas.Map.Keys.{IsDistinct-IsPermutation, apart_from_dist
 use Rattle.std.proofs.lemmas.List.Sorted.{IsPermutation-map, IsPermutation-sym, IsPermutation-trans}
 use Rattle.std.proofs.lemmas.Slice.Eq.{bytes_eq-Decides}
 use Rattle.sqlite.specs.declared.types.Value.{Value}
-use Rattle.sqlite.specs.declared.types.Value.TheVariants.{Null, Int, Real, Text, Blob}
+use Rattle.sqlite.specs.declared.types.Value.TheVariants.{Text}
 use Rattle.sqlite.specs.Order.{Row, column, value_cmp}
 use Rattle.sqlite_value.proofs.OrderLemmas.{value_cmp-Text}
 use Rattle.base.specs.Keyed.{text_cmp}
@@ -111,10 +111,7 @@ HasKey key row = column row 1 ≡ Text key
 
 abbrev text_in : Value → List ℕ
 text_in (Text text) = text
-text_in Null = []
-text_in (Int n) = []
-text_in (Real x) = []
-text_in (Blob bytes) = []
+text_in it = []
 
 abbrev key_in : Row → List ℕ
 key_in row = text_in (column row 1)

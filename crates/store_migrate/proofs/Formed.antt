@@ -76,31 +76,23 @@ counted Foreign schema n k same tables indexes = tt
 -- the form that is none is excluded, and each number of tables is that of one
 pub bodies_counted : (form : SchemaForm) (n k : ℕ) → n ≡ 9 → form ≢ Foreign → HasCounts n k form → Bodies ≡ form
 bodies_counted Bodies n k is other has = refl
-bodies_counted Rows n k is other has = absurd (omega (arith, is, has.0))
-bodies_counted All n k is other has = absurd (omega (arith, is, has.0))
-bodies_counted Analyzed n k is other has = absurd (omega (arith, is, has.0))
 bodies_counted Foreign n k is other has = absurd (other refl)
+bodies_counted it n k is other has = absurd (omega (arith, is, has.0))
 
 pub rows_counted : (form : SchemaForm) (n k : ℕ) → n ≡ 13 → form ≢ Foreign → HasCounts n k form → Rows ≡ form
-rows_counted Bodies n k is other has = absurd (omega (arith, is, has.0))
 rows_counted Rows n k is other has = refl
-rows_counted All n k is other has = absurd (omega (arith, is, has.0))
-rows_counted Analyzed n k is other has = absurd (omega (arith, is, has.0))
 rows_counted Foreign n k is other has = absurd (other refl)
+rows_counted it n k is other has = absurd (omega (arith, is, has.0))
 
 pub all_counted : (form : SchemaForm) (n k : ℕ) → n ≡ 14 → form ≢ Foreign → HasCounts n k form → All ≡ form
-all_counted Bodies n k is other has = absurd (omega (arith, is, has.0))
-all_counted Rows n k is other has = absurd (omega (arith, is, has.0))
 all_counted All n k is other has = refl
-all_counted Analyzed n k is other has = absurd (omega (arith, is, has.0))
 all_counted Foreign n k is other has = absurd (other refl)
+all_counted it n k is other has = absurd (omega (arith, is, has.0))
 
 pub analyzed_counted : (form : SchemaForm) (n k : ℕ) → n ≡ 15 → form ≢ Foreign → HasCounts n k form → Analyzed ≡ form
-analyzed_counted Bodies n k is other has = absurd (omega (arith, is, has.0))
-analyzed_counted Rows n k is other has = absurd (omega (arith, is, has.0))
-analyzed_counted All n k is other has = absurd (omega (arith, is, has.0))
 analyzed_counted Analyzed n k is other has = refl
 analyzed_counted Foreign n k is other has = absurd (other refl)
+analyzed_counted it n k is other has = absurd (omega (arith, is, has.0))
 
 -- so each pair of counts that is no form's
 pub none_counted : (form : SchemaForm) (n k : ℕ) → ((n ≡ 9) × (k ≡ 8) → ⊥) → ((n ≡ 13) × (k ≡ 14) → ⊥)

@@ -22,7 +22,7 @@ use Rattle.store_migrate.specs.Forms.{body_marks, row_marks}
 use Rattle.store_migrate.specs.InForm.{HoldsAs}
 use Rattle.store_migrate.specs.ProfileRows.{HasProfileRows, IsKnownProfileRow}
 use Rattle.store_migrate.specs.declared.forms.SchemaForm.{SchemaForm}
-use Rattle.store_migrate.specs.declared.forms.SchemaForm.TheVariants.{All, Analyzed, Bodies, Foreign, Rows}
+use Rattle.store_migrate.specs.declared.forms.SchemaForm.TheVariants.{Bodies, Foreign}
 use Rattle.store_migrate.specs.declared.profile_rows.ProfileRows.TheVariants as marks
 
 -- the number in a row's second column
@@ -94,13 +94,9 @@ pub not_second : (form : SchemaForm) (h : List Answered) (t u : Tables) → t.pr
     → HasProfileRows u marks.Second → ⊥
 not_second Bodies h t u same holds has =
     second_is_not u 1 (ap (λ l. total (filter is_any l)) (sym same ∙ holds.holds.profile)) (omega arith) has
-not_second Rows h t u same holds has =
-    second_is_not u 3 (ap (λ l. total (filter is_any l)) (sym same ∙ holds.holds.profile)) (omega arith) has
-not_second All h t u same holds has =
-    second_is_not u 3 (ap (λ l. total (filter is_any l)) (sym same ∙ holds.holds.profile)) (omega arith) has
-not_second Analyzed h t u same holds has =
-    second_is_not u 3 (ap (λ l. total (filter is_any l)) (sym same ∙ holds.holds.profile)) (omega arith) has
 not_second Foreign h t u same holds has = holds
+not_second it h t u same holds has =
+    second_is_not u 3 (ap (λ l. total (filter is_any l)) (sym same ∙ holds.holds.profile)) (omega arith) has
 
 second_sorted : IsSorted profile_order (row_marks Two)
 second_sorted zero d low high = ap is_lt (int_test 2 1)
@@ -122,7 +118,5 @@ says_second t same = (
 pub is_second : (form : SchemaForm) (h : List Answered) (t u : Tables) → t.profile ≡ u.profile → HoldsAs Two form h t
     → HasProfileRows u marks.Second
 is_second Bodies h t u same holds = absurd holds
-is_second Rows h t u same holds = says_second u (sym same ∙ holds.holds.profile)
-is_second All h t u same holds = says_second u (sym same ∙ holds.holds.profile)
-is_second Analyzed h t u same holds = says_second u (sym same ∙ holds.holds.profile)
 is_second Foreign h t u same holds = absurd holds
+is_second it h t u same holds = says_second u (sym same ∙ holds.holds.profile)

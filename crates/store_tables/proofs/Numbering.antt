@@ -7,7 +7,7 @@ use Rattle.std.specs.Ordering.{int_cmp}
 use Rattle.std.specs.Cmp.{int_cmp_is}
 use Rattle.std.specs.declared.cmp.Ordering.TheVariants.{Less}
 use Rattle.sqlite.specs.declared.types.Value.{Value}
-use Rattle.sqlite.specs.declared.types.Value.TheVariants.{Null, Int, Real, Text, Blob}
+use Rattle.sqlite.specs.declared.types.Value.TheVariants.{Int}
 use Rattle.sqlite.specs.Order.{Row, value_cmp}
 use Rattle.sqlite.specs.Tree.{rowid, put_row}
 use Rattle.sqlite.specs.Edit.{id_in, next_rowid}
@@ -21,11 +21,8 @@ put_last new [] below = refl
 put_last new (r ∷ rows) below = rw (below.0, put_last new rows below.1)
 
 pub int_is : (v : Value) → IsTrue (is_int v) → v ≡ Int (id_in v)
-int_is Null h = absurd (cc)
 int_is (Int n) h = refl
-int_is (Real x) h = absurd (cc)
-int_is (Text t) h = absurd (cc)
-int_is (Blob b) h = absurd (cc)
+int_is it h = absurd (cc)
 
 one_more : (n : ℤ) → int_cmp n (n +ℤ pos 1) ≡ Less
 one_more n = sym (int_cmp_is n (n +ℤ pos 1) Less (omega (arith, ints)))

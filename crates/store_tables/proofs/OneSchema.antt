@@ -4,7 +4,7 @@ use Rattle.std.proofs.Common.{filter, refl, sym, ap, subst, ◌∙◌, arith}
 use Rattle.std.specs.Prelude.{MatchBool, bytes_eq}
 use Rattle.std.specs.List.{AllZip}
 use Rattle.sqlite_value.specs.declared.value.Value.{Value}
-use Rattle.sqlite_value.specs.declared.value.Value.TheVariants.{Null, Int, Real, Text, Blob}
+use Rattle.sqlite_value.specs.declared.value.Value.TheVariants.{Null, Int, Text}
 use Rattle.sqlite_value.specs.Order.{Row, column}
 use Rattle.sqlite_trees.specs.Tree.{Trees}
 use Rattle.sqlite_trees.specs.Objects.{catalog_tree}
@@ -49,13 +49,11 @@ defined_once t i j Null name tree h k =
     let key : h.1 ≡ k.1 = let a = h.2 in let b = k.2 in cc in
     h.3 ∙ ap (λ n. automatic t n h.1 i.tree) at ∙ ap (λ l. automatic t k.0 l i.tree) key ∙ ap (automatic t k.0 k.1) tree
     ∙ sym k.3
-defined_once t i j (Int n) name tree h k = absurd h
-defined_once t i j (Real x) name tree h k = absurd h
 defined_once t i j (Text sql) name tree h k =
     let made : h.0 ≡ k.0 = let a = h.1 in let b = k.1 in cc in
     h.2 ∙ ap (λ (m : Index). record m { tree = i.tree; table = t.tree }) made
     ∙ ap (λ n. record k.0 { tree = n; table = t.tree }) tree ∙ sym k.2
-defined_once t i j (Blob b) name tree h k = absurd h
+defined_once t i j it name tree h k = absurd h
 
 pub index_once : (schema : Schema) (objects : List Row) → AreListed objects schema → (row : Row) (i j : Index)
     → IsIndexRow schema.tables row i → IsIndexRow schema.tables row j → i ≡ j

@@ -1,17 +1,16 @@
 -- What a SELECT from one table answers.
 use Rattle.std.proofs.Common.{◌≡◌, inl, inr, ℕ, ◌+◌, ◌<◌, ℤ, pos, negsuc, List, [], ◌∷◌, map, length, get_or, Bool}
 use Rattle.std.proofs.Common.{false, true, cond, Some, None, refl, sym, ap, subst, ◌∙◌, arith}
-use Rattle.std.specs.Prelude.{filter, IsPermutation, IsSorted, flat_map}
+use Rattle.std.specs.Prelude.{filter, IsPermutation, IsSorted, flat_map, ◌&&◌}
 use Rattle.std.specs.List.{list_all, swap}
 use Rattle.std.specs.List.Sorted.{IsSortedBy, apply_swaps, SwapsInRange}
 use Rattle.std.proofs.Math.ListN.{get_or-map, set}
 use Rattle.std.proofs.lemmas.List.{map-set, length-map, get_or-map as map_at}
-use Rattle.std.specs.Prelude.{◌&&◌}
 use Rattle.std.specs.Ordering.{is_lt, is_eq}
 use Rattle.std.proofs.lemmas.Bool.{cases_Bool}
 use Rattle.std.proofs.lemmas.List.Sorted.{IsPermutation-map}
 use Rattle.sqlite.specs.declared.types.Value.{Value}
-use Rattle.sqlite.specs.declared.types.Value.TheVariants.{Null, Int, Real, Text, Blob}
+use Rattle.sqlite.specs.declared.types.Value.TheVariants.{Null, Int, Text}
 use Rattle.sqlite_value.specs.declared.keys.Key.{Key}
 use Rattle.sqlite.specs.Order.{Row, value_cmp}
 use Rattle.sqlite.specs.Tree.{Trees}
@@ -132,18 +131,12 @@ pub holds_text : (v : Value) (t : List ℕ) → is_true (binary (Compare Eq Bina
     ≡ is_eq (value_cmp v (Text t))
 unfolding binary
 holds_text Null t = rw (value_cmp-Null (Text t))
-holds_text (Int n) t = truth_of _
-holds_text (Real x) t = truth_of _
-holds_text (Text s) t = truth_of _
-holds_text (Blob b) t = truth_of _
+holds_text it t = truth_of _
 
 pub holds_int : (v : Value) (n : ℤ) → is_true (binary (Compare Eq Binary) v (Int n)) ≡ is_eq (value_cmp v (Int n))
 unfolding binary
 holds_int Null n = rw (value_cmp-Null (Int n))
-holds_int (Int m) n = truth_of _
-holds_int (Real x) n = truth_of _
-holds_int (Text s) n = truth_of _
-holds_int (Blob b) n = truth_of _
+holds_int it n = truth_of _
 
 pub and_true : (b : Bool) → (b && true) ≡ b
 and_true true = refl

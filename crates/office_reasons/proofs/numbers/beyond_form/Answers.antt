@@ -7,8 +7,8 @@ use Rattle.office_reasons.proofs.numbers.beyond_form.Goals as goal
 pub returns : goal.returns
 returns c =
     let number = c.args.number in
-    let written = codes "want=" ++ (decimal number ++ (codes " is no " ++ (c.ident_word-word.result.now
+    let written = codes "want=" ++ (decimal number ++ (codes " is no " ++ (c.word-word.result.now
     ++ (codes " identifier: these are 0 to " ++ decimal c.greatest-greatest.result)))) in
     let text : written ≡ beyond_form_text c.args.form number =
-    rw (c.ident_word-word.ensures, c.greatest-greatest.ensures) refl in
+    rw (c.word-word.ensures, c.greatest-greatest.ensures) refl in
     IfOk-weaker c.format.result (λ s. string_bytes s ≡ written) _ (λ s wrote. wrote ∙ text) c.format.ensures.ok

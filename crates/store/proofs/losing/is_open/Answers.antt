@@ -7,7 +7,7 @@ use Rattle.sqlite.specs.declared.error.Error.{Error}
 use Rattle.sqlite.specs.declared.error.Error.TheVariants.{SqlInputError}
 use Rattle.sqlite_resolve.specs.declared.error.CompileError.{CompileError}
 use Rattle.sqlite_trees.specs.declared.error.StoreError.{StoreError}
-use Rattle.sqlite_trees.specs.declared.error.StoreError.TheVariants.{OutOfMemory, Io, Corrupt, Full, Broken, Unstorable}
+use Rattle.sqlite_trees.specs.declared.error.StoreError.TheVariants.{OutOfMemory}
 use Rattle.store_tables.proofs.Keeping.{not_run_keeps, unchanged_keeps}
 use Rattle.store.proofs.losing.is_open.Goals as goal
 
@@ -21,11 +21,7 @@ prepared_keeps Says sql old new (Err e) ok err = not_run_keeps sql [] old new e 
 -- no failure of the store is that a text is no statement
 no_failure : (cause : StoreError) (fault : CompileError) → SqlInputError fault ≡ store_error cause → ⊥
 no_failure OutOfMemory fault same = cc
-no_failure Io fault same = cc
-no_failure Corrupt fault same = cc
-no_failure Full fault same = cc
-no_failure Broken fault same = cc
-no_failure Unstorable fault same = cc
+no_failure it fault same = cc
 
 -- a connection that refuses a text for what it is is open
 refused_open : (sql : List ℕ) (params : Row) (old new : State) (fault : CompileError)

@@ -1,10 +1,7 @@
 -- What the texts on `approval` make of it, and show of it.
-use Rattle.std.proofs.Common.{◌≡◌, ℕ, List, [], ◌∷◌, ◌++◌, codes, false, not, Err, Result, refl, ap, ◌∙◌}
-use Rattle.std.specs.Prelude.{IfOk, IsTrue, filter, length}
+use Rattle.std.proofs.Common.{◌≡◌, ℕ, List, [], ◌∷◌, ◌++◌, codes, not, refl, ap, ◌∙◌}
+use Rattle.std.specs.Prelude.{filter, length}
 use Rattle.sqlite.specs.declared.types.Value.TheVariants.{Null, Int, Text}
-use Rattle.sqlite.specs.declared.error.Error.{Error}
-use Rattle.sqlite.specs.declared.error.Error.TheVariants.{SqliteFailure}
-use Rattle.sqlite.specs.declared.error.ErrorCode.TheVariants.{TransactionState}
 use Rattle.sqlite.specs.Order.{Row}
 use Rattle.sqlite.specs.Term.{Term, lit, col}
 use Rattle.sqlite.specs.Tree.{Trees, put_row}
@@ -19,11 +16,9 @@ use Rattle.sqlite_value.specs.declared.keys.Key.{Key}
 use Rattle.sqlite_value.proofs.OrderLemmas.{then-Equal}
 use Rattle.sqlite_tied.specs.Compute.{everything}
 use Rattle.sqlite.specs.Listing.{understood}
-use Rattle.sqlite.specs.State.{State, ExecutesInside, Shown}
 use Rattle.sqlite.proofs.Callers.{IsPlain, command_of}
 use Rattle.store_tables.specs.Schema.{IsCurrentSchema, analyzed_schema, office_schema}
-use Rattle.store_tables.specs.Tables.{tables_of, values, IsOffice}
-use Rattle.store_tables.specs.Statements.{Makes}
+use Rattle.store_tables.specs.Tables.{values}
 use Rattle.store_tables.specs.Selected.{IsSelected}
 use Rattle.store_tables.proofs.Columns.{cast_null, column_is}
 use Rattle.store_tables.proofs.Changing.{appends, makes, removes}
@@ -34,6 +29,7 @@ use Rattle.store_tables.proofs.Finding.{ascending, IsSelect, Means, finds_now}
 use Rattle.store_statements.specs.Rows.{approval_row, has_two_texts, is_of_net}
 use Rattle.store_statements.specs.Shown.{approvals_order, approvals_shown}
 use Rattle.store_statements.proofs.Requested.{net_requested, one_test, texts_requested, two_tests}
+use Rattle.store_statements.proofs.Texts.{Queries, Runs}
 
 -- ---- insert_approval
 
@@ -57,11 +53,8 @@ put : (net : List ℕ) (team : List ℕ) (db : Trees)
     ≡ put_row (Int (next_rowid (db 11)) ∷ approval_row net team) (db 11)
 put net team db = rw cast_null refl
 
-pub inserts : (net : List ℕ) (team : List ℕ) (old new : State) (r : Result ℕ Error) → IsOffice old.now
-    → (old.in_transaction ≡ false → r ≡ Err (SqliteFailure TransactionState))
-    → (IsTrue old.in_transaction → ExecutesInside 0 insert_text (approval_row net team) old new r)
-    → IfOk r (λ rows. Makes (λ t. record t { approval = t.approval ++ approval_row net team ∷ [] }) old new
-    × (rows ≡ 1))
+pub inserts : (net : List ℕ) (team : List ℕ) → Runs insert_text (approval_row net team)
+    (λ t. record t { approval = t.approval ++ approval_row net team ∷ [] }) (λ t. 1)
 unfolding office_schema
 inserts net team old new r office ended ran =
     makes insert_text (approval_row net team) _ 1 old new r
@@ -82,11 +75,9 @@ delete_approval_plain : InEach (λ s. IsPlain (understood s delete_approval_text
 unfolding understood everything office_schema analyzed_schema
 delete_approval_plain = record { usual = (refl, refl); analyzed = (refl, refl) }
 
-pub delete_approvals : (net : List ℕ) (team : List ℕ) (old new : State) (r : Result ℕ Error) → IsOffice old.now
-    → (old.in_transaction ≡ false → r ≡ Err (SqliteFailure TransactionState))
-    → (IsTrue old.in_transaction → ExecutesInside 0 delete_approval_text (Text net ∷ Text team ∷ []) old new r)
-    → IfOk r (λ rows. Makes (λ t. record t { approval = filter (λ row. not (has_two_texts net team row)) t.approval })
-    old new × (rows ≡ length (filter (has_two_texts net team) (tables_of old.now.trees).approval)))
+pub delete_approvals : (net : List ℕ) (team : List ℕ) → Runs delete_approval_text (Text net ∷ Text team ∷ [])
+    (λ t. record t { approval = filter (λ row. not (has_two_texts net team row)) t.approval })
+    (λ t. length (filter (has_two_texts net team) t.approval))
 unfolding office_schema
 delete_approvals net team old new r office ended ran =
     makes delete_approval_text (Text net ∷ Text team ∷ []) _ _ old new r
@@ -108,11 +99,9 @@ delete_approvals_plain : InEach (λ s. IsPlain (understood s delete_approvals_te
 unfolding understood everything office_schema analyzed_schema
 delete_approvals_plain = record { usual = (refl, refl); analyzed = (refl, refl) }
 
-pub delete_approvalss : (net : List ℕ) (old new : State) (r : Result ℕ Error) → IsOffice old.now
-    → (old.in_transaction ≡ false → r ≡ Err (SqliteFailure TransactionState))
-    → (IsTrue old.in_transaction → ExecutesInside 0 delete_approvals_text (Text net ∷ []) old new r)
-    → IfOk r (λ rows. Makes (λ t. record t { approval = filter (λ row. not (is_of_net net row)) t.approval }) old new
-    × (rows ≡ length (filter (is_of_net net) (tables_of old.now.trees).approval)))
+pub delete_approvalss : (net : List ℕ) → Runs delete_approvals_text (Text net ∷ [])
+    (λ t. record t { approval = filter (λ row. not (is_of_net net row)) t.approval })
+    (λ t. length (filter (is_of_net net) t.approval))
 unfolding office_schema
 delete_approvalss net old new r office ended ran =
     makes delete_approvals_text (Text net ∷ []) _ _ old new r
@@ -147,11 +136,8 @@ approvals_means net = record {
   orders_same = λ x y. then-Equal _ ∙ rw (column_is x 1, column_is y 1) refl;
 }
 
-pub approvals_found : {X : Type 0} (rows_of : X → List Row) (net : List ℕ) (old new : State) (r : Result X Error)
-    → IsCurrentSchema old.now.schema
-    → IfOk r (λ x. Shown approvals_text (Text net ∷ []) old new (rows_of x))
-    → IfOk r (λ x. IsSelected (is_of_net net) approvals_shown approvals_order (tables_of old.now.trees).approval
-    (rows_of x))
+pub approvals_found : {X : Type 0} (rows_of : X → List Row) (net : List ℕ) → Queries rows_of approvals_text
+    (Text net ∷ []) (λ t rows. IsSelected (is_of_net net) approvals_shown approvals_order t.approval rows)
 approvals_found rows_of net = finds_now approvals_text 11 one_test approvals_columns approvals_by _
     (Text net ∷ []) (approvals_selects (Text net ∷ [])) values (is_of_net net) approvals_shown approvals_order
     (approvals_means net) rows_of

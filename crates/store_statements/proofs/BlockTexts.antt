@@ -1,11 +1,8 @@
 -- What the texts on `block` make of it, and show of it.
-use Rattle.std.proofs.Common.{◌≡◌, ℕ, pos, List, [], ◌∷◌, ◌++◌, codes, false, not, Err, Result, refl, ap, ◌∙◌}
-use Rattle.std.specs.Prelude.{IfOk, IsTrue, filter, length}
+use Rattle.std.proofs.Common.{◌≡◌, ℕ, pos, List, [], ◌∷◌, ◌++◌, codes, not, refl, ap, ◌∙◌}
+use Rattle.std.specs.Prelude.{filter, length}
 use Rattle.std.specs.Ordering.{ordering_then}
 use Rattle.sqlite.specs.declared.types.Value.TheVariants.{Null, Int, Text}
-use Rattle.sqlite.specs.declared.error.Error.{Error}
-use Rattle.sqlite.specs.declared.error.Error.TheVariants.{SqliteFailure}
-use Rattle.sqlite.specs.declared.error.ErrorCode.TheVariants.{TransactionState}
 use Rattle.sqlite.specs.Order.{Row, column, value_cmp}
 use Rattle.sqlite.specs.Term.{Term, lit, col}
 use Rattle.sqlite.specs.Tree.{Trees, put_row}
@@ -20,11 +17,9 @@ use Rattle.sqlite_value.specs.declared.keys.Key.{Key}
 use Rattle.sqlite_value.proofs.OrderLemmas.{then-Equal}
 use Rattle.sqlite_tied.specs.Compute.{everything}
 use Rattle.sqlite.specs.Listing.{understood}
-use Rattle.sqlite.specs.State.{State, ExecutesInside, Shown}
 use Rattle.sqlite.proofs.Callers.{IsPlain, command_of}
 use Rattle.store_tables.specs.Schema.{IsCurrentSchema, analyzed_schema, office_schema}
-use Rattle.store_tables.specs.Tables.{tables_of, values, IsOffice}
-use Rattle.store_tables.specs.Statements.{Makes}
+use Rattle.store_tables.specs.Tables.{values}
 use Rattle.store_tables.specs.Selected.{IsSelected}
 use Rattle.store_tables.proofs.Columns.{cast_null, cast_number, column_is}
 use Rattle.store_tables.proofs.Changing.{appends, makes, removes}
@@ -37,6 +32,7 @@ use Rattle.store_statements.specs.Rows.{block_row, is_block, is_of_form, is_of_n
 use Rattle.store_statements.specs.Shown.{blocks_of_form_order, blocks_of_form_shown, blocks_order, blocks_shown}
 use Rattle.store_statements.proofs.Requested.{block_requested, form_requested, form_test, net_requested, one_test}
 use Rattle.store_statements.proofs.Requested.{three_tests}
+use Rattle.store_statements.proofs.Texts.{Queries, Runs}
 
 -- ---- insert_block
 
@@ -59,10 +55,8 @@ put : (row : BlockRow) (db : Trees)
     ≡ put_row (Int (next_rowid (db 6)) ∷ block_row row) (db 6)
 put row db = rw (cast_null, cast_number row.form, cast_number row.first, cast_number row.last) refl
 
-pub inserts : (row : BlockRow) (old new : State) (r : Result ℕ Error) → IsOffice old.now
-    → (old.in_transaction ≡ false → r ≡ Err (SqliteFailure TransactionState))
-    → (IsTrue old.in_transaction → ExecutesInside 0 insert_text (block_row row) old new r)
-    → IfOk r (λ rows. Makes (λ t. record t { block = t.block ++ block_row row ∷ [] }) old new × (rows ≡ 1))
+pub inserts : (row : BlockRow) → Runs insert_text (block_row row)
+    (λ t. record t { block = t.block ++ block_row row ∷ [] }) (λ t. 1)
 unfolding office_schema
 inserts row old new r office ended ran =
     makes insert_text (block_row row) _ 1 old new r
@@ -83,12 +77,10 @@ delete_block_plain : InEach (λ s. IsPlain (understood s delete_block_text))
 unfolding understood everything office_schema analyzed_schema
 delete_block_plain = record { usual = (refl, refl); analyzed = (refl, refl) }
 
-pub delete_blocks : (net : List ℕ) (form : ℕ) (first : ℕ) (old new : State) (r : Result ℕ Error) → IsOffice old.now
-    → (old.in_transaction ≡ false → r ≡ Err (SqliteFailure TransactionState))
-    → (IsTrue old.in_transaction → ExecutesInside 0 delete_block_text (Text net ∷ Int (pos form) ∷ Int (pos first) ∷ [])
-    old new r)
-    → IfOk r (λ rows. Makes (λ t. record t { block = filter (λ row. not (is_block net form first row)) t.block }) old
-    new × (rows ≡ length (filter (is_block net form first) (tables_of old.now.trees).block)))
+pub delete_blocks : (net : List ℕ) (form : ℕ) (first : ℕ) → Runs delete_block_text
+    (Text net ∷ Int (pos form) ∷ Int (pos first) ∷ [])
+    (λ t. record t { block = filter (λ row. not (is_block net form first row)) t.block })
+    (λ t. length (filter (is_block net form first) t.block))
 unfolding office_schema
 delete_blocks net form first old new r office ended ran =
     makes delete_block_text (Text net ∷ Int (pos form) ∷ Int (pos first) ∷ []) _ _ old new r
@@ -124,10 +116,8 @@ blocks_means net = record {
       ∙ rw (column_is x 1, column_is y 1, column_is x 2, column_is y 2) refl;
 }
 
-pub blocks_found : {X : Type 0} (rows_of : X → List Row) (net : List ℕ) (old new : State) (r : Result X Error)
-    → IsCurrentSchema old.now.schema
-    → IfOk r (λ x. Shown blocks_text (Text net ∷ []) old new (rows_of x))
-    → IfOk r (λ x. IsSelected (is_of_net net) blocks_shown blocks_order (tables_of old.now.trees).block (rows_of x))
+pub blocks_found : {X : Type 0} (rows_of : X → List Row) (net : List ℕ) → Queries rows_of blocks_text (Text net ∷ [])
+    (λ t rows. IsSelected (is_of_net net) blocks_shown blocks_order t.block rows)
 blocks_found rows_of net = finds_now blocks_text 6 one_test blocks_columns blocks_by _ (Text net ∷ [])
     (blocks_selects (Text net ∷ [])) values (is_of_net net) blocks_shown blocks_order (blocks_means net) rows_of
 
@@ -163,11 +153,9 @@ blocks_of_form_means form = record {
       ∙ rw (column_is x 0, column_is y 0, column_is x 2, column_is y 2) refl;
 }
 
-pub blocks_of_form_found : {X : Type 0} (rows_of : X → List Row) (form : ℕ) (old new : State) (r : Result X Error)
-    → IsCurrentSchema old.now.schema
-    → IfOk r (λ x. Shown blocks_of_form_text (Int (pos form) ∷ []) old new (rows_of x))
-    → IfOk r (λ x. IsSelected (is_of_form form) blocks_of_form_shown blocks_of_form_order
-    (tables_of old.now.trees).block (rows_of x))
+pub blocks_of_form_found : {X : Type 0} (rows_of : X → List Row) (form : ℕ) → Queries rows_of blocks_of_form_text
+    (Int (pos form) ∷ [])
+    (λ t rows. IsSelected (is_of_form form) blocks_of_form_shown blocks_of_form_order t.block rows)
 blocks_of_form_found rows_of form = finds_now blocks_of_form_text 6 form_test blocks_of_form_columns
     blocks_of_form_by _ (Int (pos form) ∷ []) (blocks_of_form_selects (Int (pos form) ∷ [])) values (is_of_form form)
     blocks_of_form_shown blocks_of_form_order (blocks_of_form_means form) rows_of

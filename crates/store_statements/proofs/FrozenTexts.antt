@@ -1,10 +1,6 @@
 -- What the texts on `frozen` make of it, and show of it.
-use Rattle.std.proofs.Common.{◌≡◌, ℕ, pos, List, [], ◌∷◌, ◌++◌, codes, false, Err, Result, refl, ap, ◌∙◌}
-use Rattle.std.specs.Prelude.{IfOk, IsTrue}
+use Rattle.std.proofs.Common.{◌≡◌, ℕ, pos, List, [], ◌∷◌, ◌++◌, codes, refl, ap, ◌∙◌}
 use Rattle.sqlite.specs.declared.types.Value.TheVariants.{Null, Int, Text}
-use Rattle.sqlite.specs.declared.error.Error.{Error}
-use Rattle.sqlite.specs.declared.error.Error.TheVariants.{SqliteFailure}
-use Rattle.sqlite.specs.declared.error.ErrorCode.TheVariants.{TransactionState}
 use Rattle.sqlite.specs.Order.{Row}
 use Rattle.sqlite.specs.Term.{Term, lit, col}
 use Rattle.sqlite.specs.Tree.{Trees, put_row}
@@ -19,11 +15,9 @@ use Rattle.sqlite_value.specs.declared.keys.Key.{Key}
 use Rattle.sqlite_value.proofs.OrderLemmas.{then-Equal}
 use Rattle.sqlite_tied.specs.Compute.{everything}
 use Rattle.sqlite.specs.Listing.{understood}
-use Rattle.sqlite.specs.State.{State, ExecutesInside, Shown}
 use Rattle.sqlite.proofs.Callers.{IsPlain, command_of}
 use Rattle.store_tables.specs.Schema.{IsCurrentSchema, analyzed_schema, office_schema}
-use Rattle.store_tables.specs.Tables.{tables_of, values, IsOffice}
-use Rattle.store_tables.specs.Statements.{Makes}
+use Rattle.store_tables.specs.Tables.{values}
 use Rattle.store_tables.specs.Selected.{IsSelected}
 use Rattle.store_tables.proofs.Columns.{cast_null, cast_number, column_is}
 use Rattle.store_tables.proofs.Changing.{appends, makes}
@@ -35,6 +29,7 @@ use Rattle.store_statements.specs.Rows.{frozen_row, has_net_and_number, is_of_ne
 use Rattle.store_statements.specs.Shown.{release_numbers_order, release_numbers_shown, release_order, release_shown}
 use Rattle.store_statements.specs.Shown.{releases_order, releases_shown}
 use Rattle.store_statements.proofs.Requested.{net_requested, numbered_requested, one_test, two_tests}
+use Rattle.store_statements.proofs.Texts.{Queries, Runs}
 
 -- ---- insert_frozen
 
@@ -57,10 +52,8 @@ put : (row : FrozenRow) (db : Trees)
     ≡ put_row (Int (next_rowid (db 13)) ∷ frozen_row row) (db 13)
 put row db = rw (cast_null, cast_number row.number) refl
 
-pub inserts : (row : FrozenRow) (old new : State) (r : Result ℕ Error) → IsOffice old.now
-    → (old.in_transaction ≡ false → r ≡ Err (SqliteFailure TransactionState))
-    → (IsTrue old.in_transaction → ExecutesInside 0 insert_text (frozen_row row) old new r)
-    → IfOk r (λ rows. Makes (λ t. record t { frozen = t.frozen ++ frozen_row row ∷ [] }) old new × (rows ≡ 1))
+pub inserts : (row : FrozenRow) → Runs insert_text (frozen_row row)
+    (λ t. record t { frozen = t.frozen ++ frozen_row row ∷ [] }) (λ t. 1)
 unfolding office_schema
 inserts row old new r office ended ran =
     makes insert_text (frozen_row row) _ 1 old new r
@@ -94,11 +87,8 @@ releases_means net = record {
   orders_same = λ x y. then-Equal _ ∙ rw (column_is x 1, column_is y 1) refl;
 }
 
-pub releases_found : {X : Type 0} (rows_of : X → List Row) (net : List ℕ) (old new : State) (r : Result X Error)
-    → IsCurrentSchema old.now.schema
-    → IfOk r (λ x. Shown releases_text (Text net ∷ []) old new (rows_of x))
-    → IfOk r (λ x. IsSelected (is_of_net net) releases_shown releases_order (tables_of old.now.trees).frozen
-    (rows_of x))
+pub releases_found : {X : Type 0} (rows_of : X → List Row) (net : List ℕ) → Queries rows_of releases_text
+    (Text net ∷ []) (λ t rows. IsSelected (is_of_net net) releases_shown releases_order t.frozen rows)
 releases_found rows_of net = finds_now releases_text 13 one_test releases_columns releases_by _
     (Text net ∷ []) (releases_selects (Text net ∷ [])) values (is_of_net net) releases_shown releases_order
     (releases_means net) rows_of
@@ -135,11 +125,8 @@ release_numbers_means net = record {
   orders_same = λ x y. then-Equal _ ∙ rw (column_is x 1, column_is y 1) refl;
 }
 
-pub release_numbers_found : {X : Type 0} (rows_of : X → List Row) (net : List ℕ) (old new : State) (r : Result X Error)
-    → IsCurrentSchema old.now.schema
-    → IfOk r (λ x. Shown release_numbers_text (Text net ∷ []) old new (rows_of x))
-    → IfOk r (λ x. IsSelected (is_of_net net) release_numbers_shown release_numbers_order
-    (tables_of old.now.trees).frozen (rows_of x))
+pub release_numbers_found : {X : Type 0} (rows_of : X → List Row) (net : List ℕ) → Queries rows_of release_numbers_text
+    (Text net ∷ []) (λ t rows. IsSelected (is_of_net net) release_numbers_shown release_numbers_order t.frozen rows)
 release_numbers_found rows_of net = finds_now release_numbers_text 13 one_test release_numbers_columns
     release_numbers_by _ (Text net ∷ []) (release_numbers_selects (Text net ∷ [])) values (is_of_net net)
     release_numbers_shown release_numbers_order (release_numbers_means net) rows_of
@@ -175,11 +162,9 @@ release_means net number = record {
   orders_same = λ x y. then-Equal _ ∙ rw (column_is x 1, column_is y 1) refl;
 }
 
-pub release_found : {X : Type 0} (rows_of : X → List Row) (net : List ℕ) (number : ℕ) (old new : State)
-    (r : Result X Error) → IsCurrentSchema old.now.schema
-    → IfOk r (λ x. Shown release_text (Text net ∷ Int (pos number) ∷ []) old new (rows_of x))
-    → IfOk r (λ x. IsSelected (has_net_and_number net number) release_shown release_order
-    (tables_of old.now.trees).frozen (rows_of x))
+pub release_found : {X : Type 0} (rows_of : X → List Row) (net : List ℕ) (number : ℕ) → Queries rows_of release_text
+    (Text net ∷ Int (pos number) ∷ [])
+    (λ t rows. IsSelected (has_net_and_number net number) release_shown release_order t.frozen rows)
 release_found rows_of net number = finds_now release_text 13 two_tests release_columns release_by _
     (Text net ∷ Int (pos number) ∷ []) (release_selects (Text net ∷ Int (pos number) ∷ [])) values
     (has_net_and_number net number) release_shown release_order (release_means net number) rows_of

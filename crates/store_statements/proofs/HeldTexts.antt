@@ -1,10 +1,7 @@
 -- What the texts on `held` make of it, and show of it.
-use Rattle.std.proofs.Common.{◌≡◌, ℕ, pos, List, [], ◌∷◌, ◌++◌, codes, false, not, Err, Result, refl, ap, ◌∙◌}
-use Rattle.std.specs.Prelude.{IfOk, IsTrue, filter, length}
+use Rattle.std.proofs.Common.{◌≡◌, ℕ, pos, List, [], ◌∷◌, ◌++◌, codes, not, refl, ap, ◌∙◌}
+use Rattle.std.specs.Prelude.{filter, length}
 use Rattle.sqlite.specs.declared.types.Value.TheVariants.{Null, Int, Text}
-use Rattle.sqlite.specs.declared.error.Error.{Error}
-use Rattle.sqlite.specs.declared.error.Error.TheVariants.{SqliteFailure}
-use Rattle.sqlite.specs.declared.error.ErrorCode.TheVariants.{TransactionState}
 use Rattle.sqlite.specs.Order.{Row}
 use Rattle.sqlite.specs.Term.{Term, lit, col}
 use Rattle.sqlite.specs.Tree.{Trees, put_row}
@@ -19,11 +16,9 @@ use Rattle.sqlite_value.specs.declared.keys.Key.{Key}
 use Rattle.sqlite_value.proofs.OrderLemmas.{then-Equal}
 use Rattle.sqlite_tied.specs.Compute.{everything}
 use Rattle.sqlite.specs.Listing.{understood}
-use Rattle.sqlite.specs.State.{State, ExecutesInside, Shown}
 use Rattle.sqlite.proofs.Callers.{IsPlain, command_of}
 use Rattle.store_tables.specs.Schema.{IsCurrentSchema, analyzed_schema, office_schema}
-use Rattle.store_tables.specs.Tables.{tables_of, values, IsOffice}
-use Rattle.store_tables.specs.Statements.{Makes}
+use Rattle.store_tables.specs.Tables.{values}
 use Rattle.store_tables.specs.Selected.{IsSelected}
 use Rattle.store_tables.proofs.Columns.{cast_null, cast_number, column_is}
 use Rattle.store_tables.proofs.Changing.{appends, makes, removes}
@@ -35,6 +30,7 @@ use Rattle.store_statements.specs.Rows.{has_net_and_number, has_number_between, 
 use Rattle.store_statements.specs.Shown.{held_order, held_shown}
 use Rattle.store_statements.proofs.Requested.{net_requested, numbered_requested, one_test, range_requested, range_tests}
 use Rattle.store_statements.proofs.Requested.{two_tests}
+use Rattle.store_statements.proofs.Texts.{Queries, Runs}
 
 -- ---- insert_held
 
@@ -57,10 +53,8 @@ put : (net : List ℕ) (number : ℕ) (db : Trees)
     ≡ put_row (Int (next_rowid (db 8)) ∷ held_row net number) (db 8)
 put net number db = rw (cast_null, cast_number number) refl
 
-pub inserts : (net : List ℕ) (number : ℕ) (old new : State) (r : Result ℕ Error) → IsOffice old.now
-    → (old.in_transaction ≡ false → r ≡ Err (SqliteFailure TransactionState))
-    → (IsTrue old.in_transaction → ExecutesInside 0 insert_text (held_row net number) old new r)
-    → IfOk r (λ rows. Makes (λ t. record t { held = t.held ++ held_row net number ∷ [] }) old new × (rows ≡ 1))
+pub inserts : (net : List ℕ) (number : ℕ) → Runs insert_text (held_row net number)
+    (λ t. record t { held = t.held ++ held_row net number ∷ [] }) (λ t. 1)
 unfolding office_schema
 inserts net number old new r office ended ran =
     makes insert_text (held_row net number) _ 1 old new r
@@ -81,11 +75,9 @@ delete_held_plain : InEach (λ s. IsPlain (understood s delete_held_text))
 unfolding understood everything office_schema analyzed_schema
 delete_held_plain = record { usual = (refl, refl); analyzed = (refl, refl) }
 
-pub delete_helds : (net : List ℕ) (number : ℕ) (old new : State) (r : Result ℕ Error) → IsOffice old.now
-    → (old.in_transaction ≡ false → r ≡ Err (SqliteFailure TransactionState))
-    → (IsTrue old.in_transaction → ExecutesInside 0 delete_held_text (Text net ∷ Int (pos number) ∷ []) old new r)
-    → IfOk r (λ rows. Makes (λ t. record t { held = filter (λ row. not (has_net_and_number net number row)) t.held })
-    old new × (rows ≡ length (filter (has_net_and_number net number) (tables_of old.now.trees).held)))
+pub delete_helds : (net : List ℕ) (number : ℕ) → Runs delete_held_text (Text net ∷ Int (pos number) ∷ [])
+    (λ t. record t { held = filter (λ row. not (has_net_and_number net number row)) t.held })
+    (λ t. length (filter (has_net_and_number net number) t.held))
 unfolding office_schema
 delete_helds net number old new r office ended ran =
     makes delete_held_text (Text net ∷ Int (pos number) ∷ []) _ _ old new r
@@ -120,10 +112,8 @@ held_means net = record {
   orders_same = λ x y. then-Equal _ ∙ rw (column_is x 1, column_is y 1) refl;
 }
 
-pub held_found : {X : Type 0} (rows_of : X → List Row) (net : List ℕ) (old new : State) (r : Result X Error)
-    → IsCurrentSchema old.now.schema
-    → IfOk r (λ x. Shown held_text (Text net ∷ []) old new (rows_of x))
-    → IfOk r (λ x. IsSelected (is_of_net net) held_shown held_order (tables_of old.now.trees).held (rows_of x))
+pub held_found : {X : Type 0} (rows_of : X → List Row) (net : List ℕ) → Queries rows_of held_text (Text net ∷ [])
+    (λ t rows. IsSelected (is_of_net net) held_shown held_order t.held rows)
 held_found rows_of net = finds_now held_text 8 one_test held_columns held_by _ (Text net ∷ [])
     (held_selects (Text net ∷ [])) values (is_of_net net) held_shown held_order (held_means net) rows_of
 
@@ -152,11 +142,9 @@ held_numbers_means net first last = record {
   orders_same = λ x y. then-Equal _ ∙ rw (column_is x 1, column_is y 1) refl;
 }
 
-pub held_numbers_found : {X : Type 0} (rows_of : X → List Row) (net : List ℕ) (first last : ℕ) (old new : State)
-    (r : Result X Error) → IsCurrentSchema old.now.schema
-    → IfOk r (λ x. Shown held_numbers_text (Text net ∷ Int (pos first) ∷ Int (pos last) ∷ []) old new (rows_of x))
-    → IfOk r (λ x. IsSelected (has_number_between net first last) held_shown held_order (tables_of old.now.trees).held
-    (rows_of x))
+pub held_numbers_found : {X : Type 0} (rows_of : X → List Row) (net : List ℕ) (first last : ℕ) → Queries rows_of
+    held_numbers_text (Text net ∷ Int (pos first) ∷ Int (pos last) ∷ [])
+    (λ t rows. IsSelected (has_number_between net first last) held_shown held_order t.held rows)
 held_numbers_found rows_of net first last = finds_now held_numbers_text 8 range_tests held_columns held_by _
     (Text net ∷ Int (pos first) ∷ Int (pos last) ∷ [])
     (held_numbers_selects (Text net ∷ Int (pos first) ∷ Int (pos last) ∷ [])) values (has_number_between net first last)

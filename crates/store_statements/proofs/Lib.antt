@@ -1,4 +1,5 @@
 mod Requested
+mod Texts
 mod Examples
 mod ProfileTexts
 mod NetTexts

@@ -1,10 +1,7 @@
 -- What the texts on `message` make of it, and show of it.
-use Rattle.std.proofs.Common.{◌≡◌, ℕ, pos, List, [], ◌∷◌, ◌++◌, codes, false, not, Ok, Err, Result, refl, ap, ◌∙◌}
-use Rattle.std.specs.Prelude.{IfOk, IsTrue, filter, length}
+use Rattle.std.proofs.Common.{◌≡◌, ℕ, pos, List, [], ◌∷◌, ◌++◌, codes, not, Ok, refl, ap, ◌∙◌}
+use Rattle.std.specs.Prelude.{filter, length}
 use Rattle.sqlite.specs.declared.types.Value.TheVariants.{Null, Int, Text}
-use Rattle.sqlite.specs.declared.error.Error.{Error}
-use Rattle.sqlite.specs.declared.error.Error.TheVariants.{SqliteFailure}
-use Rattle.sqlite.specs.declared.error.ErrorCode.TheVariants.{TransactionState}
 use Rattle.sqlite.specs.Order.{Row}
 use Rattle.sqlite.specs.Term.{Term, lit, col}
 use Rattle.sqlite.specs.Tree.{Trees, put_row}
@@ -19,11 +16,10 @@ use Rattle.sqlite_value.specs.declared.keys.Key.{Key}
 use Rattle.sqlite_value.proofs.OrderLemmas.{then-Equal}
 use Rattle.sqlite_tied.specs.Compute.{everything}
 use Rattle.sqlite.specs.Listing.{understood}
-use Rattle.sqlite.specs.State.{State, Executes, ExecutesInside, Shown}
+use Rattle.sqlite.specs.State.{Executes}
 use Rattle.sqlite.proofs.Callers.{IsPlain, command_of}
 use Rattle.store_tables.specs.Schema.{IsCurrentSchema, analyzed_schema, office_schema}
-use Rattle.store_tables.specs.Tables.{tables_of, values, IsOffice}
-use Rattle.store_tables.specs.Statements.{Makes}
+use Rattle.store_tables.specs.Tables.{tables_of, values}
 use Rattle.store_tables.specs.Selected.{IsSelected}
 use Rattle.store_tables.proofs.Columns.{cast_null, cast_number, column_is}
 use Rattle.store_tables.proofs.Changing.{IsOfficeAs, appends, makes, removes}
@@ -36,6 +32,7 @@ use Rattle.store_statements.specs.Rows.{has_net_and_number, is_any, is_of_net, m
 use Rattle.store_statements.specs.Shown.{messages_order, messages_shown}
 use Rattle.store_statements.proofs.Requested.{all_wanted, net_requested, none_left, numbered_requested, one_test}
 use Rattle.store_statements.proofs.Requested.{two_tests}
+use Rattle.store_statements.proofs.Texts.{Queries, Runs}
 
 -- ---- insert_message
 
@@ -58,10 +55,8 @@ put : (row : BodyRow) (db : Trees)
     ≡ put_row (Int (next_rowid (db 3)) ∷ message_row row) (db 3)
 put row db = rw (cast_null, cast_number row.number) refl
 
-pub inserts : (row : BodyRow) (old new : State) (r : Result ℕ Error) → IsOffice old.now
-    → (old.in_transaction ≡ false → r ≡ Err (SqliteFailure TransactionState))
-    → (IsTrue old.in_transaction → ExecutesInside 0 insert_text (message_row row) old new r)
-    → IfOk r (λ rows. Makes (λ t. record t { message = t.message ++ message_row row ∷ [] }) old new × (rows ≡ 1))
+pub inserts : (row : BodyRow) → Runs insert_text (message_row row)
+    (λ t. record t { message = t.message ++ message_row row ∷ [] }) (λ t. 1)
 unfolding office_schema
 inserts row old new r office ended ran =
     makes insert_text (message_row row) _ 1 old new r
@@ -82,12 +77,9 @@ delete_message_plain : InEach (λ s. IsPlain (understood s delete_message_text))
 unfolding understood everything office_schema analyzed_schema
 delete_message_plain = record { usual = (refl, refl); analyzed = (refl, refl) }
 
-pub delete_messages : (net : List ℕ) (number : ℕ) (old new : State) (r : Result ℕ Error) → IsOffice old.now
-    → (old.in_transaction ≡ false → r ≡ Err (SqliteFailure TransactionState))
-    → (IsTrue old.in_transaction → ExecutesInside 0 delete_message_text (Text net ∷ Int (pos number) ∷ []) old new r)
-    → IfOk r (λ rows. Makes (λ t. record t
-    { message = filter (λ row. not (has_net_and_number net number row)) t.message }) old new
-    × (rows ≡ length (filter (has_net_and_number net number) (tables_of old.now.trees).message)))
+pub delete_messages : (net : List ℕ) (number : ℕ) → Runs delete_message_text (Text net ∷ Int (pos number) ∷ [])
+    (λ t. record t { message = filter (λ row. not (has_net_and_number net number row)) t.message })
+    (λ t. length (filter (has_net_and_number net number) t.message))
 unfolding office_schema
 delete_messages net number old new r office ended ran =
     makes delete_message_text (Text net ∷ Int (pos number) ∷ []) _ _ old new r
@@ -109,11 +101,7 @@ clear_messages_plain : InEach (λ s. IsPlain (understood s clear_messages_text))
 unfolding understood everything office_schema analyzed_schema
 clear_messages_plain = record { usual = (refl, refl); analyzed = (refl, refl) }
 
-pub clears : (old new : State) (r : Result ℕ Error) → IsOffice old.now
-    → (old.in_transaction ≡ false → r ≡ Err (SqliteFailure TransactionState))
-    → (IsTrue old.in_transaction → ExecutesInside 0 clear_messages_text [] old new r)
-    → IfOk r (λ rows. Makes (λ t. record t { message = [] }) old new
-    × (rows ≡ length (tables_of old.now.trees).message))
+pub clears : Runs clear_messages_text [] (λ t. record t { message = [] }) (λ t. length t.message)
 unfolding office_schema
 clears old new r office ended ran = makes clear_messages_text [] _ _ old new r does ended ran
   where
@@ -157,11 +145,8 @@ messages_means net = record {
   orders_same = λ x y. then-Equal _ ∙ rw (column_is x 1, column_is y 1) refl;
 }
 
-pub messages_found : {X : Type 0} (rows_of : X → List Row) (net : List ℕ) (old new : State) (r : Result X Error)
-    → IsCurrentSchema old.now.schema
-    → IfOk r (λ x. Shown messages_text (Text net ∷ []) old new (rows_of x))
-    → IfOk r (λ x. IsSelected (is_of_net net) messages_shown messages_order (tables_of old.now.trees).message
-    (rows_of x))
+pub messages_found : {X : Type 0} (rows_of : X → List Row) (net : List ℕ) → Queries rows_of messages_text
+    (Text net ∷ []) (λ t rows. IsSelected (is_of_net net) messages_shown messages_order t.message rows)
 messages_found rows_of net = finds_now messages_text 3 one_test messages_columns messages_by _ (Text net ∷ [])
     (messages_selects (Text net ∷ [])) values (is_of_net net) messages_shown messages_order (messages_means net) rows_of
 

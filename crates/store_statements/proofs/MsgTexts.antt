@@ -1,10 +1,8 @@
 -- What the texts on `msg` make of it, and show of it.
-use Rattle.std.proofs.Common.{◌≡◌, ℕ, pos, List, [], ◌∷◌, ◌++◌, codes, false, not, Err, Result, refl, ◌∙◌}
-use Rattle.std.specs.Prelude.{IfOk, IsTrue, filter, length, min}
+use Rattle.std.proofs.Common.{◌≡◌, ℕ, pos, List, [], ◌∷◌, ◌++◌, codes, not, Result, refl, ◌∙◌}
+use Rattle.std.specs.Prelude.{IfOk, filter, length, min}
 use Rattle.sqlite.specs.declared.types.Value.TheVariants.{Null, Int, Text}
 use Rattle.sqlite.specs.declared.error.Error.{Error}
-use Rattle.sqlite.specs.declared.error.Error.TheVariants.{SqliteFailure}
-use Rattle.sqlite.specs.declared.error.ErrorCode.TheVariants.{TransactionState}
 use Rattle.sqlite.specs.Order.{Row}
 use Rattle.sqlite.specs.Term.{Term, lit, col}
 use Rattle.sqlite.specs.Tree.{Trees, put_row}
@@ -19,11 +17,10 @@ use Rattle.sqlite_value.specs.declared.keys.Key.{Key}
 use Rattle.sqlite_value.proofs.OrderLemmas.{then-Equal}
 use Rattle.sqlite_tied.specs.Compute.{everything}
 use Rattle.sqlite.specs.Listing.{understood}
-use Rattle.sqlite.specs.State.{State, ExecutesInside, Shown}
+use Rattle.sqlite.specs.State.{State, Shown}
 use Rattle.sqlite.proofs.Callers.{IsPlain, command_of}
 use Rattle.store_tables.specs.Schema.{IsCurrentSchema, analyzed_schema, office_schema}
-use Rattle.store_tables.specs.Tables.{tables_of, values, IsOffice}
-use Rattle.store_tables.specs.Statements.{Makes}
+use Rattle.store_tables.specs.Tables.{values}
 use Rattle.store_tables.specs.Selected.{IsSelected}
 use Rattle.store_tables.proofs.Columns.{cast_null, cast_number, column_is}
 use Rattle.store_tables.proofs.Changing.{appends, makes, removes}
@@ -41,6 +38,7 @@ use Rattle.store_statements.proofs.Requested.{net_requested, numbered_requested,
 use Rattle.store_statements.proofs.Requested.{range_requested, range_tests}
 use Rattle.store_tables.proofs.Counting.{IsCountSelect, IsAnySelect, counts, shows_any}
 use Rattle.sqlite_sql.specs.Aggregate.{count}
+use Rattle.store_statements.proofs.Texts.{Queries, Runs}
 
 -- ---- insert_msg
 
@@ -63,10 +61,8 @@ put : (row : LiveRow) (db : Trees)
     ≡ put_row (Int (next_rowid (db 17)) ∷ msg_row row) (db 17)
 put row db = rw (cast_null, cast_number row.number, cast_number row.length) refl
 
-pub inserts : (row : LiveRow) (old new : State) (r : Result ℕ Error) → IsOffice old.now
-    → (old.in_transaction ≡ false → r ≡ Err (SqliteFailure TransactionState))
-    → (IsTrue old.in_transaction → ExecutesInside 0 insert_text (msg_row row) old new r)
-    → IfOk r (λ rows. Makes (λ t. record t { msg = t.msg ++ msg_row row ∷ [] }) old new × (rows ≡ 1))
+pub inserts : (row : LiveRow) → Runs insert_text (msg_row row) (λ t. record t { msg = t.msg ++ msg_row row ∷ [] })
+    (λ t. 1)
 unfolding office_schema
 inserts row old new r office ended ran =
     makes insert_text (msg_row row) _ 1 old new r
@@ -87,11 +83,9 @@ delete_plain : InEach (λ s. IsPlain (understood s delete_text))
 unfolding understood everything office_schema analyzed_schema
 delete_plain = record { usual = (refl, refl); analyzed = (refl, refl) }
 
-pub deletes : (net : List ℕ) (number : ℕ) (old new : State) (r : Result ℕ Error) → IsOffice old.now
-    → (old.in_transaction ≡ false → r ≡ Err (SqliteFailure TransactionState))
-    → (IsTrue old.in_transaction → ExecutesInside 0 delete_text (Text net ∷ Int (pos number) ∷ []) old new r)
-    → IfOk r (λ rows. Makes (λ t. record t { msg = filter (λ row. not (has_net_and_number net number row)) t.msg }) old
-    new × (rows ≡ length (filter (has_net_and_number net number) (tables_of old.now.trees).msg)))
+pub deletes : (net : List ℕ) (number : ℕ) → Runs delete_text (Text net ∷ Int (pos number) ∷ [])
+    (λ t. record t { msg = filter (λ row. not (has_net_and_number net number row)) t.msg })
+    (λ t. length (filter (has_net_and_number net number) t.msg))
 unfolding office_schema
 deletes net number old new r office ended ran =
     makes delete_text (Text net ∷ Int (pos number) ∷ []) _ _ old new r
@@ -127,11 +121,9 @@ msg_named_means net name = record {
   orders_same = λ x y. then-Equal _ ∙ rw (column_is x 1, column_is y 1) refl;
 }
 
-pub msg_named_found : {X : Type 0} (rows_of : X → List Row) (net : List ℕ) (name : List ℕ) (old new : State)
-    (r : Result X Error) → IsCurrentSchema old.now.schema
-    → IfOk r (λ x. Shown msg_named_text (Text net ∷ Text name ∷ []) old new (rows_of x))
-    → IfOk r (λ x. IsSelected (has_net_and_name net name) msg_named_shown msg_named_order
-    (tables_of old.now.trees).msg (rows_of x))
+pub msg_named_found : {X : Type 0} (rows_of : X → List Row) (net : List ℕ) (name : List ℕ) → Queries rows_of
+    msg_named_text (Text net ∷ Text name ∷ [])
+    (λ t rows. IsSelected (has_net_and_name net name) msg_named_shown msg_named_order t.msg rows)
 msg_named_found rows_of net name = finds_now msg_named_text 17 name_tests msg_named_columns msg_named_by _
     (Text net ∷ Text name ∷ []) (msg_named_selects (Text net ∷ Text name ∷ [])) values (has_net_and_name net name)
     msg_named_shown msg_named_order (msg_named_means net name) rows_of
@@ -167,10 +159,8 @@ msgs_means net = record {
   orders_same = λ x y. then-Equal _ ∙ rw (column_is x 1, column_is y 1) refl;
 }
 
-pub msgs_found : {X : Type 0} (rows_of : X → List Row) (net : List ℕ) (old new : State) (r : Result X Error)
-    → IsCurrentSchema old.now.schema
-    → IfOk r (λ x. Shown msgs_text (Text net ∷ []) old new (rows_of x))
-    → IfOk r (λ x. IsSelected (is_of_net net) msgs_shown msgs_order (tables_of old.now.trees).msg (rows_of x))
+pub msgs_found : {X : Type 0} (rows_of : X → List Row) (net : List ℕ) → Queries rows_of msgs_text (Text net ∷ [])
+    (λ t rows. IsSelected (is_of_net net) msgs_shown msgs_order t.msg rows)
 msgs_found rows_of net = finds_now msgs_text 17 one_test msgs_columns msgs_by _ (Text net ∷ [])
     (msgs_selects (Text net ∷ [])) values (is_of_net net) msgs_shown msgs_order (msgs_means net) rows_of
 
@@ -189,10 +179,8 @@ count_selects params = record {
   analyzed = record { command = refl; listing = refl; plain = (refl, refl) };
 }
 
-pub counted_msgs : {X : Type 0} (rows_of : X → List Row) (net : List ℕ) (old new : State) (r : Result X Error)
-    → IsCurrentSchema old.now.schema
-    → IfOk r (λ x. Shown count_text (Text net ∷ []) old new (rows_of x))
-    → IfOk r (λ x. rows_of x ≡ (count (length (filter (is_of_net net) (tables_of old.now.trees).msg)) ∷ []) ∷ [])
+pub counted_msgs : {X : Type 0} (rows_of : X → List Row) (net : List ℕ) → Queries rows_of count_text (Text net ∷ [])
+    (λ t rows. rows ≡ (count (length (filter (is_of_net net) t.msg)) ∷ []) ∷ [])
 counted_msgs rows_of net = counts count_text 17 one_test (Text net ∷ []) (count_selects (Text net ∷ [])) (is_of_net net)
     (net_requested net) rows_of
 
@@ -269,11 +257,9 @@ msg_numbers_means net first last = record {
   orders_same = λ x y. then-Equal _ ∙ rw (column_is x 1, column_is y 1) refl;
 }
 
-pub msg_numbers_found : {X : Type 0} (rows_of : X → List Row) (net : List ℕ) (first last : ℕ) (old new : State)
-    (r : Result X Error) → IsCurrentSchema old.now.schema
-    → IfOk r (λ x. Shown msg_numbers_text (Text net ∷ Int (pos first) ∷ Int (pos last) ∷ []) old new (rows_of x))
-    → IfOk r (λ x. IsSelected (has_number_between net first last) msg_numbers_shown msg_numbers_order
-    (tables_of old.now.trees).msg (rows_of x))
+pub msg_numbers_found : {X : Type 0} (rows_of : X → List Row) (net : List ℕ) (first last : ℕ) → Queries rows_of
+    msg_numbers_text (Text net ∷ Int (pos first) ∷ Int (pos last) ∷ [])
+    (λ t rows. IsSelected (has_number_between net first last) msg_numbers_shown msg_numbers_order t.msg rows)
 msg_numbers_found rows_of net first last =
     finds_now msg_numbers_text 17 range_tests (col 1 2 ∷ []) ((col 1 2, ascending) ∷ []) _
     (Text net ∷ Int (pos first) ∷ Int (pos last) ∷ [])

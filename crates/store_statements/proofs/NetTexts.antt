@@ -1,10 +1,7 @@
 -- What the texts on `net` make of it, and show of it.
-use Rattle.std.proofs.Common.{◌≡◌, ℕ, List, [], ◌∷◌, ◌++◌, codes, false, not, Err, Result, refl, ap, ◌∙◌}
-use Rattle.std.specs.Prelude.{IfOk, IsTrue, filter, length}
+use Rattle.std.proofs.Common.{◌≡◌, ℕ, List, [], ◌∷◌, ◌++◌, codes, not, refl, ap, ◌∙◌}
+use Rattle.std.specs.Prelude.{filter, length}
 use Rattle.sqlite.specs.declared.types.Value.TheVariants.{Null, Int, Text}
-use Rattle.sqlite.specs.declared.error.Error.{Error}
-use Rattle.sqlite.specs.declared.error.Error.TheVariants.{SqliteFailure}
-use Rattle.sqlite.specs.declared.error.ErrorCode.TheVariants.{TransactionState}
 use Rattle.sqlite.specs.Order.{Row}
 use Rattle.sqlite.specs.Term.{Term, lit, col}
 use Rattle.sqlite.specs.Tree.{Trees, put_row}
@@ -19,11 +16,9 @@ use Rattle.sqlite_value.specs.declared.keys.Key.{Key}
 use Rattle.sqlite_value.proofs.OrderLemmas.{then-Equal}
 use Rattle.sqlite_tied.specs.Compute.{everything}
 use Rattle.sqlite.specs.Listing.{understood}
-use Rattle.sqlite.specs.State.{State, ExecutesInside, Shown}
 use Rattle.sqlite.proofs.Callers.{IsPlain, command_of}
 use Rattle.store_tables.specs.Schema.{IsCurrentSchema, analyzed_schema, office_schema}
-use Rattle.store_tables.specs.Tables.{tables_of, values, IsOffice}
-use Rattle.store_tables.specs.Statements.{Makes}
+use Rattle.store_tables.specs.Tables.{values}
 use Rattle.store_tables.specs.Selected.{IsSelected}
 use Rattle.store_tables.proofs.Columns.{cast_null, cast_number, column_is}
 use Rattle.store_tables.proofs.Changing.{appends, makes, removes}
@@ -35,6 +30,7 @@ use Rattle.store_statements.specs.declared.row.NetRow.{NetRow}
 use Rattle.store_statements.specs.Rows.{is_any, is_of_net, net_row}
 use Rattle.store_statements.specs.Shown.{net_names_order, net_names_shown, net_order, net_shown}
 use Rattle.store_statements.proofs.Requested.{net_requested, one_test}
+use Rattle.store_statements.proofs.Texts.{Queries, Runs}
 
 -- ---- insert_net
 
@@ -57,10 +53,8 @@ put : (row : NetRow) (db : Trees)
     ≡ put_row (Int (next_rowid (db 1)) ∷ net_row row) (db 1)
 put row db = rw (cast_null, cast_number row.kind, cast_number row.reviews, cast_number row.phase) refl
 
-pub inserts : (row : NetRow) (old new : State) (r : Result ℕ Error) → IsOffice old.now
-    → (old.in_transaction ≡ false → r ≡ Err (SqliteFailure TransactionState))
-    → (IsTrue old.in_transaction → ExecutesInside 0 insert_text (net_row row) old new r)
-    → IfOk r (λ rows. Makes (λ t. record t { net = t.net ++ net_row row ∷ [] }) old new × (rows ≡ 1))
+pub inserts : (row : NetRow) → Runs insert_text (net_row row) (λ t. record t { net = t.net ++ net_row row ∷ [] })
+    (λ t. 1)
 unfolding office_schema
 inserts row old new r office ended ran =
     makes insert_text (net_row row) _ 1 old new r
@@ -81,11 +75,9 @@ delete_net_plain : InEach (λ s. IsPlain (understood s delete_net_text))
 unfolding understood everything office_schema analyzed_schema
 delete_net_plain = record { usual = (refl, refl); analyzed = (refl, refl) }
 
-pub delete_nets : (name : List ℕ) (old new : State) (r : Result ℕ Error) → IsOffice old.now
-    → (old.in_transaction ≡ false → r ≡ Err (SqliteFailure TransactionState))
-    → (IsTrue old.in_transaction → ExecutesInside 0 delete_net_text (Text name ∷ []) old new r)
-    → IfOk r (λ rows. Makes (λ t. record t { net = filter (λ row. not (is_of_net name row)) t.net }) old new
-    × (rows ≡ length (filter (is_of_net name) (tables_of old.now.trees).net)))
+pub delete_nets : (name : List ℕ) → Runs delete_net_text (Text name ∷ [])
+    (λ t. record t { net = filter (λ row. not (is_of_net name row)) t.net })
+    (λ t. length (filter (is_of_net name) t.net))
 unfolding office_schema
 delete_nets name old new r office ended ran =
     makes delete_net_text (Text name ∷ []) _ _ old new r
@@ -118,10 +110,8 @@ net_names_means = record {
   orders_same = λ x y. then-Equal _ ∙ rw (column_is x 0, column_is y 0) refl;
 }
 
-pub net_names_found : {X : Type 0} (rows_of : X → List Row) (old new : State) (r : Result X Error)
-    → IsCurrentSchema old.now.schema
-    → IfOk r (λ x. Shown net_names_text [] old new (rows_of x))
-    → IfOk r (λ x. IsSelected is_any net_names_shown net_names_order (tables_of old.now.trees).net (rows_of x))
+pub net_names_found : {X : Type 0} (rows_of : X → List Row) → Queries rows_of net_names_text []
+    (λ t rows. IsSelected is_any net_names_shown net_names_order t.net rows)
 net_names_found rows_of = finds_now net_names_text 1 [] net_names_columns net_names_by _ []
     (net_names_selects []) values is_any net_names_shown net_names_order net_names_means rows_of
 
@@ -156,10 +146,8 @@ net_means name = record {
   orders_same = λ x y. then-Equal _ ∙ rw (column_is x 0, column_is y 0) refl;
 }
 
-pub net_found : {X : Type 0} (rows_of : X → List Row) (name : List ℕ) (old new : State) (r : Result X Error)
-    → IsCurrentSchema old.now.schema
-    → IfOk r (λ x. Shown net_text (Text name ∷ []) old new (rows_of x))
-    → IfOk r (λ x. IsSelected (is_of_net name) net_shown net_order (tables_of old.now.trees).net (rows_of x))
+pub net_found : {X : Type 0} (rows_of : X → List Row) (name : List ℕ) → Queries rows_of net_text (Text name ∷ [])
+    (λ t rows. IsSelected (is_of_net name) net_shown net_order t.net rows)
 net_found rows_of name = finds_now net_text 1 one_test net_columns net_by _ (Text name ∷ [])
     (net_selects (Text name ∷ [])) values (is_of_net name) net_shown net_order (net_means name) rows_of
 

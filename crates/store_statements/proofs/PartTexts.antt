@@ -1,10 +1,6 @@
 -- What the texts on `part` make of it, and show of it.
-use Rattle.std.proofs.Common.{◌≡◌, ℕ, List, [], ◌∷◌, ◌++◌, codes, false, Err, Result, refl, ◌∙◌}
-use Rattle.std.specs.Prelude.{IfOk, IsTrue}
+use Rattle.std.proofs.Common.{◌≡◌, ℕ, List, [], ◌∷◌, ◌++◌, codes, refl, ◌∙◌}
 use Rattle.sqlite.specs.declared.types.Value.TheVariants.{Null, Int, Text}
-use Rattle.sqlite.specs.declared.error.Error.{Error}
-use Rattle.sqlite.specs.declared.error.Error.TheVariants.{SqliteFailure}
-use Rattle.sqlite.specs.declared.error.ErrorCode.TheVariants.{TransactionState}
 use Rattle.sqlite.specs.Order.{Row}
 use Rattle.sqlite.specs.Term.{Term, lit, col}
 use Rattle.sqlite.specs.Tree.{Trees, put_row}
@@ -19,11 +15,9 @@ use Rattle.sqlite_value.specs.declared.keys.Key.{Key}
 use Rattle.sqlite_value.proofs.OrderLemmas.{then-Equal}
 use Rattle.sqlite_tied.specs.Compute.{everything}
 use Rattle.sqlite.specs.Listing.{understood}
-use Rattle.sqlite.specs.State.{State, ExecutesInside, Shown}
 use Rattle.sqlite.proofs.Callers.{IsPlain, command_of}
 use Rattle.store_tables.specs.Schema.{IsCurrentSchema, analyzed_schema, office_schema}
-use Rattle.store_tables.specs.Tables.{tables_of, values, IsOffice}
-use Rattle.store_tables.specs.Statements.{Makes}
+use Rattle.store_tables.specs.Tables.{values}
 use Rattle.store_tables.specs.Selected.{IsSelected}
 use Rattle.store_tables.proofs.Columns.{cast_null, cast_number, column_is}
 use Rattle.store_tables.proofs.Changing.{appends, makes}
@@ -34,6 +28,7 @@ use Rattle.store_statements.specs.declared.row.PartRow.{PartRow}
 use Rattle.store_statements.specs.Rows.{has_two_texts, part_row}
 use Rattle.store_statements.specs.Shown.{parts_order, parts_shown}
 use Rattle.store_statements.proofs.Requested.{texts_requested, two_tests}
+use Rattle.store_statements.proofs.Texts.{Queries, Runs}
 
 -- ---- insert_part
 
@@ -56,10 +51,8 @@ put : (row : PartRow) (db : Trees)
     ≡ put_row (Int (next_rowid (db 27)) ∷ part_row row) (db 27)
 put row db = rw (cast_null, cast_number row.place, cast_number row.kind, cast_number row.a, cast_number row.b) refl
 
-pub inserts : (row : PartRow) (old new : State) (r : Result ℕ Error) → IsOffice old.now
-    → (old.in_transaction ≡ false → r ≡ Err (SqliteFailure TransactionState))
-    → (IsTrue old.in_transaction → ExecutesInside 0 insert_text (part_row row) old new r)
-    → IfOk r (λ rows. Makes (λ t. record t { part = t.part ++ part_row row ∷ [] }) old new × (rows ≡ 1))
+pub inserts : (row : PartRow) → Runs insert_text (part_row row) (λ t. record t { part = t.part ++ part_row row ∷ [] })
+    (λ t. 1)
 unfolding office_schema
 inserts row old new r office ended ran =
     makes insert_text (part_row row) _ 1 old new r
@@ -94,11 +87,8 @@ parts_means team key = record {
   orders_same = λ x y. then-Equal _ ∙ rw (column_is x 2, column_is y 2) refl;
 }
 
-pub parts_found : {X : Type 0} (rows_of : X → List Row) (team : List ℕ) (key : List ℕ) (old new : State)
-    (r : Result X Error) → IsCurrentSchema old.now.schema
-    → IfOk r (λ x. Shown parts_text (Text team ∷ Text key ∷ []) old new (rows_of x))
-    → IfOk r (λ x. IsSelected (has_two_texts team key) parts_shown parts_order (tables_of old.now.trees).part
-    (rows_of x))
+pub parts_found : {X : Type 0} (rows_of : X → List Row) (team : List ℕ) (key : List ℕ) → Queries rows_of parts_text
+    (Text team ∷ Text key ∷ []) (λ t rows. IsSelected (has_two_texts team key) parts_shown parts_order t.part rows)
 parts_found rows_of team key =
     finds_now parts_text 27 two_tests parts_columns parts_by _ (Text team ∷ Text key ∷ [])
     (parts_selects (Text team ∷ Text key ∷ [])) values (has_two_texts team key) parts_shown parts_order

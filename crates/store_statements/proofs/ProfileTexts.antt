@@ -1,11 +1,9 @@
 -- What the texts on `profile` make of it, and show of it.
-use Rattle.std.proofs.Common.{◌≡◌, ◌∙◌, inl, inr, ℕ, pos, List, [], ◌∷◌, codes, false, Ok, Err, Result, refl, sym, ap}
+use Rattle.std.proofs.Common.{◌≡◌, ◌∙◌, inl, inr, ℕ, pos, List, [], ◌∷◌, codes, Ok, Result, refl, sym, ap}
 use Rattle.std.proofs.Common.{subst}
-use Rattle.std.specs.Prelude.{IfOk, IsTrue, length}
+use Rattle.std.specs.Prelude.{IfOk, length}
 use Rattle.sqlite.specs.declared.types.Value.TheVariants.{Null, Int}
 use Rattle.sqlite.specs.declared.error.Error.{Error}
-use Rattle.sqlite.specs.declared.error.Error.TheVariants.{SqliteFailure}
-use Rattle.sqlite.specs.declared.error.ErrorCode.TheVariants.{TransactionState}
 use Rattle.sqlite.specs.Order.{Row}
 use Rattle.sqlite.specs.Term.{Term, lit, col}
 use Rattle.sqlite.specs.Tree.{Trees, put_row}
@@ -20,11 +18,10 @@ use Rattle.sqlite_value.specs.declared.keys.Key.{Key}
 use Rattle.sqlite_value.proofs.OrderLemmas.{then-Equal}
 use Rattle.sqlite_tied.specs.Compute.{everything}
 use Rattle.sqlite.specs.Listing.{understood}
-use Rattle.sqlite.specs.State.{State, Executes, ExecutesInside, Shown}
+use Rattle.sqlite.specs.State.{State, Executes, Shown}
 use Rattle.sqlite.proofs.Callers.{IsPlain, command_of}
 use Rattle.store_tables.specs.Schema.{IsOfficeSchema, analyzed_schema, office_schema, schema_9, schema_13}
-use Rattle.store_tables.specs.Tables.{tables_of, keyed_values, IsOffice}
-use Rattle.store_tables.specs.Statements.{Makes}
+use Rattle.store_tables.specs.Tables.{tables_of, keyed_values}
 use Rattle.store_tables.specs.Selected.{IsSelected}
 use Rattle.store_tables.proofs.Columns.{cast_null, cast_number, keyed_column_is}
 use Rattle.store_tables.proofs.Current.{InEach, in_each}
@@ -35,6 +32,7 @@ use Rattle.store_tables.proofs.Finding.{ascending, IsSelect, Means, finds}
 use Rattle.store_statements.specs.Rows.{is_any, mark_row}
 use Rattle.store_statements.specs.Shown.{profile_order, profile_shown}
 use Rattle.store_statements.proofs.Requested.{all_wanted, none_left}
+use Rattle.store_statements.proofs.Texts.{Runs}
 
 -- ---- insert_profile
 
@@ -57,11 +55,8 @@ put : (one number : ℕ) (db : Trees)
     ≡ put_row (Int (pos one) ∷ Null ∷ Int (pos number) ∷ []) (db 0)
 put one number db = rw (cast_null, cast_number one, cast_number number) refl
 
-pub inserts : (one number : ℕ) (old new : State) (r : Result ℕ Error) → IsOffice old.now
-    → (old.in_transaction ≡ false → r ≡ Err (SqliteFailure TransactionState))
-    → (IsTrue old.in_transaction → ExecutesInside 0 insert_text (mark_row one number) old new r)
-    → IfOk r (λ rows. Makes (λ t. record t { profile = put_row (mark_row one number) t.profile }) old new
-    × (rows ≡ 1))
+pub inserts : (one number : ℕ) → Runs insert_text (mark_row one number)
+    (λ t. record t { profile = put_row (mark_row one number) t.profile }) (λ t. 1)
 unfolding office_schema
 inserts one number old new r office ended ran =
     makes insert_text (mark_row one number) _ 1 old new r
@@ -82,11 +77,7 @@ clear_plain : InEach (λ s. IsPlain (understood s clear_text))
 unfolding understood everything office_schema analyzed_schema
 clear_plain = record { usual = (refl, refl); analyzed = (refl, refl) }
 
-pub clears : (old new : State) (r : Result ℕ Error) → IsOffice old.now
-    → (old.in_transaction ≡ false → r ≡ Err (SqliteFailure TransactionState))
-    → (IsTrue old.in_transaction → ExecutesInside 0 clear_text [] old new r)
-    → IfOk r (λ rows. Makes (λ t. record t { profile = [] }) old new
-    × (rows ≡ length (tables_of old.now.trees).profile))
+pub clears : Runs clear_text [] (λ t. record t { profile = [] }) (λ t. length t.profile)
 unfolding office_schema
 clears old new r office ended ran = makes clear_text [] _ _ old new r does ended ran
   where

@@ -1,11 +1,8 @@
 -- What the texts on `receiver` make of it, and show of it.
-use Rattle.std.proofs.Common.{◌≡◌, ℕ, pos, List, [], ◌∷◌, ◌++◌, codes, false, not, Err, Result, ap, refl, ◌∙◌}
+use Rattle.std.proofs.Common.{◌≡◌, ℕ, pos, List, [], ◌∷◌, ◌++◌, codes, not, ap, refl, ◌∙◌}
 use Rattle.std.specs.Ordering.{ordering_then}
-use Rattle.std.specs.Prelude.{IfOk, IsTrue, filter, length}
+use Rattle.std.specs.Prelude.{filter, length}
 use Rattle.sqlite.specs.declared.types.Value.TheVariants.{Null, Int, Text}
-use Rattle.sqlite.specs.declared.error.Error.{Error}
-use Rattle.sqlite.specs.declared.error.Error.TheVariants.{SqliteFailure}
-use Rattle.sqlite.specs.declared.error.ErrorCode.TheVariants.{TransactionState}
 use Rattle.sqlite.specs.Order.{Row, column, value_cmp}
 use Rattle.sqlite.specs.Term.{Term, lit, col}
 use Rattle.sqlite.specs.Tree.{Trees, put_row}
@@ -20,11 +17,9 @@ use Rattle.sqlite_value.specs.declared.keys.Key.{Key}
 use Rattle.sqlite_value.proofs.OrderLemmas.{then-Equal}
 use Rattle.sqlite_tied.specs.Compute.{everything}
 use Rattle.sqlite.specs.Listing.{understood}
-use Rattle.sqlite.specs.State.{State, ExecutesInside, Shown}
 use Rattle.sqlite.proofs.Callers.{IsPlain, command_of}
 use Rattle.store_tables.specs.Schema.{IsCurrentSchema, analyzed_schema, office_schema}
-use Rattle.store_tables.specs.Tables.{tables_of, values, IsOffice}
-use Rattle.store_tables.specs.Statements.{Makes}
+use Rattle.store_tables.specs.Tables.{values}
 use Rattle.store_tables.specs.Selected.{IsSelected}
 use Rattle.store_tables.proofs.Columns.{cast_null, cast_number, column_is}
 use Rattle.store_tables.proofs.Changing.{appends, makes, removes}
@@ -39,6 +34,7 @@ use Rattle.store_statements.proofs.Requested.{net_requested, numbered_requested,
 use Rattle.store_statements.proofs.Requested.{two_tests}
 use Rattle.store_tables.proofs.Counting.{IsCountSelect, counts}
 use Rattle.sqlite_sql.specs.Aggregate.{count}
+use Rattle.store_statements.proofs.Texts.{Queries, Runs}
 
 -- ---- insert_receiver
 
@@ -61,10 +57,8 @@ put : (row : ReceiverRow) (db : Trees)
     ≡ put_row (Int (next_rowid (db 23)) ∷ receiver_row row) (db 23)
 put row db = rw (cast_null, cast_number row.number, cast_number row.place, cast_number row.index) refl
 
-pub inserts : (row : ReceiverRow) (old new : State) (r : Result ℕ Error) → IsOffice old.now
-    → (old.in_transaction ≡ false → r ≡ Err (SqliteFailure TransactionState))
-    → (IsTrue old.in_transaction → ExecutesInside 0 insert_text (receiver_row row) old new r)
-    → IfOk r (λ rows. Makes (λ t. record t { receiver = t.receiver ++ receiver_row row ∷ [] }) old new × (rows ≡ 1))
+pub inserts : (row : ReceiverRow) → Runs insert_text (receiver_row row)
+    (λ t. record t { receiver = t.receiver ++ receiver_row row ∷ [] }) (λ t. 1)
 unfolding office_schema
 inserts row old new r office ended ran =
     makes insert_text (receiver_row row) _ 1 old new r
@@ -85,12 +79,9 @@ delete_plain : InEach (λ s. IsPlain (understood s delete_text))
 unfolding understood everything office_schema analyzed_schema
 delete_plain = record { usual = (refl, refl); analyzed = (refl, refl) }
 
-pub deletes : (net : List ℕ) (number : ℕ) (old new : State) (r : Result ℕ Error) → IsOffice old.now
-    → (old.in_transaction ≡ false → r ≡ Err (SqliteFailure TransactionState))
-    → (IsTrue old.in_transaction → ExecutesInside 0 delete_text (Text net ∷ Int (pos number) ∷ []) old new r)
-    → IfOk r (λ rows. Makes (λ t. record t
-    { receiver = filter (λ row. not (has_net_and_number net number row)) t.receiver }) old new
-    × (rows ≡ length (filter (has_net_and_number net number) (tables_of old.now.trees).receiver)))
+pub deletes : (net : List ℕ) (number : ℕ) → Runs delete_text (Text net ∷ Int (pos number) ∷ [])
+    (λ t. record t { receiver = filter (λ row. not (has_net_and_number net number row)) t.receiver })
+    (λ t. length (filter (has_net_and_number net number) t.receiver))
 unfolding office_schema
 deletes net number old new r office ended ran =
     makes delete_text (Text net ∷ Int (pos number) ∷ []) _ _ old new r
@@ -112,13 +103,10 @@ delete_at_plain : InEach (λ s. IsPlain (understood s delete_at_text))
 unfolding understood everything office_schema analyzed_schema
 delete_at_plain = record { usual = (refl, refl); analyzed = (refl, refl) }
 
-pub deletes_at : (net : List ℕ) (number place : ℕ) (old new : State) (r : Result ℕ Error) → IsOffice old.now
-    → (old.in_transaction ≡ false → r ≡ Err (SqliteFailure TransactionState))
-    → (IsTrue old.in_transaction → ExecutesInside 0 delete_at_text (Text net ∷ Int (pos number) ∷ Int (pos place) ∷ [])
-    old new r)
-    → IfOk r (λ rows. Makes (λ t. record t
-    { receiver = filter (λ row. not (has_place_of net number place row)) t.receiver }) old new
-    × (rows ≡ length (filter (has_place_of net number place) (tables_of old.now.trees).receiver)))
+pub deletes_at : (net : List ℕ) (number place : ℕ) → Runs delete_at_text
+    (Text net ∷ Int (pos number) ∷ Int (pos place) ∷ [])
+    (λ t. record t { receiver = filter (λ row. not (has_place_of net number place row)) t.receiver })
+    (λ t. length (filter (has_place_of net number place) t.receiver))
 unfolding office_schema
 deletes_at net number place old new r office ended ran =
     makes delete_at_text (Text net ∷ Int (pos number) ∷ Int (pos place) ∷ []) _ _ old new r
@@ -156,11 +144,9 @@ receivers_means net number = record {
       ∙ rw (column_is x 2, column_is y 2, column_is x 3, column_is y 3) refl;
 }
 
-pub receivers_found : {X : Type 0} (rows_of : X → List Row) (net : List ℕ) (number : ℕ) (old new : State)
-    (r : Result X Error) → IsCurrentSchema old.now.schema
-    → IfOk r (λ x. Shown receivers_text (Text net ∷ Int (pos number) ∷ []) old new (rows_of x))
-    → IfOk r (λ x. IsSelected (has_net_and_number net number) receivers_shown receivers_order
-    (tables_of old.now.trees).receiver (rows_of x))
+pub receivers_found : {X : Type 0} (rows_of : X → List Row) (net : List ℕ) (number : ℕ) → Queries rows_of receivers_text
+    (Text net ∷ Int (pos number) ∷ [])
+    (λ t rows. IsSelected (has_net_and_number net number) receivers_shown receivers_order t.receiver rows)
 receivers_found rows_of net number = finds_now receivers_text 23 two_tests receivers_columns receivers_by _
     (Text net ∷ Int (pos number) ∷ []) (receivers_selects (Text net ∷ Int (pos number) ∷ [])) values
     (has_net_and_number net number) receivers_shown receivers_order (receivers_means net number) rows_of
@@ -180,10 +166,8 @@ count_selects params = record {
   analyzed = record { command = refl; listing = refl; plain = (refl, refl) };
 }
 
-pub counted_receivers : {X : Type 0} (rows_of : X → List Row) (net : List ℕ) (old new : State) (r : Result X Error)
-    → IsCurrentSchema old.now.schema
-    → IfOk r (λ x. Shown count_text (Text net ∷ []) old new (rows_of x))
-    → IfOk r (λ x. rows_of x ≡ (count (length (filter (is_of_net net) (tables_of old.now.trees).receiver)) ∷ []) ∷ [])
+pub counted_receivers : {X : Type 0} (rows_of : X → List Row) (net : List ℕ) → Queries rows_of count_text
+    (Text net ∷ []) (λ t rows. rows ≡ (count (length (filter (is_of_net net) t.receiver)) ∷ []) ∷ [])
 counted_receivers rows_of net = counts count_text 23 one_test (Text net ∷ []) (count_selects (Text net ∷ []))
     (is_of_net net) (net_requested net) rows_of
 

@@ -1,10 +1,6 @@
 -- What the texts on `reply` make of it, and show of it.
-use Rattle.std.proofs.Common.{◌≡◌, ℕ, List, [], ◌∷◌, ◌++◌, codes, false, Err, Result, refl, ap, ◌∙◌}
-use Rattle.std.specs.Prelude.{IfOk, IsTrue}
+use Rattle.std.proofs.Common.{◌≡◌, ℕ, List, [], ◌∷◌, ◌++◌, codes, refl, ap, ◌∙◌}
 use Rattle.sqlite.specs.declared.types.Value.TheVariants.{Null, Int, Text}
-use Rattle.sqlite.specs.declared.error.Error.{Error}
-use Rattle.sqlite.specs.declared.error.Error.TheVariants.{SqliteFailure}
-use Rattle.sqlite.specs.declared.error.ErrorCode.TheVariants.{TransactionState}
 use Rattle.sqlite.specs.Order.{Row}
 use Rattle.sqlite.specs.Term.{Term, lit, col}
 use Rattle.sqlite.specs.Tree.{Trees, put_row}
@@ -19,11 +15,9 @@ use Rattle.sqlite_value.specs.declared.keys.Key.{Key}
 use Rattle.sqlite_value.proofs.OrderLemmas.{then-Equal}
 use Rattle.sqlite_tied.specs.Compute.{everything}
 use Rattle.sqlite.specs.Listing.{understood}
-use Rattle.sqlite.specs.State.{State, ExecutesInside, Shown}
 use Rattle.sqlite.proofs.Callers.{IsPlain, command_of}
 use Rattle.store_tables.specs.Schema.{IsCurrentSchema, analyzed_schema, office_schema}
-use Rattle.store_tables.specs.Tables.{tables_of, values, IsOffice}
-use Rattle.store_tables.specs.Statements.{Makes}
+use Rattle.store_tables.specs.Tables.{values}
 use Rattle.store_tables.specs.Selected.{IsSelected}
 use Rattle.store_tables.proofs.Columns.{cast_null, cast_number, column_is}
 use Rattle.store_tables.proofs.Changing.{appends, makes}
@@ -34,6 +28,7 @@ use Rattle.store_statements.specs.declared.row.ReplyRow.{ReplyRow}
 use Rattle.store_statements.specs.Rows.{has_two_texts, is_of_team, reply_row}
 use Rattle.store_statements.specs.Shown.{keys_order, keys_shown, reply_order, reply_shown}
 use Rattle.store_statements.proofs.Requested.{net_requested, one_test, texts_requested, two_tests}
+use Rattle.store_statements.proofs.Texts.{Queries, Runs}
 
 -- ---- insert_reply
 
@@ -56,10 +51,8 @@ put : (row : ReplyRow) (db : Trees)
     ≡ put_row (Int (next_rowid (db 15)) ∷ reply_row row) (db 15)
 put row db = rw (cast_null, cast_number row.kind, cast_number row.a, cast_number row.b, cast_number row.c) refl
 
-pub inserts : (row : ReplyRow) (old new : State) (r : Result ℕ Error) → IsOffice old.now
-    → (old.in_transaction ≡ false → r ≡ Err (SqliteFailure TransactionState))
-    → (IsTrue old.in_transaction → ExecutesInside 0 insert_text (reply_row row) old new r)
-    → IfOk r (λ rows. Makes (λ t. record t { reply = t.reply ++ reply_row row ∷ [] }) old new × (rows ≡ 1))
+pub inserts : (row : ReplyRow) → Runs insert_text (reply_row row)
+    (λ t. record t { reply = t.reply ++ reply_row row ∷ [] }) (λ t. 1)
 unfolding office_schema
 inserts row old new r office ended ran =
     makes insert_text (reply_row row) _ 1 old new r
@@ -95,11 +88,8 @@ reply_means team key = record {
   orders_same = λ x y. then-Equal _ ∙ rw (column_is x 1, column_is y 1) refl;
 }
 
-pub reply_found : {X : Type 0} (rows_of : X → List Row) (team : List ℕ) (key : List ℕ) (old new : State)
-    (r : Result X Error) → IsCurrentSchema old.now.schema
-    → IfOk r (λ x. Shown reply_text (Text team ∷ Text key ∷ []) old new (rows_of x))
-    → IfOk r (λ x. IsSelected (has_two_texts team key) reply_shown reply_order (tables_of old.now.trees).reply
-    (rows_of x))
+pub reply_found : {X : Type 0} (rows_of : X → List Row) (team : List ℕ) (key : List ℕ) → Queries rows_of reply_text
+    (Text team ∷ Text key ∷ []) (λ t rows. IsSelected (has_two_texts team key) reply_shown reply_order t.reply rows)
 reply_found rows_of team key =
     finds_now reply_text 15 two_tests reply_columns reply_by _ (Text team ∷ Text key ∷ [])
     (reply_selects (Text team ∷ Text key ∷ [])) values (has_two_texts team key) reply_shown reply_order
@@ -132,10 +122,8 @@ keys_means team = record {
   orders_same = λ x y. then-Equal _ ∙ rw (column_is x 1, column_is y 1) refl;
 }
 
-pub keys_found : {X : Type 0} (rows_of : X → List Row) (team : List ℕ) (old new : State) (r : Result X Error)
-    → IsCurrentSchema old.now.schema
-    → IfOk r (λ x. Shown keys_text (Text team ∷ []) old new (rows_of x))
-    → IfOk r (λ x. IsSelected (is_of_team team) keys_shown keys_order (tables_of old.now.trees).reply (rows_of x))
+pub keys_found : {X : Type 0} (rows_of : X → List Row) (team : List ℕ) → Queries rows_of keys_text (Text team ∷ [])
+    (λ t rows. IsSelected (is_of_team team) keys_shown keys_order t.reply rows)
 keys_found rows_of team = finds_now keys_text 15 one_test keys_columns reply_by _ (Text team ∷ [])
     (keys_selects (Text team ∷ [])) values (is_of_team team) keys_shown keys_order (keys_means team) rows_of
 

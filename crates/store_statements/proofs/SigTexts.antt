@@ -1,10 +1,7 @@
 -- What the texts on `sig` make of it, and show of it.
-use Rattle.std.proofs.Common.{◌≡◌, ℕ, pos, List, [], ◌∷◌, ◌++◌, codes, false, not, Err, Result, refl, ◌∙◌}
-use Rattle.std.specs.Prelude.{IfOk, IsTrue, filter, length}
+use Rattle.std.proofs.Common.{◌≡◌, ℕ, pos, List, [], ◌∷◌, ◌++◌, codes, not, refl, ◌∙◌}
+use Rattle.std.specs.Prelude.{filter, length}
 use Rattle.sqlite.specs.declared.types.Value.TheVariants.{Null, Int, Text}
-use Rattle.sqlite.specs.declared.error.Error.{Error}
-use Rattle.sqlite.specs.declared.error.Error.TheVariants.{SqliteFailure}
-use Rattle.sqlite.specs.declared.error.ErrorCode.TheVariants.{TransactionState}
 use Rattle.sqlite.specs.Order.{Row}
 use Rattle.sqlite.specs.Term.{Term, lit, col}
 use Rattle.sqlite.specs.Tree.{Trees, put_row}
@@ -19,11 +16,9 @@ use Rattle.sqlite_value.specs.declared.keys.Key.{Key}
 use Rattle.sqlite_value.proofs.OrderLemmas.{then-Equal}
 use Rattle.sqlite_tied.specs.Compute.{everything}
 use Rattle.sqlite.specs.Listing.{understood}
-use Rattle.sqlite.specs.State.{State, ExecutesInside, Shown}
 use Rattle.sqlite.proofs.Callers.{IsPlain, command_of}
 use Rattle.store_tables.specs.Schema.{IsCurrentSchema, analyzed_schema, office_schema}
-use Rattle.store_tables.specs.Tables.{tables_of, values, IsOffice}
-use Rattle.store_tables.specs.Statements.{Makes}
+use Rattle.store_tables.specs.Tables.{values}
 use Rattle.store_tables.specs.Selected.{IsFirstSelected, IsSelected}
 use Rattle.store_tables.proofs.Columns.{cast_int, cast_null, cast_number, column_is}
 use Rattle.store_tables.proofs.Changing.{appends, makes, removes}
@@ -40,6 +35,7 @@ use Rattle.store_statements.proofs.Requested.{net_requested, numbered_requested,
 use Rattle.store_statements.proofs.Requested.{signal_requested, signal_tests, three_tests, two_tests}
 use Rattle.store_tables.proofs.Counting.{IsCountSelect, counts}
 use Rattle.sqlite_sql.specs.Aggregate.{count}
+use Rattle.store_statements.proofs.Texts.{Queries, Runs}
 
 -- ---- insert_sig
 
@@ -74,10 +70,8 @@ put row db = rw (
   cast_int (mux_number row.mux),
 ) refl
 
-pub inserts : (row : SigRow) (old new : State) (r : Result ℕ Error) → IsOffice old.now
-    → (old.in_transaction ≡ false → r ≡ Err (SqliteFailure TransactionState))
-    → (IsTrue old.in_transaction → ExecutesInside 0 insert_text (sig_row row) old new r)
-    → IfOk r (λ rows. Makes (λ t. record t { sig = t.sig ++ sig_row row ∷ [] }) old new × (rows ≡ 1))
+pub inserts : (row : SigRow) → Runs insert_text (sig_row row) (λ t. record t { sig = t.sig ++ sig_row row ∷ [] })
+    (λ t. 1)
 unfolding office_schema
 inserts row old new r office ended ran =
     makes insert_text (sig_row row) _ 1 old new r
@@ -98,11 +92,9 @@ delete_plain : InEach (λ s. IsPlain (understood s delete_text))
 unfolding understood everything office_schema analyzed_schema
 delete_plain = record { usual = (refl, refl); analyzed = (refl, refl) }
 
-pub deletes : (net : List ℕ) (number : ℕ) (old new : State) (r : Result ℕ Error) → IsOffice old.now
-    → (old.in_transaction ≡ false → r ≡ Err (SqliteFailure TransactionState))
-    → (IsTrue old.in_transaction → ExecutesInside 0 delete_text (Text net ∷ Int (pos number) ∷ []) old new r)
-    → IfOk r (λ rows. Makes (λ t. record t { sig = filter (λ row. not (has_net_and_number net number row)) t.sig }) old
-    new × (rows ≡ length (filter (has_net_and_number net number) (tables_of old.now.trees).sig)))
+pub deletes : (net : List ℕ) (number : ℕ) → Runs delete_text (Text net ∷ Int (pos number) ∷ [])
+    (λ t. record t { sig = filter (λ row. not (has_net_and_number net number row)) t.sig })
+    (λ t. length (filter (has_net_and_number net number) t.sig))
 unfolding office_schema
 deletes net number old new r office ended ran =
     makes delete_text (Text net ∷ Int (pos number) ∷ []) _ _ old new r
@@ -124,12 +116,10 @@ delete_at_plain : InEach (λ s. IsPlain (understood s delete_at_text))
 unfolding understood everything office_schema analyzed_schema
 delete_at_plain = record { usual = (refl, refl); analyzed = (refl, refl) }
 
-pub deletes_at : (net : List ℕ) (number place : ℕ) (old new : State) (r : Result ℕ Error) → IsOffice old.now
-    → (old.in_transaction ≡ false → r ≡ Err (SqliteFailure TransactionState))
-    → (IsTrue old.in_transaction → ExecutesInside 0 delete_at_text (Text net ∷ Int (pos number) ∷ Int (pos place) ∷ [])
-    old new r)
-    → IfOk r (λ rows. Makes (λ t. record t { sig = filter (λ row. not (has_place_of net number place row)) t.sig }) old
-    new × (rows ≡ length (filter (has_place_of net number place) (tables_of old.now.trees).sig)))
+pub deletes_at : (net : List ℕ) (number place : ℕ) → Runs delete_at_text
+    (Text net ∷ Int (pos number) ∷ Int (pos place) ∷ [])
+    (λ t. record t { sig = filter (λ row. not (has_place_of net number place row)) t.sig })
+    (λ t. length (filter (has_place_of net number place) t.sig))
 unfolding office_schema
 deletes_at net number place old new r office ended ran =
     makes delete_at_text (Text net ∷ Int (pos number) ∷ Int (pos place) ∷ []) _ _ old new r
@@ -185,11 +175,9 @@ sigs_means net number = record {
   orders_same = λ x y. then-Equal _ ∙ rw (column_is x 2, column_is y 2) refl;
 }
 
-pub sigs_found : {X : Type 0} (rows_of : X → List Row) (net : List ℕ) (number : ℕ) (old new : State)
-    (r : Result X Error) → IsCurrentSchema old.now.schema
-    → IfOk r (λ x. Shown sigs_text (Text net ∷ Int (pos number) ∷ []) old new (rows_of x))
-    → IfOk r (λ x. IsSelected (has_net_and_number net number) sigs_shown sigs_order (tables_of old.now.trees).sig
-    (rows_of x))
+pub sigs_found : {X : Type 0} (rows_of : X → List Row) (net : List ℕ) (number : ℕ) → Queries rows_of sigs_text
+    (Text net ∷ Int (pos number) ∷ [])
+    (λ t rows. IsSelected (has_net_and_number net number) sigs_shown sigs_order t.sig rows)
 sigs_found rows_of net number =
     finds_now sigs_text 20 two_tests sigs_columns sigs_by _ (Text net ∷ Int (pos number) ∷ [])
     (sigs_selects (Text net ∷ Int (pos number) ∷ [])) values (has_net_and_number net number) sigs_shown sigs_order
@@ -222,11 +210,9 @@ named_means net number name = record {
   orders_same = (sigs_means net number).orders_same;
 }
 
-pub named_found : {X : Type 0} (rows_of : X → List Row) (net : List ℕ) (number : ℕ) (name : List ℕ) (old new : State)
-    (r : Result X Error) → IsCurrentSchema old.now.schema
-    → IfOk r (λ x. Shown named_text (Text net ∷ Int (pos number) ∷ Text name ∷ []) old new (rows_of x))
-    → IfOk r (λ x. IsSelected (has_name_of net number name) sigs_shown sigs_order (tables_of old.now.trees).sig
-    (rows_of x))
+pub named_found : {X : Type 0} (rows_of : X → List Row) (net : List ℕ) (number : ℕ) (name : List ℕ) → Queries rows_of
+    named_text (Text net ∷ Int (pos number) ∷ Text name ∷ [])
+    (λ t rows. IsSelected (has_name_of net number name) sigs_shown sigs_order t.sig rows)
 named_found rows_of net number name =
     finds_now named_text 20 signal_tests sigs_columns sigs_by _ (Text net ∷ Int (pos number) ∷ Text name ∷ [])
     (named_selects (Text net ∷ Int (pos number) ∷ Text name ∷ [])) values (has_name_of net number name) sigs_shown
@@ -260,11 +246,9 @@ last_place_means net number = record {
   orders_same = λ x y. then-Equal _ ∙ rw (column_is x 2, column_is y 2) refl;
 }
 
-pub last_place_found : {X : Type 0} (rows_of : X → List Row) (net : List ℕ) (number : ℕ) (old new : State)
-    (r : Result X Error) → IsCurrentSchema old.now.schema
-    → IfOk r (λ x. Shown last_place_text (Text net ∷ Int (pos number) ∷ []) old new (rows_of x))
-    → IfOk r (λ x. IsFirstSelected (has_net_and_number net number) last_place_shown last_place_order
-    (tables_of old.now.trees).sig (rows_of x))
+pub last_place_found : {X : Type 0} (rows_of : X → List Row) (net : List ℕ) (number : ℕ) → Queries rows_of
+    last_place_text (Text net ∷ Int (pos number) ∷ [])
+    (λ t rows. IsFirstSelected (has_net_and_number net number) last_place_shown last_place_order t.sig rows)
 last_place_found rows_of net number =
     tops last_place_text 20 two_tests (col 1 3 ∷ []) last_place_by (codes "place" ∷ [])
     (Text net ∷ Int (pos number) ∷ [])
@@ -286,10 +270,8 @@ count_selects params = record {
   analyzed = record { command = refl; listing = refl; plain = (refl, refl) };
 }
 
-pub counted_sigs : {X : Type 0} (rows_of : X → List Row) (net : List ℕ) (old new : State) (r : Result X Error)
-    → IsCurrentSchema old.now.schema
-    → IfOk r (λ x. Shown count_text (Text net ∷ []) old new (rows_of x))
-    → IfOk r (λ x. rows_of x ≡ (count (length (filter (is_of_net net) (tables_of old.now.trees).sig)) ∷ []) ∷ [])
+pub counted_sigs : {X : Type 0} (rows_of : X → List Row) (net : List ℕ) → Queries rows_of count_text (Text net ∷ [])
+    (λ t rows. rows ≡ (count (length (filter (is_of_net net) t.sig)) ∷ []) ∷ [])
 counted_sigs rows_of net = counts count_text 20 one_test (Text net ∷ []) (count_selects (Text net ∷ [])) (is_of_net net)
     (net_requested net) rows_of
 

@@ -1,11 +1,8 @@
 -- What the texts on `sigvalue` make of it, and show of it.
-use Rattle.std.proofs.Common.{◌≡◌, ℕ, pos, List, [], ◌∷◌, ◌++◌, codes, false, not, Err, Result, ap, refl, ◌∙◌}
+use Rattle.std.proofs.Common.{◌≡◌, ℕ, pos, List, [], ◌∷◌, ◌++◌, codes, not, ap, refl, ◌∙◌}
 use Rattle.std.specs.Ordering.{ordering_then}
-use Rattle.std.specs.Prelude.{IfOk, IsTrue, filter, length}
+use Rattle.std.specs.Prelude.{filter, length}
 use Rattle.sqlite.specs.declared.types.Value.TheVariants.{Null, Int, Text}
-use Rattle.sqlite.specs.declared.error.Error.{Error}
-use Rattle.sqlite.specs.declared.error.Error.TheVariants.{SqliteFailure}
-use Rattle.sqlite.specs.declared.error.ErrorCode.TheVariants.{TransactionState}
 use Rattle.sqlite.specs.Order.{Row, column, value_cmp}
 use Rattle.sqlite.specs.Term.{Term, lit, col}
 use Rattle.sqlite.specs.Tree.{Trees, put_row}
@@ -20,11 +17,9 @@ use Rattle.sqlite_value.specs.declared.keys.Key.{Key}
 use Rattle.sqlite_value.proofs.OrderLemmas.{then-Equal}
 use Rattle.sqlite_tied.specs.Compute.{everything}
 use Rattle.sqlite.specs.Listing.{understood}
-use Rattle.sqlite.specs.State.{State, ExecutesInside, Shown}
 use Rattle.sqlite.proofs.Callers.{IsPlain, command_of}
 use Rattle.store_tables.specs.Schema.{IsCurrentSchema, analyzed_schema, office_schema}
-use Rattle.store_tables.specs.Tables.{tables_of, values, IsOffice}
-use Rattle.store_tables.specs.Statements.{Makes}
+use Rattle.store_tables.specs.Tables.{values}
 use Rattle.store_tables.specs.Selected.{IsSelected}
 use Rattle.store_tables.proofs.Columns.{cast_null, cast_number, column_is}
 use Rattle.store_tables.proofs.Changing.{appends, makes, removes}
@@ -39,6 +34,7 @@ use Rattle.store_statements.proofs.Requested.{net_requested, numbered_requested,
 use Rattle.store_statements.proofs.Requested.{two_tests}
 use Rattle.store_tables.proofs.Counting.{IsCountSelect, counts}
 use Rattle.sqlite_sql.specs.Aggregate.{count}
+use Rattle.store_statements.proofs.Texts.{Queries, Runs}
 
 -- ---- insert_sigvalue
 
@@ -61,10 +57,8 @@ put : (row : SigValueRow) (db : Trees)
     ≡ put_row (Int (next_rowid (db 25)) ∷ sigvalue_row row) (db 25)
 put row db = rw (cast_null, cast_number row.number, cast_number row.place, cast_number row.index) refl
 
-pub inserts : (row : SigValueRow) (old new : State) (r : Result ℕ Error) → IsOffice old.now
-    → (old.in_transaction ≡ false → r ≡ Err (SqliteFailure TransactionState))
-    → (IsTrue old.in_transaction → ExecutesInside 0 insert_text (sigvalue_row row) old new r)
-    → IfOk r (λ rows. Makes (λ t. record t { sigvalue = t.sigvalue ++ sigvalue_row row ∷ [] }) old new × (rows ≡ 1))
+pub inserts : (row : SigValueRow) → Runs insert_text (sigvalue_row row)
+    (λ t. record t { sigvalue = t.sigvalue ++ sigvalue_row row ∷ [] }) (λ t. 1)
 unfolding office_schema
 inserts row old new r office ended ran =
     makes insert_text (sigvalue_row row) _ 1 old new r
@@ -85,12 +79,9 @@ delete_plain : InEach (λ s. IsPlain (understood s delete_text))
 unfolding understood everything office_schema analyzed_schema
 delete_plain = record { usual = (refl, refl); analyzed = (refl, refl) }
 
-pub deletes : (net : List ℕ) (number : ℕ) (old new : State) (r : Result ℕ Error) → IsOffice old.now
-    → (old.in_transaction ≡ false → r ≡ Err (SqliteFailure TransactionState))
-    → (IsTrue old.in_transaction → ExecutesInside 0 delete_text (Text net ∷ Int (pos number) ∷ []) old new r)
-    → IfOk r (λ rows. Makes (λ t. record t
-    { sigvalue = filter (λ row. not (has_net_and_number net number row)) t.sigvalue }) old new
-    × (rows ≡ length (filter (has_net_and_number net number) (tables_of old.now.trees).sigvalue)))
+pub deletes : (net : List ℕ) (number : ℕ) → Runs delete_text (Text net ∷ Int (pos number) ∷ [])
+    (λ t. record t { sigvalue = filter (λ row. not (has_net_and_number net number row)) t.sigvalue })
+    (λ t. length (filter (has_net_and_number net number) t.sigvalue))
 unfolding office_schema
 deletes net number old new r office ended ran =
     makes delete_text (Text net ∷ Int (pos number) ∷ []) _ _ old new r
@@ -112,13 +103,10 @@ delete_at_plain : InEach (λ s. IsPlain (understood s delete_at_text))
 unfolding understood everything office_schema analyzed_schema
 delete_at_plain = record { usual = (refl, refl); analyzed = (refl, refl) }
 
-pub deletes_at : (net : List ℕ) (number place : ℕ) (old new : State) (r : Result ℕ Error) → IsOffice old.now
-    → (old.in_transaction ≡ false → r ≡ Err (SqliteFailure TransactionState))
-    → (IsTrue old.in_transaction → ExecutesInside 0 delete_at_text (Text net ∷ Int (pos number) ∷ Int (pos place) ∷ [])
-    old new r)
-    → IfOk r (λ rows. Makes (λ t. record t
-    { sigvalue = filter (λ row. not (has_place_of net number place row)) t.sigvalue }) old new
-    × (rows ≡ length (filter (has_place_of net number place) (tables_of old.now.trees).sigvalue)))
+pub deletes_at : (net : List ℕ) (number place : ℕ) → Runs delete_at_text
+    (Text net ∷ Int (pos number) ∷ Int (pos place) ∷ [])
+    (λ t. record t { sigvalue = filter (λ row. not (has_place_of net number place row)) t.sigvalue })
+    (λ t. length (filter (has_place_of net number place) t.sigvalue))
 unfolding office_schema
 deletes_at net number place old new r office ended ran =
     makes delete_at_text (Text net ∷ Int (pos number) ∷ Int (pos place) ∷ []) _ _ old new r
@@ -156,11 +144,9 @@ sigvalues_means net number = record {
       ∙ rw (column_is x 2, column_is y 2, column_is x 3, column_is y 3) refl;
 }
 
-pub sigvalues_found : {X : Type 0} (rows_of : X → List Row) (net : List ℕ) (number : ℕ) (old new : State)
-    (r : Result X Error) → IsCurrentSchema old.now.schema
-    → IfOk r (λ x. Shown sigvalues_text (Text net ∷ Int (pos number) ∷ []) old new (rows_of x))
-    → IfOk r (λ x. IsSelected (has_net_and_number net number) sigvalues_shown sigvalues_order
-    (tables_of old.now.trees).sigvalue (rows_of x))
+pub sigvalues_found : {X : Type 0} (rows_of : X → List Row) (net : List ℕ) (number : ℕ) → Queries rows_of sigvalues_text
+    (Text net ∷ Int (pos number) ∷ [])
+    (λ t rows. IsSelected (has_net_and_number net number) sigvalues_shown sigvalues_order t.sigvalue rows)
 sigvalues_found rows_of net number = finds_now sigvalues_text 25 two_tests sigvalues_columns sigvalues_by _
     (Text net ∷ Int (pos number) ∷ []) (sigvalues_selects (Text net ∷ Int (pos number) ∷ [])) values
     (has_net_and_number net number) sigvalues_shown sigvalues_order (sigvalues_means net number) rows_of
@@ -180,10 +166,8 @@ count_selects params = record {
   analyzed = record { command = refl; listing = refl; plain = (refl, refl) };
 }
 
-pub counted_sigvalues : {X : Type 0} (rows_of : X → List Row) (net : List ℕ) (old new : State) (r : Result X Error)
-    → IsCurrentSchema old.now.schema
-    → IfOk r (λ x. Shown count_text (Text net ∷ []) old new (rows_of x))
-    → IfOk r (λ x. rows_of x ≡ (count (length (filter (is_of_net net) (tables_of old.now.trees).sigvalue)) ∷ []) ∷ [])
+pub counted_sigvalues : {X : Type 0} (rows_of : X → List Row) (net : List ℕ) → Queries rows_of count_text
+    (Text net ∷ []) (λ t rows. rows ≡ (count (length (filter (is_of_net net) t.sigvalue)) ∷ []) ∷ [])
 counted_sigvalues rows_of net = counts count_text 25 one_test (Text net ∷ []) (count_selects (Text net ∷ []))
     (is_of_net net) (net_requested net) rows_of
 

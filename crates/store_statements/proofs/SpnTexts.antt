@@ -1,10 +1,7 @@
 -- What the texts on `spn` make of it, and show of it.
-use Rattle.std.proofs.Common.{◌≡◌, ℕ, pos, List, [], ◌∷◌, codes, false, not, Err, Result, refl}
-use Rattle.std.specs.Prelude.{IfOk, IsTrue, filter, length}
+use Rattle.std.proofs.Common.{◌≡◌, ℕ, pos, List, [], ◌∷◌, codes, not, refl}
+use Rattle.std.specs.Prelude.{filter, length}
 use Rattle.sqlite.specs.declared.types.Value.TheVariants.{Null, Int}
-use Rattle.sqlite.specs.declared.error.Error.{Error}
-use Rattle.sqlite.specs.declared.error.Error.TheVariants.{SqliteFailure}
-use Rattle.sqlite.specs.declared.error.ErrorCode.TheVariants.{TransactionState}
 use Rattle.sqlite.specs.Order.{Row}
 use Rattle.sqlite.specs.Term.{Term, lit, col}
 use Rattle.sqlite.specs.Tree.{Trees, put_row}
@@ -19,11 +16,9 @@ use Rattle.sqlite_value.specs.declared.keys.Key.{Key}
 use Rattle.sqlite_value.proofs.OrderLemmas.{then-Equal}
 use Rattle.sqlite_tied.specs.Compute.{everything}
 use Rattle.sqlite.specs.Listing.{understood}
-use Rattle.sqlite.specs.State.{State, ExecutesInside, Shown}
 use Rattle.sqlite.proofs.Callers.{IsPlain, command_of}
 use Rattle.store_tables.specs.Schema.{IsCurrentSchema, analyzed_schema, office_schema}
-use Rattle.store_tables.specs.Tables.{tables_of, keyed_values, IsOffice}
-use Rattle.store_tables.specs.Statements.{Makes}
+use Rattle.store_tables.specs.Tables.{keyed_values}
 use Rattle.store_tables.specs.Selected.{IsSelected}
 use Rattle.store_tables.proofs.Columns.{cast_null, cast_number}
 use Rattle.store_tables.proofs.Changing.{makes, puts, removes}
@@ -34,6 +29,7 @@ use Rattle.store_tables.proofs.Finding.{ascending, IsSelect, Means, finds_now}
 use Rattle.store_statements.specs.Rows.{is_any, is_number, spn_row}
 use Rattle.store_statements.specs.Shown.{spns_order, spns_shown}
 use Rattle.store_statements.proofs.Requested.{key_test, number_requested_alone}
+use Rattle.store_statements.proofs.Texts.{Queries, Runs}
 
 -- ---- insert_spn
 
@@ -56,10 +52,8 @@ put : (number : ℕ) (db : Trees)
     ≡ put_row (Int (pos number) ∷ Null ∷ []) (db 10)
 put number db = rw (cast_null, cast_number number) refl
 
-pub inserts : (number : ℕ) (old new : State) (r : Result ℕ Error) → IsOffice old.now
-    → (old.in_transaction ≡ false → r ≡ Err (SqliteFailure TransactionState))
-    → (IsTrue old.in_transaction → ExecutesInside 0 insert_text (spn_row number) old new r)
-    → IfOk r (λ rows. Makes (λ t. record t { spn = put_row (spn_row number) t.spn }) old new × (rows ≡ 1))
+pub inserts : (number : ℕ) → Runs insert_text (spn_row number) (λ t. record t { spn = put_row (spn_row number) t.spn })
+    (λ t. 1)
 unfolding office_schema
 inserts number old new r office ended ran =
     makes insert_text (spn_row number) _ 1 old new r
@@ -80,11 +74,9 @@ delete_spn_plain : InEach (λ s. IsPlain (understood s delete_spn_text))
 unfolding understood everything office_schema analyzed_schema
 delete_spn_plain = record { usual = (refl, refl); analyzed = (refl, refl) }
 
-pub delete_spns : (number : ℕ) (old new : State) (r : Result ℕ Error) → IsOffice old.now
-    → (old.in_transaction ≡ false → r ≡ Err (SqliteFailure TransactionState))
-    → (IsTrue old.in_transaction → ExecutesInside 0 delete_spn_text (Int (pos number) ∷ []) old new r)
-    → IfOk r (λ rows. Makes (λ t. record t { spn = filter (λ row. not (is_number number row)) t.spn }) old new
-    × (rows ≡ length (filter (is_number number) (tables_of old.now.trees).spn)))
+pub delete_spns : (number : ℕ) → Runs delete_spn_text (Int (pos number) ∷ [])
+    (λ t. record t { spn = filter (λ row. not (is_number number row)) t.spn })
+    (λ t. length (filter (is_number number) t.spn))
 unfolding office_schema
 delete_spns number old new r office ended ran =
     makes delete_spn_text (Int (pos number) ∷ []) _ _ old new r
@@ -118,10 +110,8 @@ spns_means = record {
   orders_same = λ x y. then-Equal _;
 }
 
-pub spns_found : {X : Type 0} (rows_of : X → List Row) (old new : State) (r : Result X Error)
-    → IsCurrentSchema old.now.schema
-    → IfOk r (λ x. Shown spns_text [] old new (rows_of x))
-    → IfOk r (λ x. IsSelected is_any spns_shown spns_order (tables_of old.now.trees).spn (rows_of x))
+pub spns_found : {X : Type 0} (rows_of : X → List Row) → Queries rows_of spns_text []
+    (λ t rows. IsSelected is_any spns_shown spns_order t.spn rows)
 spns_found rows_of = finds_now spns_text 10 [] spns_columns spns_by _ [] (spns_selects []) keyed_values is_any
     spns_shown spns_order spns_means rows_of
 

@@ -24,7 +24,7 @@ pub enum Order {
 }
 
 impl Order {
-    ghost use Rattle.bitlayout.specs.Order.{order_number, order_numbered};
+    ghost use Rattle.bitlayout.specs.Order.{order_number, order_numbered, order_word};
 
     /// The order that a DBC file writes as this number after `@`: 0 or 1, `None` for any other number.
     pub fn from_number(number: u32) -> Option<Order>
@@ -44,6 +44,16 @@ impl Order {
         match self {
             Order::Intel => 1,
             Order::Motorola => 0,
+        }
+    }
+
+    /// The order's word.
+    pub fn word(self) -> &'static str
+        ensures { result.now ≡ order_word self }
+    {
+        match self {
+            Order::Intel => "intel",
+            Order::Motorola => "motorola",
         }
     }
 }

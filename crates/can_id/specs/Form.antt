@@ -1,5 +1,5 @@
--- The two forms of identifiers (ISO 11898-1, base and extended frame format).
-use Rattle.std.specs.Prelude.{ℕ}
+-- The two forms of identifiers, and their words (ISO 11898-1, base and extended frame format).
+use Rattle.std.specs.Prelude.{ℕ, List, codes}
 use Rattle.can_id.specs.declared.form.IdentForm.{IdentForm}
 use Rattle.can_id.specs.declared.form.IdentForm.TheVariants.{Standard, Extended}
 
@@ -7,3 +7,7 @@ use Rattle.can_id.specs.declared.form.IdentForm.TheVariants.{Standard, Extended}
 abbrev pub greatest_number : IdentForm → ℕ
 greatest_number Standard = 2047
 greatest_number Extended = 536870911
+
+abbrev pub ident_word : IdentForm → List ℕ
+ident_word Standard = codes "std"
+ident_word Extended = codes "ext"

@@ -20,7 +20,7 @@ pub enum IdentForm {
 }
 
 impl IdentForm {
-    ghost use Rattle.can_id.specs.Form.{greatest_number};
+    ghost use Rattle.can_id.specs.Form.{greatest_number, ident_word};
 
     /// The greatest identifier of the form.
     pub fn greatest(self) -> u32
@@ -29,6 +29,16 @@ impl IdentForm {
         match self {
             IdentForm::Standard => u32::from(GREATEST_STANDARD),
             IdentForm::Extended => GREATEST_EXTENDED,
+        }
+    }
+
+    /// The form's word.
+    pub fn word(self) -> &'static str
+        ensures { result.now ≡ ident_word self }
+    {
+        match self {
+            IdentForm::Standard => "std",
+            IdentForm::Extended => "ext",
         }
     }
 }

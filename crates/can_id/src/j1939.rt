@@ -1,8 +1,7 @@
 //! The fields of a 29-bit identifier, and parameter group numbers (SAE J1939-21, the protocol data unit).
 ghost use Rattle.std.specs.Prelude.{◌≡◌, ◌↔◌, IsTrue, MatchResult, Ok, Option, Some};
 ghost use Rattle.can_id.specs.J1939.{AreInRange, Fields, HasFields, IsBuildFault, IsBuilt, IsPgn, build_result};
-ghost use Rattle.can_id.specs.J1939.{fields_of, format_of, ident_fields, is_pdu1, is_pgn, number_of, pgn_count};
-ghost use Rattle.can_id.specs.J1939.{pgn_of};
+ghost use Rattle.can_id.specs.J1939.{fields_of, format_of, ident_fields, is_pdu1, is_pgn, number_of, pgn_count, pgn_of};
 ghost use Rattle.can_id.specs.declared.ident.Ident.TheVariants.{Ext};
 
 use crate::fault::IdFault;

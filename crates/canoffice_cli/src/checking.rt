@@ -1,10 +1,9 @@
 //! Checking DBC texts.
 ghost use Rattle.std.specs.Prelude.{◌≡◌, ◌∷◌, [], IfOk, map};
 ghost use Rattle.std.specs.Option.{option_map};
-ghost use Rattle.canoffice_cli.specs.Checked.{IsCheckedOutcome, IsJudged, IsLintedCheck, IsPlainCheck};
-ghost use Rattle.canoffice_cli.specs.Checked.{IsRemarkedCheck, IsSheetCheck};
-ghost use Rattle.canoffice_cli.specs.Checked.{clear_kind, fault_line, fault_kind, listed, passed_kind, remarked};
-ghost use Rattle.canoffice_cli.specs.Checked.{one_row, unclear_kind};
+ghost use Rattle.canoffice_cli.specs.Checked.{IsCheckedOutcome, IsJudged, IsLintedCheck, IsPlainCheck, IsRemarkedCheck};
+ghost use Rattle.canoffice_cli.specs.Checked.{IsSheetCheck, clear_kind, fault_line, fault_kind, listed, passed_kind};
+ghost use Rattle.canoffice_cli.specs.Checked.{remarked, one_row, unclear_kind};
 ghost use Rattle.canoffice_cli.specs.Outcome.{outcome_of};
 ghost use Rattle.dbc_lint.specs.Listing.{remark_rows};
 ghost use Rattle.dbc_read.specs.Passed.{start_and_keyword};

@@ -2,7 +2,7 @@
 use Rattle.std.specs.Prelude.{ℕ, Bool, true, false, List, [], ◌∷◌, ◌++◌, Option, Some, None, codes, if◌then◌else◌}
 use Rattle.bitlayout.specs.Mux.{indicator_of}
 use Rattle.bitlayout.specs.declared.layout.Order.{Order}
-use Rattle.bitlayout.specs.declared.layout.Order.TheVariants.{Intel, Motorola}
+use Rattle.bitlayout.specs.Order.{order_word}
 use Rattle.dbc_words.specs.declared.value_type.ValueType.{ValueType}
 use Rattle.dbc_words.specs.declared.value_type.ValueType.TheVariants.{Integer, Float, Double}
 use Rattle.dbc_sheet.specs.Messages.{number_of}
@@ -54,10 +54,6 @@ breaks_receivers field.Offset = true
 breaks_receivers f = false
 
 -- ---- words of a few choices
-
-abbrev pub order_word : Order → List ℕ
-order_word Intel = codes "intel"
-order_word Motorola = codes "motorola"
 
 abbrev pub truth_word : Bool → List ℕ
 truth_word b = if b then codes "true" else codes "false"

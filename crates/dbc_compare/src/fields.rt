@@ -7,7 +7,7 @@ ghost use Rattle.dbc_compare.specs.Fields.{scale_fields, sheet_fields};
 use crate::changes::{push_decimal, push_names, push_spn, push_texts, push_whole, push_word};
 use crate::difference::Change;
 use crate::field::Field;
-use crate::values::{order_word, truth_word, type_word};
+use crate::values::{truth_word, type_word};
 use dbc_sheet::{Message, Node, Sheet, Signal, ValueTable};
 use dbc_words::{Name, Named};
 use std::alloc::{AllocError, Global};
@@ -84,7 +84,10 @@ fn push_layout(
         u64::from(new.layout.size.bits()),
     );
     push_whole(alloc, changes, Field::Size, before, after)?;
-    let (before, after) = (order_word(old.layout.order), order_word(new.layout.order));
+    let (before, after) = (
+        old.layout.order.word().as_bytes(),
+        new.layout.order.word().as_bytes(),
+    );
     push_word(alloc, changes, Field::Order, before, after)
 }
 

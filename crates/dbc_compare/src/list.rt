@@ -1,8 +1,7 @@
 //! The differences of two sheets as a list.
 ghost use Rattle.std.specs.Prelude.{◌≡◌, ◌↔◌, ◌++◌, ◌∷◌, [], IfOk, IsTrue, OnOk, count_by};
 ghost use Rattle.dbc_compare.specs.List.{breaks, change_fact, compare_text, difference_row, differences_table};
-ghost use Rattle.dbc_compare.specs.List.{has_no_difference, ident_at, is_breaking, kind_word, name_fact};
-ghost use Rattle.dbc_compare.specs.List.{no_difference};
+ghost use Rattle.dbc_compare.specs.List.{has_no_difference, ident_at, is_breaking, kind_word, name_fact, no_difference};
 ghost use Rattle.rows.specs.Fact.{fact_of, of_path};
 
 use crate::difference::{Change, Difference};

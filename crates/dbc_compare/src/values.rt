@@ -1,7 +1,7 @@
 //! Words for what fields have.
 ghost use Rattle.std.specs.Prelude.{◌≡◌, IfOk, decimal};
 ghost use Rattle.decimal.specs.Printing.{text_of};
-ghost use Rattle.dbc_compare.specs.Fields.{order_word, truth_word, type_word};
+ghost use Rattle.dbc_compare.specs.Fields.{truth_word, type_word};
 ghost use Rattle.dbc_compare.specs.Value.{entries_text, entry_text, later_entries, spn_text};
 
 use bitlayout::Order;
@@ -36,16 +36,6 @@ pub(crate) fn spn_text(alloc: Global, spn: Spn) -> Result<Vec<u8>, AllocError>
         Vec::from_slice(alloc, b"-")
     } else {
         digits(alloc, u64::from(number))
-    }
-}
-
-/// The word for the byte order.
-pub(crate) fn order_word(order: Order) -> &'static [u8]
-    ensures { result.now ≡ order_word order }
-{
-    match order {
-        Order::Intel => b"intel",
-        Order::Motorola => b"motorola",
     }
 }
 

@@ -6,8 +6,7 @@ ghost use Rattle.bitlayout.specs.Mux.{is_under};
 ghost use Rattle.dbc_sheet.specs.declared.signal.Signal as declared;
 ghost use Rattle.dbc_lint.specs.Numbers.{is_zero};
 ghost use Rattle.dbc_lint.specs.OfSignal.{is_long, is_mux_outside, is_mux_unused, is_other_size, multiplexor_of};
-ghost use Rattle.dbc_lint.specs.OfSignal.{of_kind, of_signal, signal_has, signal_kinds, signal_words};
-ghost use Rattle.dbc_lint.specs.OfSignal.{unknown_node};
+ghost use Rattle.dbc_lint.specs.OfSignal.{of_kind, of_signal, signal_has, signal_kinds, signal_words, unknown_node};
 
 use crate::kind::Kind;
 use crate::numbers::is_above;

@@ -1,8 +1,7 @@
 //! Serving connections in turn.
 ghost use Rattle.std.specs.Prelude.{◌≡◌, ◌<◌, List, [], ◌∷◌, length, IfOk, IsTrue, MatchResult, OnErr};
 ghost use Rattle.sqlite.specs.Held.{state};
-ghost use Rattle.store.specs.Calls.{KeepsDoubt, KeepsStatistics, LeavesStatistics, OnHistory};
-ghost use Rattle.store.specs.Calls.{StatisticsStayAfter};
+ghost use Rattle.store.specs.Calls.{KeepsDoubt, KeepsStatistics, LeavesStatistics, OnHistory, StatisticsStayAfter};
 ghost use Rattle.desk.specs.Noted.{IsLeftAlone};
 ghost use Rattle.desk.specs.Responding.{StaysOpen};
 ghost use Rattle.desk.specs.Serving.{GoesOn, HasServedAll, NoneWaits, SaysFailure, Visit, fault_of};

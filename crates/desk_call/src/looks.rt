@@ -1,8 +1,7 @@
 //! What targets show.
 ghost use Rattle.office_fields.specs.Reading.{ReadsField};
 ghost use Rattle.desk_call.specs.Call.{chart_in, compare_in, look_of, message_in, net_look_in, node_in, of_team_in};
-ghost use Rattle.desk_call.specs.Call.{release_in, release_page_in, requests_in, team_in};
-ghost use Rattle.desk_call.specs.Call.{who_in};
+ghost use Rattle.desk_call.specs.Call.{release_in, release_page_in, requests_in, team_in, who_in};
 
 use crate::values::{name_of, net_in, number_of, release_number, sought_of};
 use desk_head::{Showing, first_parameter, second_parameter, third_parameter};

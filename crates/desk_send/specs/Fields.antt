@@ -65,7 +65,10 @@ entries_of (act.SetValues c) =
     filled field.Message c.path.message ∷ filled field.Signal c.path.signal ∷ filled field.Value c.values ∷ []
 entries_of (act.RemoveSignal path) = filled field.Message path.message ∷ filled field.Signal path.signal ∷ []
 entries_of (act.Retire name) = filled field.Message name ∷ []
-entries_of a = []
+entries_of act.Submit = []
+entries_of act.Approve = []
+entries_of act.Reject = []
+entries_of act.Release = []
 
 -- ---- as named values
 

@@ -5,11 +5,10 @@ use Rattle.std.specs.Str.{is_utf8}
 use Rattle.std.proofs.Common.{refl}
 use Rattle.std.proofs.lemmas.Bool.{false≢true}
 use Rattle.bitlayout.specs.Mux.{indicator_of}
-use Rattle.bitlayout.specs.declared.layout.Order.{Order}
-use Rattle.bitlayout.specs.declared.layout.Order.TheVariants.{Intel, Motorola}
 use Rattle.bitlayout.specs.declared.place.Mux.TheVariants.{Always}
+use Rattle.bitlayout.specs.Order.{order_word}
 use Rattle.can_id.specs.declared.form.IdentForm.{IdentForm}
-use Rattle.can_id.specs.declared.form.IdentForm.TheVariants as ident
+use Rattle.can_id.specs.Form.{ident_word}
 use Rattle.dbc_words.specs.Limits.{length_limit, size_limit}
 use Rattle.dbc_words.specs.Name.{IsName}
 use Rattle.dbc_words.specs.Text.{IsText}
@@ -22,33 +21,15 @@ use Rattle.office_types.specs.declared.command.Pdu.{Pdu}
 use Rattle.office_types.specs.declared.command.Pdu.TheVariants as pdu
 use Rattle.office_fields.specs.Kind.{addressed_to}
 use Rattle.office_types.specs.declared.block.BlockForm.{BlockForm}
-use Rattle.office_types.specs.declared.block.BlockForm.TheVariants as block
 use Rattle.office_types.specs.declared.command.NetKind.{NetKind}
-use Rattle.office_types.specs.declared.command.NetKind.TheVariants.{Can, J1939}
+use Rattle.office_types.specs.Block.{block_word}
+use Rattle.office_types.specs.Command.{kind_word}
 use Rattle.office_fields.specs.Value.{Value, value_from}
 use Rattle.office_fields.specs.declared.field.FieldKind.{FieldKind}
 use Rattle.office_fields.specs.declared.field.FieldKind.TheVariants as kind
 use Rattle.desk_call.specs.Body.{truth_word}
 
 -- ---- words
-
-abbrev pub net_kind_word : NetKind → List ℕ
-net_kind_word Can = codes "can"
-net_kind_word J1939 = codes "j1939"
-
-abbrev pub ident_form_word : IdentForm → List ℕ
-ident_form_word ident.Standard = codes "std"
-ident_form_word ident.Extended = codes "ext"
-
-abbrev pub block_form_word : BlockForm → List ℕ
-block_form_word block.Std = codes "std"
-block_form_word block.Ext = codes "ext"
-block_form_word block.Pgn = codes "pgn"
-block_form_word block.Spn = codes "spn"
-
-abbrev pub order_word : Order → List ℕ
-order_word Intel = codes "intel"
-order_word Motorola = codes "motorola"
 
 -- whether a message goes to one address or to all, by what the words are read as
 abbrev the_value : {A : Type 0} → (o : Option A) → is_some o ≡ true → A
@@ -80,9 +61,9 @@ text_of kind.Team v = v
 text_of kind.Name v = v
 text_of kind.Text v = v
 text_of kind.Path v = v
-text_of kind.NetKind v = net_kind_word v
-text_of kind.IdentForm v = ident_form_word v
-text_of kind.BlockForm v = block_form_word v
+text_of kind.NetKind v = kind_word v
+text_of kind.IdentForm v = ident_word v
+text_of kind.BlockForm v = block_word v
 text_of kind.Addressing v = addressing_word v
 text_of kind.ByteOrder v = order_word v
 text_of kind.Truth v = truth_word v

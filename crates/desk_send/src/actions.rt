@@ -14,7 +14,7 @@ use crate::members::{
     put_text, put_truth,
 };
 use crate::unwritten::Unwritten;
-use crate::words::{addressing_word, block_form_word, ident_form_word, net_kind_word, order_word};
+use crate::words::addressing_word;
 use bitlayout::Mux;
 use decimal::Decimal;
 use office_fields::Field;
@@ -27,12 +27,7 @@ fn put_open_net(alloc: Global, members: &mut Members, opening: &OpenNet) -> Resu
     ensures { Adds (with_entries (entries_of (act.OpenNet opening.now))
         (members_view members.old.entries)) (members_view members.new.entries) result }
 {
-    put_text(
-        alloc,
-        members,
-        Field::Kind,
-        net_kind_word(opening.kind).as_bytes(),
-    )?;
+    put_text(alloc, members, Field::Kind, opening.kind.word().as_bytes())?;
     put_number(
         alloc,
         members,
@@ -46,7 +41,7 @@ fn put_grant(alloc: Global, members: &mut Members, grant: &Grant) -> Result<(), 
         (members_view members.old.entries)) (members_view members.new.entries) result }
 {
     let numbers = grant.block.numbers();
-    let form = block_form_word(grant.block.form());
+    let form = grant.block.form().word();
     put_text(alloc, members, Field::Team, grant.team.as_bytes())?;
     put_text(alloc, members, Field::BlockForm, form.as_bytes())?;
     put_number(alloc, members, Field::First, numbers.first)?;
@@ -62,7 +57,7 @@ fn put_take_ident(alloc: Global, members: &mut Members, take: &TakeIdent) -> Res
         alloc,
         members,
         Field::IdentForm,
-        ident_form_word(take.form).as_bytes(),
+        take.form.word().as_bytes(),
     )?;
     put_text(alloc, members, Field::Name, message.name.as_bytes())?;
     put_number(
@@ -165,12 +160,7 @@ fn put_take_bits(alloc: Global, members: &mut Members, take: &TakeBits) -> Resul
     put_text(alloc, members, Field::Message, take.path.message.as_bytes())?;
     put_text(alloc, members, Field::Signal, take.path.signal.as_bytes())?;
     put_number(alloc, members, Field::Size, u32::from(take.size.bits()))?;
-    put_text(
-        alloc,
-        members,
-        Field::Order,
-        order_word(take.order).as_bytes(),
-    )?;
+    put_text(alloc, members, Field::Order, take.order.word().as_bytes())?;
     put_truth(alloc, members, Field::Signed, take.signed)?;
     put_mark(alloc, members, take.mux)?;
     put_decimal(alloc, members, Field::Factor, &take.factor)?;

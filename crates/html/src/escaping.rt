@@ -1,8 +1,7 @@
 //! Bytes as a text.
 ghost use Rattle.std.specs.Prelude.{◌≡◌, ◌++◌, OnOk};
-ghost use Rattle.html.specs.Text.{escaped, is_control, is_mark, is_noncharacter, is_plain};
-ghost use Rattle.html.specs.Text.{is_unshown, reference, shown};
-ghost use Rattle.html.specs.Text.{written, written_shown};
+ghost use Rattle.html.specs.Text.{escaped, is_control, is_mark, is_noncharacter, is_plain, is_unshown, reference};
+ghost use Rattle.html.specs.Text.{shown, written, written_shown};
 
 use crate::characters::{char_at, is_between};
 use itoa::Buffer;

@@ -1,6 +1,6 @@
 -- The granted blocks, and what is left of them.
 use Rattle.std.specs.Prelude.{ℕ, ◌+◌, ◌-◌, ◌==◌, ◌&&◌, not, Bool, true, List, [], ◌∷◌, ◌++◌, length, map, filter}
-use Rattle.std.specs.Prelude.{sum, count_by, codes, Option, Some, None}
+use Rattle.std.specs.Prelude.{sum, count_by, Option, Some, None}
 use Rattle.std.specs.List.{filter_map, flat_map, range_with_len}
 use Rattle.std.specs.Str.{bytes_eq}
 use Rattle.columns.specs.Run.{runs_of}
@@ -8,7 +8,7 @@ use Rattle.columns.specs.declared.run.Run.{Run}
 use Rattle.can_id.specs.declared.form.IdentForm.TheVariants.{Standard, Extended}
 use Rattle.can_id.specs.declared.ident.Ident.{Ident}
 use Rattle.dbc_sheet.specs.declared.message.Message.{Message}
-use Rattle.office_types.specs.Block.{Range, same_form}
+use Rattle.office_types.specs.Block.{Range, block_word, same_form}
 use Rattle.office_types.specs.Free.{has_form, is_taken}
 use Rattle.office_types.specs.declared.block.BlockForm.{BlockForm}
 use Rattle.office_types.specs.declared.block.BlockForm.TheVariants as form
@@ -88,16 +88,10 @@ free_runs taken b = flat_map (runs_in taken b) (forms_in b.form)
 
 -- ---- the rows
 
-abbrev pub form_word : BlockForm → List ℕ
-form_word form.Std = codes "std"
-form_word form.Ext = codes "ext"
-form_word form.Pgn = codes "pgn"
-form_word form.Spn = codes "spn"
-
 -- form, first, last, team; how many numbers are live, held and free, and which are free
 abbrev pub row_with : List ℕ → List ℕ → GrantedBlock → List Fact
 row_with live taken g =
-    of_name (form_word g.block.form) ∷ of_number g.block.first ∷ of_number g.block.last ∷ of_word g.team
+    of_name (block_word g.block.form) ∷ of_number g.block.first ∷ of_number g.block.last ∷ of_word g.team
     ∷ of_number (live_count live g.block) ∷ of_number (held_count live taken g.block)
     ∷ of_number (free_count taken g.block) ∷ of_free (free_runs taken g.block) ∷ []
 

@@ -3,7 +3,7 @@ ghost use Rattle.std.specs.Prelude.{◌≡◌, ◌&&◌, ◌++◌, ◌∷◌, []
 ghost use Rattle.std.specs.Option.{option_copied};
 ghost use Rattle.office_types.specs.Block.{same_form};
 ghost use Rattle.office_seen.specs.declared.view.View.{View};
-ghost use Rattle.office_blocks.specs.Blocks.{block_row, blocks_table, form_word, free_of_form, is_wanted, row_with};
+ghost use Rattle.office_blocks.specs.Blocks.{block_row, blocks_table, free_of_form, is_wanted, row_with};
 ghost use Rattle.office_blocks.specs.Numbers.{AreNumbersOf};
 
 use crate::free::{held_count, left_of, live_count};
@@ -12,18 +12,6 @@ use office_seen::View;
 use office_types::{BlockForm, GrantedBlock, Team};
 use rows::{Cell, Column, Place, Rows, Table};
 use std::alloc::{AllocError, Global};
-
-/// The word for the form.
-fn form_word(form: BlockForm) -> &'static [u8]
-    ensures { result.now ≡ form_word form }
-{
-    match form {
-        BlockForm::Std => b"std",
-        BlockForm::Ext => b"ext",
-        BlockForm::Pgn => b"pgn",
-        BlockForm::Spn => b"spn",
-    }
-}
 
 /// The columns of a granted block.
 pub const BLOCKS: [Column; 8] = [
@@ -60,7 +48,7 @@ fn push_with<'a>(
     let range = block.numbers();
     let left = left_of(alloc, &numbers.taken, block)?;
     let cells = vec![in alloc;
-        Cell::Name(form_word(block.form())),
+        Cell::Name(block.form().word().as_bytes()),
         Cell::Number(u128::from(range.first)),
         Cell::Number(u128::from(range.last)),
         Cell::Word(granted.team.as_bytes()),

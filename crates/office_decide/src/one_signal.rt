@@ -1,6 +1,5 @@
 //! Changes of one signal of a message: in its place in a list, or on a copy that is put into a network.
-ghost use Rattle.std.specs.Prelude.{◌≡◌, ◌<◌, None, Some, IfOk, IfSome, OnOk, OnErr, length, slice_get};
-ghost use Rattle.std.specs.Prelude.{slice_set};
+ghost use Rattle.std.specs.Prelude.{◌≡◌, ◌<◌, None, Some, IfOk, IfSome, OnOk, OnErr, length, slice_get, slice_set};
 ghost use Rattle.base.specs.Refusing.{first_refusal};
 ghost use Rattle.dbc_sheet.specs.Signals.{signal_tests};
 ghost use Rattle.office_types.specs.declared.change.Change.TheVariants.{AddSignal, RemoveSignal, SetSpn, SetValues};

@@ -1,9 +1,8 @@
 //! What has what is looked for.
 ghost use Rattle.std.specs.Prelude.{◌≡◌, ◌++◌, ◌∷◌, [], IfOk, OnOk, unwrap_or};
 ghost use Rattle.office_seen.specs.Owners.{last_name};
-ghost use Rattle.office_looks.specs.Who.{each_form, has_digits, has_one, ident_written};
-ghost use Rattle.office_looks.specs.Who.{is_group, is_number_of, is_sought};
-ghost use Rattle.office_looks.specs.Who.{is_spn_sought, numbers_if, numbers_of, numbers_sought};
+ghost use Rattle.office_looks.specs.Who.{each_form, has_digits, has_one, ident_written, is_group, is_number_of};
+ghost use Rattle.office_looks.specs.Who.{is_sought, is_spn_sought, numbers_if, numbers_of, numbers_sought};
 
 use can_id::{EXTENDED_FLAG, Ident, IdentForm, J1939, is_pgn};
 use office_facts::group_of;

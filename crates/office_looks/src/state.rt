@@ -7,7 +7,7 @@ ghost use Rattle.rows.specs.Fact.{fact_of};
 
 use dbc_sheet::{Counts, Sheet, counts_of};
 use office_seen::{View, last_release};
-use office_views::{kind_word, phase_word, signal_count};
+use office_views::{phase_word, signal_count};
 use rows::{Cell, Column, Place, Table};
 use std::alloc::{AllocError, Global};
 
@@ -53,7 +53,7 @@ fn state_row<'a>(
     let approved = Cell::words(alloc, approvals)?;
     Ok(vec![in alloc;
         Cell::Word(view.name.as_bytes()),
-        Cell::Name(kind_word(view.kind)),
+        Cell::Name(view.kind.word().as_bytes()),
         Cell::Name(phase_word(&view.phase)),
         Cell::word(view.phase.submitter()),
         approved,

@@ -3,8 +3,7 @@ ghost use Rattle.std.specs.Prelude.{◌≡◌, [], IfOk, OnOk, map, option_map};
 ghost use Rattle.std.specs.Option.{option_copied};
 ghost use Rattle.dbc_grammar.specs.Canon.{canonical_text};
 ghost use Rattle.office_page.specs.Names.{sender_of, text_of};
-ghost use Rattle.office_page.specs.Page.{IsFilePage, IsReleasePage, IsSheetPage, ShowsAlone, ShowsSheet};
-ghost use Rattle.office_page.specs.Page.{release_at};
+ghost use Rattle.office_page.specs.Page.{IsFilePage, IsReleasePage, IsSheetPage, ShowsAlone, ShowsSheet, release_at};
 ghost use Rattle.office_page.specs.Parts.{HasSheetParts};
 ghost use Rattle.page_parts.specs.Letters.{AreNamesOf};
 

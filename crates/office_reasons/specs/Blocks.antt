@@ -1,16 +1,16 @@
 -- Blocks of numbers: how they are called, and which is near a number or has it.
 use Rattle.std.specs.Prelude.{ℕ, ◌-◌, ◌&&◌, nat_le, nat_lt, Bool, List, [], ◌∷◌, ◌++◌, Option, Some, None, codes}
 use Rattle.std.specs.Prelude.{if◌then◌else◌}
-use Rattle.office_types.specs.Block.{same_form}
+use Rattle.office_types.specs.Block.{block_word, same_form}
 use Rattle.office_types.specs.declared.block.Block.{Block}
 use Rattle.office_types.specs.declared.block.BlockForm.{BlockForm}
 use Rattle.office_types.specs.declared.book.SpnBlock.{SpnBlock}
 use Rattle.office_types.specs.declared.state.GrantedBlock.{GrantedBlock}
-use Rattle.office_reasons.specs.Pieces.{form_word, range_text, shown}
+use Rattle.office_reasons.specs.Pieces.{range_text, shown}
 
 -- `std 256 to 258`, of one team's blocks
 abbrev pub own_text : BlockForm → Block → List ℕ
-own_text form b = form_word form ++ (codes " " ++ range_text b)
+own_text form b = block_word form ++ (codes " " ++ range_text b)
 
 -- `256 to 258 of engine`, of one form's blocks
 abbrev pub team_text : Block → List ℕ → List ℕ

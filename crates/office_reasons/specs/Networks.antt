@@ -2,7 +2,7 @@
 use Rattle.std.specs.Prelude.{ℕ, ◌&&◌, nat_le, Bool, not, List, [], ◌∷◌, ◌++◌, map, Option, codes, decimal, find}
 use Rattle.std.specs.Prelude.{if◌then◌else◌, option_map}
 use Rattle.dbc_sheet.specs.declared.node.Node.{Node}
-use Rattle.office_types.specs.Block.{Range, have_common, is_spn}
+use Rattle.office_types.specs.Block.{Range, block_word, have_common, is_spn}
 use Rattle.office_types.specs.declared.block.Block.{Block}
 use Rattle.office_types.specs.declared.book.SpnBlock.{SpnBlock}
 use Rattle.office_types.specs.declared.book.SpnBook.{SpnBook}
@@ -10,10 +10,11 @@ use Rattle.office_types.specs.declared.command.Action.{Action}
 use Rattle.office_types.specs.declared.command.Action.TheVariants.{OpenNet, Grant}
 use Rattle.office_types.specs.declared.state.GrantedBlock.{GrantedBlock}
 use Rattle.office_types.specs.declared.state.Net.{Net}
+use Rattle.office_types.specs.Command.{kind_word}
 use Rattle.office_rules.specs.Facts.{has_node, numbers_of}
 use Rattle.office_reasons.specs.Blocks.{spn_numbers}
 use Rattle.office_reasons.specs.Few.{few_text}
-use Rattle.office_reasons.specs.Pieces.{form_word, kind_word, range_text, shown}
+use Rattle.office_reasons.specs.Pieces.{range_text, shown}
 
 -- which networks there are
 abbrev pub networks_text : List (List ℕ) → List ℕ
@@ -48,8 +49,8 @@ overlap_of b granted = nat_le granted.first b.last && nat_le b.first granted.las
 
 -- the requested block, and a granted one of the network that has a number of it
 abbrev pub granted_text : Range → GrantedBlock → List ℕ
-granted_text r g = form_word r.form ++ (codes " " ++ (range_text (numbers_of r) ++ (codes " overlaps "
-    ++ (form_word r.form ++ (codes " " ++ (range_text (numbers_of g.block) ++ (codes " of team " ++ shown g.team)))))))
+granted_text r g = block_word r.form ++ (codes " " ++ (range_text (numbers_of r) ++ (codes " overlaps "
+    ++ (block_word r.form ++ (codes " " ++ (range_text (numbers_of g.block) ++ (codes " of team " ++ shown g.team)))))))
 
 -- the same of suspect parameter numbers, on whatever network
 abbrev pub granted_spn_text : Range → SpnBlock → List ℕ

@@ -1,18 +1,15 @@
 -- What is reported of numbers, and of the names of new messages.
-use Rattle.std.specs.Prelude.{ℕ, ◌==◌, ◌||◌, ◌&&◌, nat_lt, Bool, false, List, ◌++◌, codes, decimal}
-use Rattle.std.specs.Prelude.{if◌then◌else◌}
+use Rattle.std.specs.Prelude.{ℕ, ◌==◌, ◌||◌, ◌&&◌, nat_lt, Bool, false, List, ◌++◌, codes, decimal, if◌then◌else◌}
 use Rattle.std.specs.Option.{option_map_or}
-use Rattle.can_id.specs.Form.{greatest_number}
+use Rattle.can_id.specs.Form.{greatest_number, ident_word}
 use Rattle.can_id.specs.declared.form.IdentForm.{IdentForm}
 use Rattle.can_id.specs.declared.ident.Ident.{Ident}
 use Rattle.dbc_words.specs.Limits.{spn_limit}
 use Rattle.office_types.specs.Free.{has_form}
-use Rattle.office_types.specs.declared.command.Pdu.{Pdu}
-use Rattle.office_types.specs.declared.command.Pdu.TheVariants.{Addressed, Broadcast}
 use Rattle.office_types.specs.declared.state.LiveMessage.{LiveMessage}
 use Rattle.office_types.specs.declared.state.Net.{Net}
 use Rattle.office_rules.specs.Facts.{group_of, lies_in, number_in}
-use Rattle.office_reasons.specs.Pieces.{ident_text, ident_word, shown}
+use Rattle.office_reasons.specs.Pieces.{ident_text, shown}
 use Rattle.office_reasons.specs.declared.numbers.Pool.{Pool}
 use Rattle.office_reasons.specs.declared.numbers.Pool.TheVariants.{Idents, Groups}
 
@@ -21,10 +18,6 @@ abbrev pub takes : Pool → Ident → Bool
 takes (Idents form blocks) i = option_map_or (λ n. lies_in n blocks.now) (number_in form i) false
 takes (Groups form blocks) i =
     option_map_or (λ n. has_form form n && lies_in n blocks.now) (group_of i) false
-
-abbrev pub pdu_word : Pdu → List ℕ
-pdu_word (Addressed destination) = codes "addressed"
-pdu_word Broadcast = codes "broadcast"
 
 abbrev pub beyond_form_text : IdentForm → ℕ → List ℕ
 beyond_form_text form n = codes "want=" ++ (decimal n ++ (codes " is no " ++ (ident_word form

@@ -4,14 +4,9 @@ use Rattle.std.specs.List.{list_all}
 use Rattle.std.specs.Fmt.{digits}
 use Rattle.std.specs.Str.{is_utf8}
 use Rattle.can_id.specs.Ident.{form_of, ident_number}
-use Rattle.can_id.specs.declared.form.IdentForm.{IdentForm}
-use Rattle.can_id.specs.declared.form.IdentForm.TheVariants.{Standard, Extended}
 use Rattle.can_id.specs.declared.ident.Ident.{Ident}
+use Rattle.can_id.specs.Form.{ident_word}
 use Rattle.office_types.specs.declared.block.Block.{Block}
-use Rattle.office_types.specs.declared.block.BlockForm.{BlockForm}
-use Rattle.office_types.specs.declared.block.BlockForm.TheVariants.{Std, Ext, Pgn, Spn}
-use Rattle.office_types.specs.declared.command.NetKind.{NetKind}
-use Rattle.office_types.specs.declared.command.NetKind.TheVariants.{Can, J1939}
 
 -- printable ASCII
 abbrev pub is_printable : ℕ → Bool
@@ -28,21 +23,6 @@ shown bytes = if is_utf8 bytes then bytes else codes "?"
 -- `256`, or `256 to 258`
 abbrev pub range_text : Block → List ℕ
 range_text b = if b.first == b.last then decimal b.first else decimal b.first ++ (codes " to " ++ decimal b.last)
-
--- forms and kinds as scripts write them
-abbrev pub ident_word : IdentForm → List ℕ
-ident_word Standard = codes "std"
-ident_word Extended = codes "ext"
-
-abbrev pub form_word : BlockForm → List ℕ
-form_word Std = codes "std"
-form_word Ext = codes "ext"
-form_word Pgn = codes "pgn"
-form_word Spn = codes "spn"
-
-abbrev pub kind_word : NetKind → List ℕ
-kind_word Can = codes "can"
-kind_word J1939 = codes "j1939"
 
 -- `std 256 (0x100)`
 abbrev pub ident_text : Ident → List ℕ

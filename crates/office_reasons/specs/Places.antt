@@ -4,8 +4,6 @@ use Rattle.bitlayout.specs.Clash.{collide}
 use Rattle.bitlayout.specs.Mux.{indicator_of}
 use Rattle.bitlayout.specs.Order.{order_number}
 use Rattle.bitlayout.specs.declared.layout.Layout.{Layout}
-use Rattle.bitlayout.specs.declared.layout.Order.{Order}
-use Rattle.bitlayout.specs.declared.layout.Order.TheVariants.{Intel, Motorola}
 use Rattle.bitlayout.specs.declared.place.Mux.{Mux}
 use Rattle.bitlayout.specs.declared.place.Mux.TheVariants.{Always}
 use Rattle.bitlayout.specs.declared.place.Place.{Place}
@@ -31,10 +29,6 @@ mark_text mux = codes " " ++ indicator_of mux
 abbrev pub signal_text : List ℕ → Place → Bool → List ℕ
 signal_text name place signed = shown name ++ (mark_text place.mux
     ++ (codes " (" ++ (layout_text place.layout signed ++ codes ")")))
-
-abbrev pub order_word : Order → List ℕ
-order_word Intel = codes "intel"
-order_word Motorola = codes "motorola"
 
 -- the signal and the place share a bit, and both are present for some value of the multiplexor
 abbrev pub collides_with : Place → Signal → Bool

@@ -5,7 +5,7 @@ ghost use Rattle.office_reasons.specs.Bits.{bytes_text, outside_reason, outside_
 ghost use Rattle.office_reasons.specs.Bits.{shared_text, start_hint, start_text};
 
 use crate::pieces::shown;
-use crate::places::{first_partner, mark_text, order_word, placed_text, signal_text};
+use crate::places::{first_partner, mark_text, placed_text, signal_text};
 use bitlayout::{Layout, Place, Size, least_start};
 use dbc_advice::{first_outside, first_shared};
 use dbc_sheet::{Message, Signal};
@@ -180,7 +180,7 @@ pub(crate) fn no_room(
     let fit = longest_fit(&places, message.length.bytes(), take);
     let mark = mark_text(alloc, take.mux)?;
     let mark = mark.as_str();
-    let order = order_word(take.order);
+    let order = take.order.word();
     let bits = take.size.bits();
     let name = shown(message.name.as_bytes());
     match fit {

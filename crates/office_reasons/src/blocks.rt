@@ -10,7 +10,7 @@ ghost use Rattle.office_reasons.specs.Pieces.{range_text};
 
 use crate::case::{Case, Told, told};
 use crate::few::few_text;
-use crate::pieces::{form_word, is_spn, range_text, shown};
+use crate::pieces::{is_spn, range_text, shown};
 use office_facts::{blocks_of, spn_blocks_of};
 use office_types::{Block, BlockForm, GrantedBlock, SpnBlock, Team};
 use std::alloc::{AllocError, Global};
@@ -54,7 +54,7 @@ pub(crate) fn ranges_text(alloc: Global, blocks: &[Block]) -> Result<String, All
 fn own_text(alloc: Global, form: BlockForm, block: Block) -> Result<String, AllocError>
     ensures { IfOk result (λ text. string_bytes text ≡ own_text form block) }
 {
-    let form = form_word(form);
+    let form = form.word();
     let range = range_text(alloc, block)?;
     let range = range.as_str();
     format!(in alloc; "{form} {range}")
@@ -145,7 +145,7 @@ fn instead_text(case: &Case<'_>, form: BlockForm) -> Result<String, AllocError> 
 pub(crate) fn no_block(case: &Case<'_>, form: BlockForm) -> Result<String, AllocError> {
     let instead = instead_text(case, form)?;
     let instead = instead.as_str();
-    let form = form_word(form);
+    let form = form.word();
     let team = shown(case.team.as_bytes());
     let name = shown(case.net.name.as_bytes());
     format!(in case.alloc; "team {team} has no {form} block on {name}; {instead}")

@@ -8,7 +8,7 @@ use crate::blocks::owned_text;
 use crate::case::{Case, Told, told};
 use crate::networks::no_net;
 use crate::numbers::{ident_held, live_with, name_live};
-use crate::pieces::{ident_text, ident_word, shown};
+use crate::pieces::{ident_text, shown};
 use crate::reviews::review_reason;
 use crate::seen::Seen;
 use can_id::{Ident, J1939};
@@ -148,7 +148,7 @@ fn other_message(
 fn outside_text(alloc: Global, team: &Team, message: &Message) -> Result<String, AllocError> {
     let ident = ident_text(alloc, &message.ident)?;
     let ident = ident.as_str();
-    let form = ident_word(message.ident.form());
+    let form = message.ident.form().word();
     let name = shown(message.name.as_bytes());
     let team = shown(team.as_bytes());
     match group_of(message.ident) {

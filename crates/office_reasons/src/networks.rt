@@ -9,7 +9,7 @@ ghost use Rattle.office_reasons.specs.Networks.{office_task, overlap_of, receive
 
 use crate::blocks::spn_numbers;
 use crate::few::{few_named, few_names};
-use crate::pieces::{form_word, is_spn, kind_word, range_text, shown};
+use crate::pieces::{is_spn, range_text, shown};
 use base::Items;
 use dbc_sheet::Node;
 use dbc_words::{NODE_LIMIT, Name};
@@ -48,7 +48,7 @@ pub(crate) fn net_there(alloc: Global, net: &Net) -> Result<String, AllocError>
     ensures { IfOk result (λ text. string_bytes text ≡ net_there_text net.now) }
 {
     let name = shown(net.name.as_bytes());
-    let kind = kind_word(net.head.kind);
+    let kind = net.head.kind.word();
     let reviews = net.head.reviews.count();
     format!(in alloc; "there is a network {name} already, of kind {kind} with reviews={reviews}")
 }
@@ -78,7 +78,7 @@ pub(crate) fn not_j1939(alloc: Global, net: &Net) -> Result<String, AllocError>
     ensures { IfOk result (λ text. string_bytes text ≡ can_text net.now) }
 {
     let name = shown(net.name.as_bytes());
-    let kind = kind_word(net.head.kind);
+    let kind = net.head.kind.word();
     format!(in alloc; "{name} is of kind {kind}, and only a network of kind j1939 gives out PGNs")
 }
 
@@ -122,7 +122,7 @@ fn granted_text(
 ) -> Result<String, AllocError>
     ensures { IfOk result (λ text. string_bytes text ≡ granted_text block granted.now) }
 {
-    let form = form_word(block.form());
+    let form = block.form().word();
     let requested = range_text(alloc, block.numbers())?;
     let requested = requested.as_str();
     let numbers = range_text(alloc, granted.block.numbers())?;

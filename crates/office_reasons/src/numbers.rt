@@ -2,13 +2,12 @@
 ghost use Rattle.std.specs.Prelude.{◌≡◌, IfOk, find, string_bytes};
 ghost use Rattle.std.specs.Option.{option_copied};
 ghost use Rattle.office_rules.specs.Facts.{has_ident};
-ghost use Rattle.office_reasons.specs.Numbers.{beyond_form_text, live_text, no_spn_text};
-ghost use Rattle.office_reasons.specs.Numbers.{pdu_word, takes, there_text};
+ghost use Rattle.office_reasons.specs.Numbers.{beyond_form_text, live_text, no_spn_text, takes, there_text};
 
 use crate::blocks::{block_with, nearest, ranges_text, team_blocks};
 use crate::case::{Case, Told, told};
 use crate::networks::limit_text;
-use crate::pieces::{form_word, ident_text, ident_word, range_text, shown};
+use crate::pieces::{ident_text, range_text, shown};
 use crate::releases::{Released, first_with, last_with};
 use can_id::{Ident, IdentForm};
 use dbc_words::{MESSAGE_LIMIT, SPN_LIMIT};
@@ -64,19 +63,9 @@ pub(crate) fn idents_taken(case: &Case<'_>, form: IdentForm) -> Result<String, A
     let ranges = ranges.as_str();
     let takers = takers_text(case.alloc, case.net, Pool::Idents(form, &blocks))?;
     let takers = takers.as_str();
-    let form = ident_word(form);
+    let form = form.word();
     let team = shown(case.team.as_bytes());
     format!(in case.alloc; "every number of {form} {ranges} of team {team} is taken ({takers})")
-}
-
-/// Whether a message goes to one address or to all, as scripts write it.
-fn pdu_word(pdu: Pdu) -> &'static str
-    ensures { result.now ≡ pdu_word pdu }
-{
-    match pdu {
-        Pdu::Addressed(_) => "addressed",
-        Pdu::Broadcast => "broadcast",
-    }
 }
 
 /// That the team's blocks have no parameter group of the form, or that each one is taken.
@@ -85,7 +74,7 @@ pub(crate) fn groups_taken(case: &Case<'_>, take: &TakePgn) -> Result<String, Al
     let blocks = team_blocks(case, BlockForm::Pgn)?;
     let ranges = ranges_text(alloc, &blocks)?;
     let ranges = ranges.as_str();
-    let word = pdu_word(take.pdu);
+    let word = take.pdu.word();
     let form = take.pdu.number_form();
     let team = shown(case.team.as_bytes());
     if least_free(&[], &blocks, form).is_none() {
@@ -109,7 +98,7 @@ pub(crate) fn spns_used(case: &Case<'_>) -> Result<String, AllocError> {
 fn beyond_form(alloc: Global, form: IdentForm, number: u32) -> Result<String, AllocError>
     ensures { IfOk result (λ text. string_bytes text ≡ beyond_form_text form number) }
 {
-    let word = ident_word(form);
+    let word = form.word();
     let greatest = form.greatest();
     format!(in alloc; "want={number} is no {word} identifier: these are 0 to {greatest}")
 }
@@ -121,7 +110,7 @@ fn whereabouts(
     form: BlockForm,
     number: u32,
 ) -> Result<String, AllocError> {
-    let word = form_word(form);
+    let word = form.word();
     match block_with(net.blocks.as_slice(), form, number) {
         None => format!(in alloc; "want={number} is in no {word} block"),
         Some(granted) => {

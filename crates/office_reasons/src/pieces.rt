@@ -2,8 +2,7 @@
 ghost use Rattle.std.specs.Prelude.{◌≡◌, IfOk, map, string_bytes};
 ghost use Rattle.dbc_advice.specs.Sentence.{visible};
 ghost use Rattle.office_types.specs.Block.{is_spn};
-ghost use Rattle.office_reasons.specs.Pieces.{IsSentence, form_word, ident_text, ident_word, kind_word, range_text};
-ghost use Rattle.office_reasons.specs.Pieces.{shown};
+ghost use Rattle.office_reasons.specs.Pieces.{IsSentence, ident_text, range_text, shown};
 
 use can_id::{Ident, IdentForm};
 use office_types::{Block, BlockForm, NetKind};
@@ -61,16 +60,6 @@ pub(crate) fn range_text(alloc: Global, block: Block) -> Result<String, AllocErr
     }
 }
 
-/// How many bits identifiers of the form have, as scripts write it.
-pub(crate) fn ident_word(form: IdentForm) -> &'static str
-    ensures { result.now ≡ ident_word form }
-{
-    match form {
-        IdentForm::Standard => "std",
-        IdentForm::Extended => "ext",
-    }
-}
-
 /// Whether the numbers are suspect parameter numbers.
 pub(crate) fn is_spn(form: BlockForm) -> bool
     ensures { result ≡ is_spn form }
@@ -78,33 +67,11 @@ pub(crate) fn is_spn(form: BlockForm) -> bool
     form == BlockForm::Spn
 }
 
-/// The form of a block, as scripts write it.
-pub(crate) fn form_word(form: BlockForm) -> &'static str
-    ensures { result.now ≡ form_word form }
-{
-    match form {
-        BlockForm::Std => "std",
-        BlockForm::Ext => "ext",
-        BlockForm::Pgn => "pgn",
-        BlockForm::Spn => "spn",
-    }
-}
-
-/// The kind of a network, as scripts write it.
-pub(crate) fn kind_word(kind: NetKind) -> &'static str
-    ensures { result.now ≡ kind_word kind }
-{
-    match kind {
-        NetKind::Can => "can",
-        NetKind::J1939 => "j1939",
-    }
-}
-
 /// The identifier: its form, its number, and that in hexadecimal digits.
 pub(crate) fn ident_text(alloc: Global, ident: &Ident) -> Result<String, AllocError>
     ensures { IfOk result (λ text. string_bytes text ≡ ident_text ident.now) }
 {
-    let form = ident_word(ident.form());
+    let form = ident.form().word();
     let number = ident.number();
     format!(in alloc; "{form} {number} (0x{number:X})")
 }

@@ -2,7 +2,7 @@
 ghost use Rattle.std.specs.Prelude.{◌≡◌, IfOk, find, string_bytes};
 ghost use Rattle.std.specs.Option.{option_copied};
 ghost use Rattle.dbc_sheet.specs.Signal.{place_of};
-ghost use Rattle.office_reasons.specs.Places.{collides_with, layout_text, mark_text, order_word, sign_of, signal_text};
+ghost use Rattle.office_reasons.specs.Places.{collides_with, layout_text, mark_text, sign_of, signal_text};
 
 use crate::pieces::shown;
 use bitlayout::{Layout, Mux, Order, Place, meet, share_bit};
@@ -61,16 +61,6 @@ pub(crate) fn signal_text(alloc: Global, signal: &Signal) -> Result<String, Allo
         ≡ signal_text signal.now.name (place_of signal.now) signal.now.signed) }
 {
     placed_text(alloc, &signal.name, signal.place(), signal.signed)
-}
-
-/// The byte order, as scripts write it.
-pub(crate) fn order_word(order: Order) -> &'static str
-    ensures { result.now ≡ order_word order }
-{
-    match order {
-        Order::Intel => "intel",
-        Order::Motorola => "motorola",
-    }
 }
 
 /// Whether the signal has a bit of the place, and both are present for some value of the multiplexor.

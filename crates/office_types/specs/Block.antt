@@ -1,5 +1,6 @@
 -- Blocks of numbers of one form.
-use Rattle.std.specs.Prelude.{ℕ, ◌≤◌, ◌==◌, Bool, true, false, ◌&&◌, nat_le, Option, Some, None, if◌then◌else◌}
+use Rattle.std.specs.Prelude.{ℕ, ◌≤◌, ◌==◌, Bool, true, false, ◌&&◌, nat_le, List, Option, Some, None, if◌then◌else◌}
+use Rattle.std.specs.Prelude.{codes}
 use Rattle.can_id.specs.Form.{greatest_number}
 use Rattle.can_id.specs.declared.form.IdentForm.{IdentForm}
 use Rattle.can_id.specs.declared.form.IdentForm.TheVariants.{Standard, Extended}
@@ -29,6 +30,12 @@ greatest_of Spn = spn_limit
 abbrev pub block_form : IdentForm → BlockForm
 block_form Standard = Std
 block_form Extended = Ext
+
+abbrev pub block_word : BlockForm → List ℕ
+block_word Std = codes "std"
+block_word Ext = codes "ext"
+block_word Pgn = codes "pgn"
+block_word Spn = codes "spn"
 
 -- the number of a form, by which a network's blocks are in order
 abbrev pub form_number : BlockForm → ℕ

@@ -1,5 +1,5 @@
 -- The ranges of a command's fields, which its types keep, and what the fields request.
-use Rattle.std.specs.Prelude.{ℕ, ◌≤◌, ◌<◌, ◌^◌, ◌==◌, ⊤, All, Option, Some, None, IfSome, if◌then◌else◌}
+use Rattle.std.specs.Prelude.{ℕ, ◌≤◌, ◌<◌, ◌^◌, ◌==◌, ⊤, All, List, Option, Some, None, IfSome, if◌then◌else◌, codes}
 use Rattle.dbc_words.specs.Limits.{length_limit, size_limit}
 use Rattle.dbc_words.specs.Name.{IsName}
 use Rattle.dbc_words.specs.Text.{IsText}
@@ -32,10 +32,19 @@ kind_number J1939 = 1
 abbrev pub kind_at : ℕ → Option NetKind
 kind_at n = if n == 0 then Some Can else (if n == 1 then Some J1939 else None)
 
+abbrev pub kind_word : NetKind → List ℕ
+kind_word Can = codes "can"
+kind_word J1939 = codes "j1939"
+
 -- the form of the requested parameter groups, as numbers
 abbrev pub group_form : Pdu → NumberForm
 group_form (Addressed destination) = Pdu1
 group_form Broadcast = Pdu2
+
+-- whether a message goes to one address or to all
+abbrev pub pdu_word : Pdu → List ℕ
+pdu_word (Addressed destination) = codes "addressed"
+pdu_word Broadcast = codes "broadcast"
 
 pub record IsNewMessage (m : NewMessage) : Type 0 where
   pub named : IsName m.name

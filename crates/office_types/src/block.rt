@@ -32,7 +32,7 @@ pub enum BlockForm {
 
 impl BlockForm {
     ghost use Rattle.std.specs.Prelude.{Some, IfSome};
-    ghost use Rattle.office_types.specs.Block.{block_form, least_of, greatest_of, form_number, form_at};
+    ghost use Rattle.office_types.specs.Block.{block_form, block_word, least_of, greatest_of, form_number, form_at};
 
     /// The form of the blocks that identifiers of this form lie in.
     pub fn of_identifiers(form: IdentForm) -> BlockForm
@@ -41,6 +41,18 @@ impl BlockForm {
         match form {
             IdentForm::Standard => BlockForm::Std,
             IdentForm::Extended => BlockForm::Ext,
+        }
+    }
+
+    /// The form's word.
+    pub fn word(self) -> &'static str
+        ensures { result.now ≡ block_word self }
+    {
+        match self {
+            BlockForm::Std => "std",
+            BlockForm::Ext => "ext",
+            BlockForm::Pgn => "pgn",
+            BlockForm::Spn => "spn",
         }
     }
 

@@ -194,7 +194,7 @@ pub struct SetValues {
 
 impl NetKind {
     ghost use Rattle.std.specs.Prelude.{Some, IfSome};
-    ghost use Rattle.office_types.specs.Command.{kind_number, kind_at};
+    ghost use Rattle.office_types.specs.Command.{kind_number, kind_at, kind_word};
 
     /// The kind's number: 0 for CAN, 1 for J1939.
     pub fn number(self) -> u8
@@ -220,10 +220,20 @@ impl NetKind {
             None
         }
     }
+
+    /// The kind's word.
+    pub fn word(self) -> &'static str
+        ensures { result.now ≡ kind_word self }
+    {
+        match self {
+            NetKind::Can => "can",
+            NetKind::J1939 => "j1939",
+        }
+    }
 }
 
 impl Pdu {
-    ghost use Rattle.office_types.specs.Command.{group_form};
+    ghost use Rattle.office_types.specs.Command.{group_form, pdu_word};
 
     /// The form of the parameter groups as numbers.
     pub fn number_form(self) -> NumberForm
@@ -232,6 +242,16 @@ impl Pdu {
         match self {
             Pdu::Addressed(_) => NumberForm::Pdu1,
             Pdu::Broadcast => NumberForm::Pdu2,
+        }
+    }
+
+    /// Its word: whether a message goes to one address or to all.
+    pub fn word(self) -> &'static str
+        ensures { result.now ≡ pdu_word self }
+    {
+        match self {
+            Pdu::Addressed(_) => "addressed",
+            Pdu::Broadcast => "broadcast",
         }
     }
 }

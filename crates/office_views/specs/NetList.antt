@@ -1,16 +1,11 @@
 -- The list of networks, line by line.
 use Rattle.std.specs.Prelude.{ℕ, List, ◌++◌, length, codes, decimal}
 use Rattle.std.specs.List.{flat_map}
-use Rattle.office_types.specs.declared.command.NetKind.{NetKind}
-use Rattle.office_types.specs.declared.command.NetKind.TheVariants.{Can, J1939}
 use Rattle.office_types.specs.declared.state.Head.{Head}
 use Rattle.office_types.specs.declared.state.Net.{Net}
 use Rattle.office_types.specs.declared.state.Phase.{Phase}
 use Rattle.office_types.specs.declared.state.Phase.TheVariants.{Draft, Review}
-
-abbrev pub kind_word : NetKind → List ℕ
-kind_word Can = codes "can"
-kind_word J1939 = codes "j1939"
+use Rattle.office_types.specs.Command.{kind_word}
 
 abbrev pub phase_word : Phase → List ℕ
 phase_word Draft = codes "draft"

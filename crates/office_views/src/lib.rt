@@ -8,7 +8,7 @@
 //!
 //! [`sheet_table`] is the list of a sheet's messages, with the counts of messages and of signals ([`signal_count`]), and
 //! [`table_of`] is that as lines. [`net_line`] is the line of a network in the
-//! list: its name, kind ([`kind_word`]), phase ([`phase_word`]) and count of releases.
+//! list: its name, kind, phase ([`phase_word`]) and count of releases.
 //!
 //! [`sends`] and [`receives`] say what a node has to do with a message or a signal; [`sent_tally`] and [`received_tally`]
 //! count that for all nodes in one walk.
@@ -30,7 +30,7 @@ mod text;
 mod word;
 
 pub use message::message_chart;
-pub use networks::{kind_word, net_line, phase_word};
+pub use networks::{net_line, phase_word};
 pub use number::whole_between;
 pub use sending::{received, receives, sends};
 pub use signal::{ChartSignal, first_clash_of};

@@ -1,20 +1,10 @@
 //! The line of a network.
 ghost use Rattle.std.specs.Prelude.{◌≡◌, IfOk};
-ghost use Rattle.office_views.specs.NetList.{kind_word, line_of, phase_word};
+ghost use Rattle.office_views.specs.NetList.{line_of, phase_word};
 
 use columns::concat;
-use office_types::{Head, NetKind, NetName, Phase};
+use office_types::{Head, NetName, Phase};
 use std::alloc::{AllocError, Global};
-
-/// The word for a network's kind.
-pub fn kind_word(kind: NetKind) -> &'static [u8]
-    ensures { result.now ≡ kind_word kind }
-{
-    match kind {
-        NetKind::Can => b"can",
-        NetKind::J1939 => b"j1939",
-    }
-}
 
 /// The word for whether a network is being changed or reviewed.
 pub fn phase_word(phase: &Phase) -> &'static [u8]
@@ -43,7 +33,7 @@ pub fn net_line(
         &[
             &name,
             b" ",
-            kind_word(head.kind),
+            head.kind.word().as_bytes(),
             b" ",
             phase_word(&head.phase),
             b" ",

@@ -4,8 +4,7 @@ ghost use Rattle.std.specs.List.{list_all};
 ghost use Rattle.std.specs.Str.{bytes_eq};
 ghost use Rattle.markup.specs.Html.{escaped};
 ghost use Rattle.markup.specs.Writing.{Becomes, adding, whole};
-ghost use Rattle.page_messages.specs.Each.{coding_fact, destination_fact, fact, facts_html, fields_facts};
-ghost use Rattle.page_messages.specs.Each.{group_facts};
+ghost use Rattle.page_messages.specs.Each.{coding_fact, destination_fact, fact, facts_html, fields_facts, group_facts};
 ghost use Rattle.page_messages.specs.Each.{ident_code, route_html, sender_html, size_facts, used_words};
 ghost use Rattle.page_messages.specs.Signals.{coding_of, first_coding, has_common_coding};
 

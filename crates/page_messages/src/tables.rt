@@ -1,8 +1,7 @@
 //! Value tables, and texts for values.
 ghost use Rattle.std.specs.List.{flat_map};
 ghost use Rattle.markup.specs.Writing.{Becomes, adding};
-ghost use Rattle.page_messages.specs.Tables.{later_values, table_row, texts_html, value_html, values_html};
-ghost use Rattle.page_messages.specs.Tables.{with_tables};
+ghost use Rattle.page_messages.specs.Tables.{later_values, table_row, texts_html, value_html, values_html, with_tables};
 
 use dbc_sheet::{ValueTable, ValueText};
 use markup::{Markup, Tag};

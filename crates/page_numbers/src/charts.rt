@@ -4,8 +4,7 @@ ghost use Rattle.std.specs.List.{flat_map, range_with_len};
 ghost use Rattle.office_blocks.specs.Numbers.{HaveSame};
 ghost use Rattle.office_types.specs.Block.{same_form};
 ghost use Rattle.page_numbers.specs.Charts.{form_of, has, is_shown, number_in, row_of, shows, width_of};
-ghost use Rattle.page_numbers.specs.Rows.{block_rows, granted_rows, ident_row, message_row, own_row};
-ghost use Rattle.page_numbers.specs.Rows.{shown_row};
+ghost use Rattle.page_numbers.specs.Rows.{block_rows, granted_rows, ident_row, message_row, own_row, shown_row};
 
 use crate::index::number_of;
 use crate::near::Blocks;

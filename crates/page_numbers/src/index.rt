@@ -3,8 +3,7 @@ ghost use Rattle.std.specs.Prelude.{◌≡◌, ◌≤◌, ◌++◌, IfOk, OnOk, 
 ghost use Rattle.std.specs.List.{filter_map};
 ghost use Rattle.std.specs.List.Sorted.{IsNonDecreasingBy};
 ghost use Rattle.office_blocks.specs.Numbers.{HaveSame};
-ghost use Rattle.page_numbers.specs.Index.{AreBelow, all_numbered, live_at, message_at, number_at, number_of};
-ghost use Rattle.page_numbers.specs.Index.{numbered};
+ghost use Rattle.page_numbers.specs.Index.{AreBelow, all_numbered, live_at, message_at, number_at, number_of, numbered};
 
 use can_id::{Ident, J1939};
 use dbc_sheet::Message;

@@ -1,5 +1,5 @@
 //! The map of the numbers.
-ghost use Rattle.std.specs.Prelude.{◌≡◌, ◌≤◌, IfOk, List, ℕ, OnOk, length, not};
+ghost use Rattle.std.specs.Prelude.{◌≡◌, ◌≤◌, IfOk, List, ℕ, OnOk, length, not, option_map};
 ghost use Rattle.std.specs.List.{flat_map};
 ghost use Rattle.markup.specs.Writing.{Becomes, adding};
 ghost use Rattle.office_blocks.specs.Numbers.{HaveSame};
@@ -8,7 +8,6 @@ ghost use Rattle.page_numbers.specs.Elements.{ArePieces, IsMoreBy};
 ghost use Rattle.page_numbers.specs.Map.{IsCellAt, IsChart, IsMap, IsRow, IsTable, IsWholeMap, facts_in};
 ghost use Rattle.page_numbers.specs.Map.{has_nothing, row_head, whose};
 ghost use Rattle.page_numbers.specs.Rows.{rows_in};
-ghost use Rattle.std.specs.Prelude.{option_map};
 
 use crate::cells::put_number;
 use crate::charts::{CHARTS, Chart, add_blocks, add_held, add_live};

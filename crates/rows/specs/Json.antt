@@ -1,12 +1,10 @@
 -- Lists as JSON.
-use Rattle.std.specs.Prelude.{ℕ, ◌^◌, nat_lt, Bool, List, [], ◌∷◌, ◌++◌, map, codes, decimal, Option}
-use Rattle.std.specs.Prelude.{if◌then◌else◌}
+use Rattle.std.specs.Prelude.{ℕ, ◌^◌, nat_lt, Bool, List, [], ◌∷◌, ◌++◌, map, codes, decimal, Option, if◌then◌else◌}
 use Rattle.std.specs.Option.{option_map, option_map_or}
 use Rattle.std.specs.Str.{bytes_eq}
 use Rattle.std.specs.Str.Lossy.{utf8_lossy}
 use Rattle.bitlayout.specs.declared.layout.Layout.{Layout}
-use Rattle.bitlayout.specs.declared.layout.Order.{Order}
-use Rattle.bitlayout.specs.declared.layout.Order.TheVariants.{Intel, Motorola}
+use Rattle.bitlayout.specs.Order.{order_word}
 use Rattle.can_id.specs.Ident.{dbc_number, ident_number}
 use Rattle.can_id.specs.J1939.{ident_fields, pgn_of}
 use Rattle.can_id.specs.declared.ident.Ident.{Ident}
@@ -80,10 +78,6 @@ position_data line column =
 
 abbrev pub words_data : List (List ℕ) → Data
 words_data texts = array (items_of (map text_data texts))
-
-abbrev pub order_word : Order → List ℕ
-order_word Intel = codes "intel"
-order_word Motorola = codes "motorola"
 
 abbrev pub layout_data : Layout → Bool → Data
 layout_data layout signed =

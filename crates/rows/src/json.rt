@@ -8,8 +8,7 @@ ghost use Rattle.serde_json.specs.View.{members_view, view};
 ghost use Rattle.serde_json.specs.Written.{compact_text};
 ghost use Rattle.rows.specs.Fact.{fact_of, name_of};
 ghost use Rattle.rows.specs.Json.{change_data, decimal_data, fact_data, group_data, ident_data, layout_data, list_text};
-ghost use Rattle.rows.specs.Json.{name_data};
-ghost use Rattle.rows.specs.Json.{number_data, order_word, pair_data, kinds_members, position_data, row_data, run_data};
+ghost use Rattle.rows.specs.Json.{name_data, number_data, pair_data, kinds_members, position_data, row_data, run_data};
 ghost use Rattle.rows.specs.Json.{share_data, side_data, table_data, table_json, text_data, with_kind, with_row};
 ghost use Rattle.rows.specs.Json.{with_rows, with_totals, written_data};
 ghost use Rattle.rows.specs.Lines.{points};
@@ -154,20 +153,10 @@ fn text_values(alloc: Global, texts: &[&[u8]]) -> Result<Vec<Value>, AllocError>
     Ok(values)
 }
 
-/// The word for the order.
-fn order_word(order: Order) -> &'static [u8]
-    ensures { result.now ≡ order_word order }
-{
-    match order {
-        Order::Intel => b"intel",
-        Order::Motorola => b"motorola",
-    }
-}
-
 fn layout_value(alloc: Global, layout: &Layout, signed: bool) -> Result<Value, AllocError>
     ensures { IfOk result (λ v. view v ≡ layout_data layout.now signed) }
 {
-    let order = text_value(alloc, order_word(layout.order))?;
+    let order = text_value(alloc, layout.order.word().as_bytes())?;
     let (size, start) = (layout.size.bits(), layout.start);
     json!(in alloc; {"order": order, "signed": signed, "size": size, "start": start})
 }

@@ -4,10 +4,8 @@ ghost use Rattle.sqlite.specs.Held.{state};
 ghost use Rattle.store_tables.specs.Tables.{tables_of};
 ghost use Rattle.office_history.specs.History.{Answered, first_of};
 ghost use Rattle.office_history.specs.Answering.{answered};
-ghost use Rattle.store.specs.Calls.{HoldsOnErr, HoldsOneMoreOnOk, IsOfficeCall, IsSettled};
-ghost use Rattle.store.specs.Calls.{KeepsDoubt, KeepsStatistics, LeavesOneMoreAtMost, LeavesStatistics};
-ghost use Rattle.store.specs.Calls.{SameOnErr, SameOnRepeat};
-ghost use Rattle.store.specs.Calls.{followed_by};
+ghost use Rattle.store.specs.Calls.{HoldsOnErr, HoldsOneMoreOnOk, IsOfficeCall, IsSettled, KeepsDoubt, KeepsStatistics};
+ghost use Rattle.store.specs.Calls.{LeavesOneMoreAtMost, LeavesStatistics, SameOnErr, SameOnRepeat, followed_by};
 ghost use Rattle.store_tables.specs.Frames.{Asks, StaysIn};
 ghost use Rattle.store.specs.Holds.{Holds};
 

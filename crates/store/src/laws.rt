@@ -1,6 +1,5 @@
 //! Laws of tables that hold a history. Each is the contract of a function that does nothing.
-ghost use Rattle.store.specs.Laws.{HeldNetworksAreApart, HeldNetworksAreClear};
-ghost use Rattle.store.specs.Laws.{HeldNumbersMeanOneThing};
+ghost use Rattle.store.specs.Laws.{HeldNetworksAreApart, HeldNetworksAreClear, HeldNumbersMeanOneThing};
 
 use office_history::{
     answers_are_apart, histories_leave_offices, numbers_keep_their_names, spns_are_given_once,

@@ -1,9 +1,8 @@
 //! The rows of each kind of change: one function for each that the tables have a row for.
 ghost use Rattle.std.specs.Prelude.{◌≡◌, false, Option, Some};
 ghost use Rattle.office_types.specs.Block.{is_spn};
-ghost use Rattle.office_types.specs.declared.change.Change.TheVariants.{SetHead, SetBlock, SetSpnBlock, Hold};
-ghost use Rattle.office_types.specs.declared.change.Change.TheVariants.{EnterSpn, SetApproval, ClearApprovals};
-ghost use Rattle.office_types.specs.declared.change.Change.TheVariants.{AddRelease};
+ghost use Rattle.office_types.specs.declared.change.Change.TheVariants.{SetHead, SetBlock, SetSpnBlock, Hold, EnterSpn};
+ghost use Rattle.office_types.specs.declared.change.Change.TheVariants.{SetApproval, ClearApprovals, AddRelease};
 ghost use Rattle.office_types.specs.declared.state.Net.{Net as Network};
 ghost use Rattle.store_rows.specs.Rows.{next_release, submitter_text};
 ghost use Rattle.store_rows.specs.Written.{IsWritten};

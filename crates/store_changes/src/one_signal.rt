@@ -14,14 +14,13 @@ ghost use Rattle.store_tables.specs.Tables.{Tables};
 ghost use Rattle.office_types.specs.declared.state.LiveMessage.{LiveMessage as Live};
 ghost use Rattle.sqlite.specs.Order.{Row as Columns};
 ghost use Rattle.store_rows.specs.Listed.{AreShown};
-ghost use Rattle.store_rows.specs.Live.{AreLiveRows, live_rows};
+ghost use Rattle.store_rows.specs.Live.{AreLiveRows, live_rows, OnLive};
 ghost use Rattle.store_rows.specs.LiveWritten.{AreTextsSet, IsSignalAdded, IsAfter, IsSpnSet, IsTakenOut, with_spns};
 ghost use Rattle.store_rows.specs.LiveWritten.{with_texts, without_place, without_places};
 ghost use Rattle.store_rows.specs.SignalShowing.{PlacesAscend, ShowsPlaced};
 ghost use Rattle.store_changes.specs.Places.{places_shown};
 ghost use Rattle.store_tables.specs.Frames.{Asks, Edits, EndsIn, OnlyWrites, ReadsOnly, Relates, StaysIn};
 ghost use Rattle.store_tables.specs.Frames.{WritesAndStaysIn};
-ghost use Rattle.store_rows.specs.Live.{OnLive};
 
 use crate::message_rows::{write_sig, write_signal, write_values};
 use crate::writing::number_above;

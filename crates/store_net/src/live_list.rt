@@ -7,11 +7,10 @@ ghost use Rattle.office_types.specs.declared.state.LiveMessage.{LiveMessage as L
 ghost use Rattle.sqlite.specs.Held.{state};
 ghost use Rattle.sqlite.specs.State.{HasCleanDisk};
 ghost use Rattle.store_rows.specs.Listed.{AreShown};
-ghost use Rattle.store_rows.specs.Live.{AreSignalsOf, live_rows};
+ghost use Rattle.store_rows.specs.Live.{AreSignalsOf, live_rows, OnLive};
 ghost use Rattle.store_rows.specs.SignalShowing.{ShowsLive};
 ghost use Rattle.store_net.specs.SignalParts.{live_in};
 ghost use Rattle.store_tables.specs.Frames.{Asks, ReadsOnly, ReadsWhileOpen};
-ghost use Rattle.store_rows.specs.Live.{OnLive};
 
 use crate::message::signals_for;
 use crate::orphans::refuse_orphans;

@@ -2,10 +2,9 @@
 ghost use Rattle.std.specs.Prelude.{◌≡◌, map, Option};
 ghost use Rattle.office_rules.specs.Facts.{live_named};
 ghost use Rattle.store_net.specs.SignalParts.{received_signal, signals_in};
-ghost use Rattle.store_rows.specs.Live.{bare_signal};
+ghost use Rattle.store_rows.specs.Live.{bare_signal, OnLive};
 ghost use Rattle.store_tables.specs.Frames.{Asks, ReadsOnly};
 ghost use Rattle.store_net.specs.Reading.{OnSignals};
-ghost use Rattle.store_rows.specs.Live.{OnLive};
 
 use crate::signal_parts::SignalParts;
 use dbc_sheet::Signals;

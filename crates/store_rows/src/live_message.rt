@@ -1,10 +1,9 @@
 //! A live message of its row of `msg` and its signals.
-ghost use Rattle.std.specs.Prelude.{◌≡◌, IfOk};
+ghost use Rattle.std.specs.Prelude.{◌≡◌, IfOk, pos};
 ghost use Rattle.can_id.specs.declared.ident.Ident.{Ident as Identifier};
 ghost use Rattle.can_id.specs.Ident.{IsIdentifier, dbc_number};
 ghost use Rattle.sqlite.specs.Order.{column};
 ghost use Rattle.sqlite.specs.declared.types.Value.TheVariants.{Int};
-ghost use Rattle.std.specs.Prelude.{pos};
 ghost use Rattle.office_types.specs.declared.state.LiveMessage.{LiveMessage as Live};
 ghost use Rattle.store_rows.specs.SignalShowing.{ShowsLive};
 

@@ -1,6 +1,5 @@
 -- The outcome of comparing two DBC texts, or two releases of a network.
-use Rattle.std.specs.Prelude.{◌≡◌, ◌⊎◌, ◌↔◌, ◌++◌, ℕ, Bool, List, [], Option, IsTrue, codes, decimal}
-use Rattle.std.specs.Prelude.{if◌then◌else◌}
+use Rattle.std.specs.Prelude.{◌≡◌, ◌⊎◌, ◌↔◌, ◌++◌, ℕ, Bool, List, [], Option, IsTrue, codes, decimal, if◌then◌else◌}
 use Rattle.std.specs.Option.{option_map}
 use Rattle.desk_send.specs.Desks.{Desks}
 use Rattle.dbc_advice.specs.ShownPath.{shown_path}

@@ -1,13 +1,12 @@
 -- What clap's matches and errors say of the job and of the fault.
 use Rattle.std.proofs.Common.{◌≡◌, ◌∷◌, map, ◌⊎◌, ◌&&◌, ◌||◌, inl, inr, ap, Bool, List, [], Option, Some, None, codes}
 use Rattle.std.proofs.Common.{option_map, refl, subst, true, false, true≢false, sym, ◌∙◌}
-use Rattle.std.specs.Prelude.{find}
+use Rattle.std.specs.Prelude.{find, Box}
 use Rattle.std.specs.Borrow.{Bor}
 use Rattle.std.specs.List.{list_any}
 use Rattle.std.specs.Option.{IsSome, option_map_or}
 use Rattle.std.specs.Str.{bytes_eq}
 use Rattle.std.proofs.lemmas.Slice.Eq.{bytes_eq-Decides}
-use Rattle.std.specs.Prelude.{Box}
 use Rattle.std.specs.Box.{box_value}
 use Rattle.clap.specs.Simple.{subcommand_rows}
 use Rattle.clap.specs.declared.parser.matches.ArgMatches.{ArgMatches}

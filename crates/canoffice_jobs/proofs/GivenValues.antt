@@ -11,9 +11,8 @@ use Rattle.clap.specs.Values.{read_as}
 use Rattle.clap.specs.Kinds.{Kinds, check_kinds}
 use Rattle.clap.specs.Faults.{check_fault, level_fault, walk_fault}
 use Rattle.clap.specs.Takes.{is_given}
-use Rattle.clap.specs.Walk.{Names, Row, Rule, Text, all_of, first_of}
-use Rattle.clap.specs.Walk.{nothing_held, one_of, row_text, rows_after, settled}
-use Rattle.clap.specs.Walk.{walk, walk_from}
+use Rattle.clap.specs.Walk.{Names, Row, Rule, Text, all_of, first_of, nothing_held, one_of, row_text, rows_after}
+use Rattle.clap.specs.Walk.{settled, walk, walk_from}
 use Rattle.clap.specs.Simple.{Shape}
 use Rattle.clap.specs.declared.builder.value_parser.Reading.{Reading}
 use Rattle.clap.proofs.WalkLemmas.{both}

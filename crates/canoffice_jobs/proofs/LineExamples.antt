@@ -7,9 +7,8 @@ use Rattle.clap.specs.declared.error.kind.ErrorKind.TheVariants.{DisplayVersion,
 use Rattle.clap.specs.declared.error.kind.ErrorKind.TheVariants.{MissingRequiredArgument, TooManyValues}
 use Rattle.clap.specs.declared.error.kind.ErrorKind.TheVariants.{UnknownArgument}
 use Rattle.clap.proofs.OnLiterals.{clap_on_literals}
-use Rattle.canoffice_jobs.specs.CommandLine.{are_files, are_input, entered, is_set, line_faults}
+use Rattle.canoffice_jobs.specs.CommandLine.{are_files, are_input, entered, is_set, line_faults, manner_in}
 use Rattle.canoffice_jobs.specs.Subcommands.{canoffice_app}
-use Rattle.canoffice_jobs.specs.CommandLine.{manner_in}
 use Rattle.canoffice_jobs.specs.Meant.{name_before_help, words_meant}
 use Rattle.canoffice_jobs.specs.declared.manner.Manner.{Manner}
 

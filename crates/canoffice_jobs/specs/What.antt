@@ -1,6 +1,5 @@
 -- What `show` shows of a network: the words for it, and after which of them a name follows.
-use Rattle.std.specs.Prelude.{ℕ, Bool, true, not, ◌&&◌, ◌||◌, List, Option, Some, None, is_some}
-use Rattle.std.specs.Prelude.{codes, find}
+use Rattle.std.specs.Prelude.{ℕ, Bool, true, not, ◌&&◌, ◌||◌, List, Option, Some, None, is_some, codes, find}
 use Rattle.std.specs.Str.{bytes_eq}
 use Rattle.office_fields.specs.Value.{◌>>=◌, where_true}
 use Rattle.office_types.specs.Overview.{overview_word}

@@ -1,14 +1,12 @@
 -- Tokens have one division into statements.
 use Rattle.std.proofs.Common.{◌≡◌, ℕ, ◌<◌, Bool, true, false, not, List, [], ◌∷◌, ◌++◌, map, length, Option, Some, None}
-use Rattle.std.proofs.Common.{is_some}
-use Rattle.std.proofs.Common.{option_map, refl, sym, ap, subst, ◌∙◌, arith}
+use Rattle.std.proofs.Common.{is_some, option_map, refl, sym, ap, subst, ◌∙◌, arith}
 use Rattle.std.proofs.lemmas.Bool.{and_from}
 use Rattle.std.proofs.lemmas.List.{append_cancel_right}
 use Rattle.dbc_words.specs.declared.keyword.Keyword.{Keyword}
 use Rattle.dbc_words.specs.declared.keyword.Keyword.TheVariants.{Signal}
 use Rattle.dbc_grammar.specs.Division.{IsStatement, OneStatement, StatementsAreRuns, Divides, OneDivision, Part}
-use Rattle.dbc_grammar.specs.Division.{AreParts, DivisionsAreParts}
-use Rattle.dbc_grammar.specs.Division.{OneParting, ReadingIsExact}
+use Rattle.dbc_grammar.specs.Division.{AreParts, DivisionsAreParts, OneParting, ReadingIsExact}
 use Rattle.dbc_grammar.specs.Fields.{is_key, key_of}
 use Rattle.dbc_grammar.specs.Grammar.{next, line, statement}
 use Rattle.dbc_grammar.specs.Parsing.{many_at, statement_at, is_more, all_of, statements_at}

@@ -1,7 +1,6 @@
 -- The parsers of fields are exact.
 use Rattle.std.proofs.Common.{◌≡◌, ℕ, ◌<◌, ◌&&◌, ◌||◌, Bool, true, false, not, List, [], ◌∷◌, length, Option, Some}
-use Rattle.std.proofs.Common.{None, is_some}
-use Rattle.std.proofs.Common.{option_map, refl, sym, ap, ◌∙◌, arith}
+use Rattle.std.proofs.Common.{None, is_some, option_map, refl, sym, ap, ◌∙◌, arith}
 use Rattle.std.specs.Prelude.{if◌then◌else◌, codes, unwrap_or}
 use Rattle.std.specs.Str.{bytes_eq}
 use Rattle.std.proofs.lemmas.Bool.{and_parts, and_from}
@@ -10,10 +9,9 @@ use Rattle.decimal.specs.Number.{Number}
 use Rattle.dbc_words.specs.Name.{is_name, no_node}
 use Rattle.dbc_words.specs.declared.keyword.Keyword.TheVariants.{Signal}
 use Rattle.dbc_grammar.specs.Fields.{same_kind, is_a, is_mark, is_key, text_of, cited_name, made_name, node_of, whole}
-use Rattle.dbc_grammar.specs.Fields.{whole_where, start_of}
-use Rattle.dbc_grammar.specs.Fields.{size_of, order_of, sign_of, mux_of, number_of, mark, decimal, pair, entry, goes_on}
-use Rattle.dbc_grammar.specs.Fields.{further, no_names}
-use Rattle.dbc_grammar.specs.Fields.{some_names, nodes, layout, signal}
+use Rattle.dbc_grammar.specs.Fields.{whole_where, start_of, size_of, order_of, sign_of, mux_of, number_of, mark}
+use Rattle.dbc_grammar.specs.Fields.{decimal, pair, entry, goes_on, further, no_names, some_names, nodes, layout}
+use Rattle.dbc_grammar.specs.Fields.{signal}
 use Rattle.dbc_grammar.specs.Grammar.{is_open}
 use Rattle.dbc_grammar.specs.Parsing.{decimal_at, pair_at, entry_at, further_at, some_names_at, no_names_at, nodes_at}
 use Rattle.dbc_grammar.specs.Parsing.{layout_at, signal_at}
@@ -22,10 +20,9 @@ use Rattle.dbc_grammar.specs.Token.{Token}
 use Rattle.dbc_grammar.specs.declared.token.TokenKind.{TokenKind}
 use Rattle.dbc_grammar.specs.declared.token.TokenKind.TheVariants.{Name, Number as NumberKind, Text, Mark}
 use Rattle.dbc_grammar.proofs.Exactness.{Exact, Any, length_within, bind_takes, exact_then, exact_next, exact_token}
-use Rattle.dbc_grammar.proofs.Exactness.{exact_one, exact_done}
-use Rattle.dbc_grammar.proofs.Exactness.{exact_followed, exact_optional, exact_many, exact_either, token_chance}
-use Rattle.dbc_grammar.proofs.Exactness.{one_chance, Repeats, Eats}
-use Rattle.dbc_grammar.proofs.Exactness.{eats, token_passes, one_passes, only_passes, first_answers}
+use Rattle.dbc_grammar.proofs.Exactness.{exact_one, exact_done, exact_followed, exact_optional, exact_many}
+use Rattle.dbc_grammar.proofs.Exactness.{exact_either, token_chance, one_chance, Repeats, Eats, eats, token_passes}
+use Rattle.dbc_grammar.proofs.Exactness.{one_passes, only_passes, first_answers}
 
 -- What a token is that says something.
 

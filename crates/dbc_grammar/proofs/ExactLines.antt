@@ -7,30 +7,23 @@ use Rattle.dbc_words.specs.declared.keyword.Keyword.{Keyword}
 use Rattle.dbc_words.specs.declared.keyword.Keyword.TheVariants.{Nodes, Message, Signal, EnvironmentVariable}
 use Rattle.dbc_words.specs.ValueType.{value_type_of}
 use Rattle.dbc_grammar.specs.Fields.{is_a, is_mark, is_key, key_of, text_of, cited_name, made_name, node_of, whole}
-use Rattle.dbc_grammar.specs.Fields.{cited_number}
-use Rattle.dbc_grammar.specs.Fields.{message_ident, independent_number, length_of, type_of, mark, signal}
+use Rattle.dbc_grammar.specs.Fields.{cited_number, message_ident, independent_number, length_of, type_of, mark, signal}
 use Rattle.dbc_grammar.specs.Grammar.{begins_next, next, is_open, version_line, is_symbol, ends_symbols, symbols_line}
-use Rattle.dbc_grammar.specs.Grammar.{registers, timing}
-use Rattle.dbc_grammar.specs.Grammar.{timing_line, nodes_line, table_line, message_line, file_comment, node_comment}
-use Rattle.dbc_grammar.specs.Grammar.{message_comment}
-use Rattle.dbc_grammar.specs.Grammar.{signal_comment, value_texts_line, value_type_line, is_spn_name, spn_of, spn_line}
-use Rattle.dbc_grammar.specs.Grammar.{skipped}
-use Rattle.dbc_grammar.specs.Grammar.{passed_comment, passed_value_texts, independent_line}
+use Rattle.dbc_grammar.specs.Grammar.{registers, timing, timing_line, nodes_line, table_line, message_line}
+use Rattle.dbc_grammar.specs.Grammar.{file_comment, node_comment, message_comment, signal_comment, value_texts_line}
+use Rattle.dbc_grammar.specs.Grammar.{value_type_line, is_spn_name, spn_of, spn_line, skipped, passed_comment}
+use Rattle.dbc_grammar.specs.Grammar.{passed_value_texts, independent_line}
 use Rattle.dbc_grammar.specs.Parsing.{signal_at, version_at, symbols_at, registers_at, timing_at, timing_line_at}
-use Rattle.dbc_grammar.specs.Parsing.{nodes_line_at, entries_at}
-use Rattle.dbc_grammar.specs.Parsing.{table_at, signals_at, message_at, file_comment_at, node_comment_at}
-use Rattle.dbc_grammar.specs.Parsing.{message_comment_at}
-use Rattle.dbc_grammar.specs.Parsing.{signal_comment_at, value_texts_at, value_type_at, spn_at, skipped_at}
-use Rattle.dbc_grammar.specs.Parsing.{passed_comment_at}
-use Rattle.dbc_grammar.specs.Parsing.{passed_value_texts_at, independent_at}
+use Rattle.dbc_grammar.specs.Parsing.{nodes_line_at, entries_at, table_at, signals_at, message_at, file_comment_at}
+use Rattle.dbc_grammar.specs.Parsing.{node_comment_at, message_comment_at, signal_comment_at, value_texts_at}
+use Rattle.dbc_grammar.specs.Parsing.{value_type_at, spn_at, skipped_at, passed_comment_at, passed_value_texts_at}
+use Rattle.dbc_grammar.specs.Parsing.{independent_at}
 use Rattle.dbc_grammar.specs.Rules.{only, starts}
 use Rattle.dbc_grammar.specs.Token.{Token}
 use Rattle.dbc_grammar.specs.declared.token.TokenKind.TheVariants.{Name, Number as NumberKind}
 use Rattle.dbc_grammar.proofs.Exactness.{Exact, Any, bind_takes, exact_then, exact_next, exact_any, exact_token}
-use Rattle.dbc_grammar.proofs.Exactness.{exact_one, exact_done}
-use Rattle.dbc_grammar.proofs.Exactness.{exact_followed, exact_optional, exact_many, one_chance, Chance, Repeats}
-use Rattle.dbc_grammar.proofs.Exactness.{tokens_repeat, one_passes}
-use Rattle.dbc_grammar.proofs.Exactness.{first_answers}
+use Rattle.dbc_grammar.proofs.Exactness.{exact_one, exact_done, exact_followed, exact_optional, exact_many, one_chance}
+use Rattle.dbc_grammar.proofs.Exactness.{Chance, Repeats, tokens_repeat, one_passes, first_answers}
 use Rattle.dbc_grammar.proofs.ExactFields.{kind_is, number_whole, passes, exact_nodes, entries_repeat, signal_starts}
 use Rattle.dbc_grammar.proofs.ExactFields.{eats_signal, not_true}
 

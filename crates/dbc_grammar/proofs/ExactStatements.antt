@@ -8,35 +8,28 @@ use Rattle.std.proofs.lemmas.Slice.Eq.{bytes_eq-Decides}
 use Rattle.dbc_words.specs.Keyword.{KeywordGroup, Kept, Passed, Refused, keyword_of, keyword_text, keyword_group}
 use Rattle.dbc_words.specs.declared.keyword.Keyword.{Keyword}
 use Rattle.dbc_words.specs.declared.keyword.Keyword.TheVariants.{Version, NewSymbols, BitTiming, Nodes, ValueTable}
-use Rattle.dbc_words.specs.declared.keyword.Keyword.TheVariants.{Message, Signal}
-use Rattle.dbc_words.specs.declared.keyword.Keyword.TheVariants.{Comment, ValueTexts, SignalValueType, AttributeValue}
-use Rattle.dbc_words.specs.declared.keyword.Keyword.TheVariants.{EnvironmentVariable}
+use Rattle.dbc_words.specs.declared.keyword.Keyword.TheVariants.{Message, Signal, Comment, ValueTexts, SignalValueType}
+use Rattle.dbc_words.specs.declared.keyword.Keyword.TheVariants.{AttributeValue, EnvironmentVariable}
 use Rattle.dbc_grammar.specs.Fields.{is_a, is_key, key_of, key, text_of, cited_name, whole, cited_number, ident_of}
-use Rattle.dbc_grammar.specs.Fields.{message_ident}
-use Rattle.dbc_grammar.specs.Fields.{independent_number}
+use Rattle.dbc_grammar.specs.Fields.{message_ident, independent_number}
 use Rattle.dbc_grammar.specs.Grammar.{message_line, file_comment, node_comment, message_comment, signal_comment}
-use Rattle.dbc_grammar.specs.Grammar.{value_texts_line}
-use Rattle.dbc_grammar.specs.Grammar.{passed_line, passed_comment, passed_value_texts, passed_attribute}
-use Rattle.dbc_grammar.specs.Grammar.{independent_line, comment_line}
-use Rattle.dbc_grammar.specs.Grammar.{other_line, line, first_word, statement}
+use Rattle.dbc_grammar.specs.Grammar.{value_texts_line, passed_line, passed_comment, passed_value_texts}
+use Rattle.dbc_grammar.specs.Grammar.{passed_attribute, independent_line, comment_line, other_line, line, first_word}
+use Rattle.dbc_grammar.specs.Grammar.{statement}
 use Rattle.dbc_grammar.specs.Parsing.{signal_or_passed_at, message_or_signal_at, named_comment_at, comment_at}
-use Rattle.dbc_grammar.specs.Parsing.{either_at, message_at}
-use Rattle.dbc_grammar.specs.Parsing.{independent_at, value_texts_at, passed_value_texts_at, other_line_at, line_at}
-use Rattle.dbc_grammar.specs.Parsing.{statement_at}
+use Rattle.dbc_grammar.specs.Parsing.{either_at, message_at, independent_at, value_texts_at, passed_value_texts_at}
+use Rattle.dbc_grammar.specs.Parsing.{other_line_at, line_at, statement_at}
 use Rattle.dbc_grammar.specs.Rules.{Rule, Then, only, either, starts, begins}
 use Rattle.dbc_grammar.specs.Statement.{Content}
 use Rattle.dbc_grammar.specs.Token.{Token}
 use Rattle.dbc_grammar.specs.declared.token.TokenKind.TheVariants.{Name}
 use Rattle.dbc_grammar.proofs.Exactness.{Exact, Any, bind_takes, exact_then, exact_any, exact_done, exact_either}
-use Rattle.dbc_grammar.proofs.Exactness.{exact_unless, Eats, eats}
-use Rattle.dbc_grammar.proofs.Exactness.{token_passes, only_passes, first_answers}
+use Rattle.dbc_grammar.proofs.Exactness.{exact_unless, Eats, eats, token_passes, only_passes, first_answers}
 use Rattle.dbc_grammar.proofs.ExactFields.{kind_is, name_cited, passes}
 use Rattle.dbc_grammar.proofs.ExactLines.{Next, exact_version, exact_symbols, exact_timing_line, exact_nodes_line}
-use Rattle.dbc_grammar.proofs.ExactLines.{exact_table, exact_message}
-use Rattle.dbc_grammar.proofs.ExactLines.{exact_file_comment, exact_node_comment, exact_message_comment}
-use Rattle.dbc_grammar.proofs.ExactLines.{exact_signal_comment}
-use Rattle.dbc_grammar.proofs.ExactLines.{exact_value_texts, exact_value_type, exact_spn, exact_skipped}
-use Rattle.dbc_grammar.proofs.ExactLines.{exact_passed_comment}
+use Rattle.dbc_grammar.proofs.ExactLines.{exact_table, exact_message, exact_file_comment, exact_node_comment}
+use Rattle.dbc_grammar.proofs.ExactLines.{exact_message_comment, exact_signal_comment, exact_value_texts}
+use Rattle.dbc_grammar.proofs.ExactLines.{exact_value_type, exact_spn, exact_skipped, exact_passed_comment}
 use Rattle.dbc_grammar.proofs.ExactLines.{exact_passed_value_texts, exact_independent}
 
 -- A keyword is spelled in one way, and each spelling is one keyword.

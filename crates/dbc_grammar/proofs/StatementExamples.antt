@@ -23,13 +23,11 @@ use Rattle.dbc_words.specs.declared.value_type.ValueType.TheVariants.{Float, Dou
 use Rattle.dbc_grammar.specs.Division.{Divides}
 use Rattle.dbc_grammar.specs.Fields.{ident_of}
 use Rattle.dbc_grammar.specs.Parsing.{decimal_at, pair_at, entry_at, entries_at, further_at, some_names_at, no_names_at}
-use Rattle.dbc_grammar.specs.Parsing.{nodes_at, layout_at, signal_at}
-use Rattle.dbc_grammar.specs.Parsing.{version_at, symbols_at, registers_at, timing_at, timing_line_at, nodes_line_at}
-use Rattle.dbc_grammar.specs.Parsing.{table_at, signals_at, message_at}
-use Rattle.dbc_grammar.specs.Parsing.{file_comment_at, node_comment_at, message_comment_at, signal_comment_at}
-use Rattle.dbc_grammar.specs.Parsing.{passed_comment_at, comment_at}
-use Rattle.dbc_grammar.specs.Parsing.{value_texts_at, passed_value_texts_at, value_type_at, spn_at, skipped_at}
-use Rattle.dbc_grammar.specs.Parsing.{independent_at, line_at, statement_at, statements_at}
+use Rattle.dbc_grammar.specs.Parsing.{nodes_at, layout_at, signal_at, version_at, symbols_at, registers_at, timing_at}
+use Rattle.dbc_grammar.specs.Parsing.{timing_line_at, nodes_line_at, table_at, signals_at, message_at, file_comment_at}
+use Rattle.dbc_grammar.specs.Parsing.{node_comment_at, message_comment_at, signal_comment_at, passed_comment_at}
+use Rattle.dbc_grammar.specs.Parsing.{comment_at, value_texts_at, passed_value_texts_at, value_type_at, spn_at}
+use Rattle.dbc_grammar.specs.Parsing.{skipped_at, independent_at, line_at, statement_at, statements_at}
 use Rattle.dbc_grammar.specs.Statement.{SignalLine, MessageLine, Statement, Content, Dropped, PassedOver}
 use Rattle.dbc_grammar.specs.Statement.{VersionIs, NodesAre, TableIs, MessageIs, CommentIs, NodeCommentIs}
 use Rattle.dbc_grammar.specs.Statement.{MessageCommentIs, SignalCommentIs, ValueTextsAre, ValueTypeIs, SpnIs}

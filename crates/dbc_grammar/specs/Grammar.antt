@@ -7,19 +7,16 @@ use Rattle.dbc_words.specs.Keyword.{KeywordGroup, Kept, Passed, Refused, keyword
 use Rattle.dbc_words.specs.Limits.{spn_limit}
 use Rattle.dbc_words.specs.declared.keyword.Keyword.{Keyword}
 use Rattle.dbc_words.specs.declared.keyword.Keyword.TheVariants.{Version, NewSymbols, BitTiming, Nodes, ValueTable}
-use Rattle.dbc_words.specs.declared.keyword.Keyword.TheVariants.{Message, Signal}
-use Rattle.dbc_words.specs.declared.keyword.Keyword.TheVariants.{Comment, ValueTexts, SignalValueType, AttributeValue}
-use Rattle.dbc_words.specs.declared.keyword.Keyword.TheVariants.{EnvironmentVariable}
+use Rattle.dbc_words.specs.declared.keyword.Keyword.TheVariants.{Message, Signal, Comment, ValueTexts, SignalValueType}
+use Rattle.dbc_words.specs.declared.keyword.Keyword.TheVariants.{AttributeValue, EnvironmentVariable}
 use Rattle.dbc_grammar.specs.Fields.{is_a, is_mark, is_key, key_of, text_of, cited_name, made_name, node_of}
-use Rattle.dbc_grammar.specs.Fields.{whole_where, cited_number}
-use Rattle.dbc_grammar.specs.Fields.{message_ident, independent_number, length_of, type_of, key, mark, entry, nodes}
-use Rattle.dbc_grammar.specs.Fields.{signal}
+use Rattle.dbc_grammar.specs.Fields.{whole_where, cited_number, message_ident, independent_number, length_of, type_of}
+use Rattle.dbc_grammar.specs.Fields.{key, mark, entry, nodes, signal}
 use Rattle.dbc_grammar.specs.Inside.{inside_of}
 use Rattle.dbc_grammar.specs.Rules.{Rule, token, one, ◌>>=◌, done, followed, optional, many, either, unless, nothing}
 use Rattle.dbc_grammar.specs.Statement.{Statement, Content, VersionIs, NodesAre, TableIs, MessageIs, CommentIs}
-use Rattle.dbc_grammar.specs.Statement.{NodeCommentIs}
-use Rattle.dbc_grammar.specs.Statement.{MessageCommentIs, SignalCommentIs, ValueTextsAre, ValueTypeIs, SpnIs, Dropped}
-use Rattle.dbc_grammar.specs.Statement.{PassedOver}
+use Rattle.dbc_grammar.specs.Statement.{NodeCommentIs, MessageCommentIs, SignalCommentIs, ValueTextsAre, ValueTypeIs}
+use Rattle.dbc_grammar.specs.Statement.{SpnIs, Dropped, PassedOver}
 use Rattle.dbc_grammar.specs.Token.{Token}
 use Rattle.dbc_grammar.specs.declared.token.TokenKind.TheVariants.{Name, Number, Text}
 

@@ -2,28 +2,24 @@
 -- the tokens after it. Code is proved against these functions. That they find the division of a file, if it has one, is
 -- a law.
 use Rattle.std.specs.Prelude.{ℕ, zero, suc, Bool, true, false, not, List, [], ◌∷◌, ◌++◌, length, filter_map, Option}
-use Rattle.std.specs.Prelude.{Some, None, option_and_then}
-use Rattle.std.specs.Prelude.{unwrap_or, if◌then◌else◌, codes}
+use Rattle.std.specs.Prelude.{Some, None, option_and_then, unwrap_or, if◌then◌else◌, codes}
 use Rattle.bitlayout.specs.declared.layout.Layout.{Layout}
 use Rattle.bitlayout.specs.declared.place.Mux.TheVariants.{Always}
 use Rattle.decimal.specs.Number.{Number}
 use Rattle.dbc_words.specs.Keyword.{KeywordGroup, Kept, Passed, Refused, keyword_group}
 use Rattle.dbc_words.specs.declared.keyword.Keyword.{Keyword}
 use Rattle.dbc_words.specs.declared.keyword.Keyword.TheVariants.{Version, NewSymbols, BitTiming, Nodes, ValueTable}
-use Rattle.dbc_words.specs.declared.keyword.Keyword.TheVariants.{Message, Signal}
-use Rattle.dbc_words.specs.declared.keyword.Keyword.TheVariants.{Comment, ValueTexts, SignalValueType, AttributeValue}
-use Rattle.dbc_words.specs.declared.keyword.Keyword.TheVariants.{EnvironmentVariable}
+use Rattle.dbc_words.specs.declared.keyword.Keyword.TheVariants.{Message, Signal, Comment, ValueTexts, SignalValueType}
+use Rattle.dbc_words.specs.declared.keyword.Keyword.TheVariants.{AttributeValue, EnvironmentVariable}
 use Rattle.dbc_grammar.specs.Fields.{is_a, is_mark, is_key, text_of, cited_name, made_name, node_of, cited_number}
-use Rattle.dbc_grammar.specs.Fields.{message_ident}
-use Rattle.dbc_grammar.specs.Fields.{independent_number, length_of, start_of, size_of, order_of, type_of, sign_of}
-use Rattle.dbc_grammar.specs.Fields.{mux_of, number_of, goes_on}
+use Rattle.dbc_grammar.specs.Fields.{message_ident, independent_number, length_of, start_of, size_of, order_of, type_of}
+use Rattle.dbc_grammar.specs.Fields.{sign_of, mux_of, number_of, goes_on}
 use Rattle.dbc_grammar.specs.Grammar.{begins_next, next, is_open, is_symbol, ends_symbols, is_spn_name, spn_of}
 use Rattle.dbc_grammar.specs.Grammar.{first_word}
 use Rattle.dbc_grammar.specs.Rules.{only, starts, begins}
 use Rattle.dbc_grammar.specs.Statement.{SignalLine, Statement, Content, VersionIs, NodesAre, TableIs, MessageIs}
-use Rattle.dbc_grammar.specs.Statement.{CommentIs, NodeCommentIs}
-use Rattle.dbc_grammar.specs.Statement.{MessageCommentIs, SignalCommentIs, ValueTextsAre, ValueTypeIs, SpnIs, Dropped}
-use Rattle.dbc_grammar.specs.Statement.{PassedOver}
+use Rattle.dbc_grammar.specs.Statement.{CommentIs, NodeCommentIs, MessageCommentIs, SignalCommentIs, ValueTextsAre}
+use Rattle.dbc_grammar.specs.Statement.{ValueTypeIs, SpnIs, Dropped, PassedOver}
 use Rattle.dbc_grammar.specs.Token.{Token}
 use Rattle.dbc_grammar.specs.declared.token.TokenKind.TheVariants.{Number as NumberKind}
 use Rattle.dbc_sheet.specs.declared.value_texts.ValueText.{ValueText}

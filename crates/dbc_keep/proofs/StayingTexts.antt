@@ -21,8 +21,7 @@ use Rattle.dbc_keep_law.specs.Found.{others_of, run_of, to_mark, tokens_at}
 use Rattle.dbc_keep_law.specs.Kept.{completed, kept_text}
 use Rattle.dbc_keep_law.specs.Law.{EachOnce, Keeps, KeptIsRead, StatementsAreFound, StatementsStay}
 use Rattle.dbc_keep_law.specs.Passages.{Passage, line_of, pieces_from}
-use Rattle.dbc_keep_law.specs.Staying.{Word, reason, reason_by, stays, word_of}
-use Rattle.dbc_keep_law.specs.Staying.{words_of}
+use Rattle.dbc_keep_law.specs.Staying.{Word, reason, reason_by, stays, word_of, words_of}
 use Rattle.dbc_read.specs.Passed.{start_and_keyword}
 use Rattle.dbc_read.specs.declared.passed.Passed.{Passed}
 

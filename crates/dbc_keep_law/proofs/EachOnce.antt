@@ -1,7 +1,6 @@
 -- Each skipped statement is in the kept text once.
-use Rattle.std.proofs.Common.{◌≡◌, ◌==◌, ◌+◌, ◌++◌, ℕ, Bool, true, false, List, [], ◌∷◌, filter, refl, sym}
-use Rattle.std.proofs.Common.{ap, subst, ◌∙◌}
-use Rattle.std.proofs.Common.{append-nil, append_assoc, arith, IsPermutation}
+use Rattle.std.proofs.Common.{◌≡◌, ◌==◌, ◌+◌, ◌++◌, ℕ, Bool, true, false, List, [], ◌∷◌, filter, refl, sym, ap, subst}
+use Rattle.std.proofs.Common.{◌∙◌, append-nil, append_assoc, arith, IsPermutation}
 use Rattle.std.specs.Prelude.{nat_le}
 use Rattle.std.proofs.lemmas.Bool.Decides.{nat_tests}
 use Rattle.std.proofs.lemmas.List.Sorted.{

@@ -1,7 +1,6 @@
 -- A skipped statement is the one that is found at its offset.
-use Rattle.std.proofs.Common.{◌≡◌, ◌≤◌, ◌+◌, ℕ, Bool, true, false, List, [], ◌∷◌, ◌++◌, map, filter, length, drop}
-use Rattle.std.proofs.Common.{min, Option, Some, None, option_map, refl, sym, ap, subst, ◌∙◌, inl, inr, arith}
-use Rattle.std.proofs.Common.{append_assoc}
+use Rattle.std.proofs.Common.{◌≡◌, ◌≤◌, ◌+◌, ℕ, Bool, true, false, List, [], ◌∷◌, ◌++◌, map, filter, length, drop, min}
+use Rattle.std.proofs.Common.{Option, Some, None, option_map, refl, sym, ap, subst, ◌∙◌, inl, inr, arith, append_assoc}
 use Rattle.std.specs.List.{AllByRecursion}
 use Rattle.std.proofs.lemmas.List.{append_cancel_right, drop_at, length-append}
 use Rattle.std.proofs.lemmas.Simd.{map-map}
@@ -12,11 +11,9 @@ use Rattle.dbc_words.specs.declared.keyword.Keyword.TheVariants.{Message, Signal
 use Rattle.dbc_words.specs.declared.keyword.Keyword.TheVariants.{AttributeValue}
 use Rattle.dbc_grammar.specs.Division.{AreParts, Part}
 use Rattle.dbc_grammar.specs.Fields.{key_of}
-use Rattle.dbc_grammar.specs.Grammar.{begins_next, comment_line, file_comment, is_open, line}
-use Rattle.dbc_grammar.specs.Grammar.{message_comment}
-use Rattle.dbc_grammar.specs.Grammar.{message_line, next, node_comment, other_line, passed_line}
-use Rattle.dbc_grammar.specs.Grammar.{independent_line, passed_attribute, passed_value_texts}
-use Rattle.dbc_grammar.specs.Grammar.{signal_comment, spn_line, statement}
+use Rattle.dbc_grammar.specs.Grammar.{begins_next, comment_line, file_comment, is_open, line, message_comment}
+use Rattle.dbc_grammar.specs.Grammar.{message_line, next, node_comment, other_line, passed_line, independent_line}
+use Rattle.dbc_grammar.specs.Grammar.{passed_attribute, passed_value_texts, signal_comment, spn_line, statement}
 use Rattle.dbc_grammar.specs.Grammar.{value_texts_line}
 use Rattle.dbc_grammar.specs.Lexing.{Lexed, lexed}
 use Rattle.dbc_grammar.specs.Rules.{Rule, either}

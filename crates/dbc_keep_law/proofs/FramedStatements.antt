@@ -10,9 +10,8 @@ use Rattle.dbc_words.specs.declared.keyword.Keyword.TheVariants.{AttributeValue}
 use Rattle.dbc_grammar.specs.Fields.{key_of}
 use Rattle.dbc_grammar.specs.Grammar.{is_open, version_line, symbols_line, timing_line, nodes_line, table_line}
 use Rattle.dbc_grammar.specs.Grammar.{message_line, file_comment, node_comment, message_comment, signal_comment}
-use Rattle.dbc_grammar.specs.Grammar.{value_texts_line, spn_line, passed_line, passed_value_texts}
-use Rattle.dbc_grammar.specs.Grammar.{passed_attribute, independent_line, comment_line, other_line, line, first_word}
-use Rattle.dbc_grammar.specs.Grammar.{statement}
+use Rattle.dbc_grammar.specs.Grammar.{value_texts_line, spn_line, passed_line, passed_value_texts, passed_attribute}
+use Rattle.dbc_grammar.specs.Grammar.{independent_line, comment_line, other_line, line, first_word, statement}
 use Rattle.dbc_grammar.specs.Rules.{Rule, either}
 use Rattle.dbc_grammar.specs.Statement.{Content, VersionIs, NodesAre, TableIs, MessageIs, CommentIs, Dropped, Statement}
 use Rattle.dbc_grammar.specs.Token.{Token}

@@ -20,7 +20,9 @@ use Rattle.dbc_grammar.specs.Saying.{SignalKey, Says, comment_in, each_in, has_m
 use Rattle.dbc_grammar.specs.Saying.{keys_of, last_at, message_comment_in, message_in, messages_of, node_comment_in}
 use Rattle.dbc_grammar.specs.Saying.{node_names_of, nodes_in, same_signal, signal_comment_in, spn_in, table_in}
 use Rattle.dbc_grammar.specs.Saying.{value_texts_in, value_type_in, version_in, whole_message, whole_node, whole_signal}
-use Rattle.dbc_grammar.specs.Statement.{Cited, Content, NodeCommentIs, MessageCommentIs, SignalCommentIs, ValueTextsAre, ValueTypeIs, SpnIs, PassedOver, MessageLine, SignalLine, Statement}
+use Rattle.dbc_grammar.specs.Statement.{Cited, Content, NodeCommentIs, MessageCommentIs, SignalCommentIs}
+use Rattle.dbc_grammar.specs.Statement.{ValueTextsAre, ValueTypeIs, SpnIs, PassedOver, MessageLine, SignalLine}
+use Rattle.dbc_grammar.specs.Statement.{Statement}
 use Rattle.dbc_law.proofs.Contents.{contents_of, node_names}
 use Rattle.dbc_law.proofs.SayingContents.{each_in-contents}
 use Rattle.dbc_keep_law.proofs.Unheard.{heard}

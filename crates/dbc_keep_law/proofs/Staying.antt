@@ -18,8 +18,7 @@ use Rattle.dbc_grammar.specs.Fields.{cited_number, is_a, is_key}
 use Rattle.dbc_grammar.specs.Grammar.{comment_line, file_comment, independent_line, is_open, is_spn_name, line}
 use Rattle.dbc_grammar.specs.Grammar.{message_comment, message_line, node_comment, other_line, passed_attribute}
 use Rattle.dbc_grammar.specs.Grammar.{passed_comment, passed_line, passed_value_texts, signal_comment, skipped}
-use Rattle.dbc_grammar.specs.Grammar.{spn_line}
-use Rattle.dbc_grammar.specs.Grammar.{statement, value_texts_line, value_type_line}
+use Rattle.dbc_grammar.specs.Grammar.{spn_line, statement, value_texts_line, value_type_line}
 use Rattle.dbc_grammar.specs.Rules.{Rule, either}
 use Rattle.dbc_grammar.specs.Saying.{is_passed, passed_by}
 use Rattle.dbc_grammar.specs.Statement.{Content, PassedOver, Statement}
@@ -32,7 +31,8 @@ use Rattle.dbc_keep_law.specs.Found.{others_of, to_mark}
 use Rattle.dbc_keep_law.specs.Kept.{completed, kept_text}
 use Rattle.dbc_keep_law.specs.Law.{Keeps, KeptIsRead, StatementsStay}
 use Rattle.dbc_keep_law.specs.Passages.{Passage, line_of, passage_of, pieces_from, statements_of}
-use Rattle.dbc_keep_law.specs.Staying.{Word, cites, first_absent, first_word, is_name_word, is_word, or_else, says, says_spn, stays, word_of, words_of}
+use Rattle.dbc_keep_law.specs.Staying.{Word, cites, first_absent, first_word, is_name_word, is_word, or_else, says}
+use Rattle.dbc_keep_law.specs.Staying.{says_spn, stays, word_of, words_of}
 use Rattle.dbc_keep_law.specs.declared.reason.Reason.{Reason}
 use Rattle.dbc_keep_law.specs.declared.reason.Reason.TheVariants.{SheetSays}
 use Rattle.dbc_keep_law.proofs.Ends.{spn_name_open}

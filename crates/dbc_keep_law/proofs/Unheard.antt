@@ -39,7 +39,9 @@ use Rattle.dbc_grammar.specs.Saying.{
   whole_node,
   whole_signal,
 }
-use Rattle.dbc_grammar.specs.Statement.{Content, VersionIs, NodesAre, TableIs, MessageIs, CommentIs, NodeCommentIs, MessageCommentIs, SignalCommentIs, ValueTextsAre, ValueTypeIs, SpnIs, MessageLine, SignalLine, Statement}
+use Rattle.dbc_grammar.specs.Statement.{Content, VersionIs, NodesAre, TableIs, MessageIs, CommentIs, NodeCommentIs}
+use Rattle.dbc_grammar.specs.Statement.{MessageCommentIs, SignalCommentIs, ValueTextsAre, ValueTypeIs, SpnIs}
+use Rattle.dbc_grammar.specs.Statement.{MessageLine, SignalLine, Statement}
 
 -- the statements without those of some contents
 abbrev pub heard : (Content → Bool) → List Statement → List Statement

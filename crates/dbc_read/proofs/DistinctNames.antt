@@ -1,6 +1,6 @@
 -- Nodes, messages and signals that are built have names and numbers of their own only where their lines have.
 use Rattle.std.proofs.Common.{◌≡◌, ◌==◌, ℕ, Bool, false, nat_eq, List, [], ◌∷◌, map}
-use Rattle.std.specs.List.{AllByRecursion, IsDistinct}
+use Rattle.std.specs.List.{AllByRecursion, IsDistinct, flat_map}
 use Rattle.std.specs.Str.{bytes_eq}
 use Rattle.can_id.specs.Ident.{dbc_number}
 use Rattle.dbc_words.specs.Named.{AreNamedApart}
@@ -13,7 +13,6 @@ use Rattle.dbc_sheet.specs.declared.message.Message.{Message}
 use Rattle.dbc_sheet.specs.declared.node.Node.{Node}
 use Rattle.dbc_sheet.specs.declared.signal.Signal.{Signal}
 use Rattle.dbc_grammar.proofs.SignalKeys.{keys_distinct}
-use Rattle.std.specs.List.{flat_map}
 use Rattle.dbc_read.specs.Built.{feeds_after, messages_from, nodes_from, rest_of, signals_from}
 use Rattle.dbc_read.specs.declared.feed.Feeds.{Feeds}
 use Rattle.std.specs.Prelude.{drop}

@@ -1,7 +1,6 @@
 -- The word that looks for something is read as that.
-use Rattle.std.proofs.Common.{◌≡◌, ◌≤◌, ◌<◌, ◌^◌, ◌*◌, ◌+◌, ◌∙◌, ℕ, Bool, true, false, ◌&&◌, ◌==◌, not, nat_le}
-use Rattle.std.proofs.Common.{List, [], ◌∷◌, ◌++◌, length, take, Option, Some}
-use Rattle.std.proofs.Common.{None, codes, refl, sym, arith, nat_lt, nat_eq}
+use Rattle.std.proofs.Common.{◌≡◌, ◌≤◌, ◌<◌, ◌^◌, ◌*◌, ◌+◌, ◌∙◌, ℕ, Bool, true, false, ◌&&◌, ◌==◌, not, nat_le, List}
+use Rattle.std.proofs.Common.{[], ◌∷◌, ◌++◌, length, take, Option, Some, None, codes, refl, sym, arith, nat_lt, nat_eq}
 use Rattle.std.specs.Char.{digit_value}
 use Rattle.std.specs.Fmt.{decimal, digits}
 use Rattle.std.specs.List.{list_all}
@@ -14,8 +13,7 @@ use Rattle.std.proofs.lemmas.Fmt.{decimal_is_IsNumeral, digits_is_IsNumeral, len
 use Rattle.base.specs.WholeNumber.{whole_of}
 use Rattle.base.proofs.WholeNumbers.{whole_of-is}
 use Rattle.dbc_words.specs.Name.{IsName, continues_identifier, starts_identifier}
-use Rattle.office_types.specs.Sought.{hexadecimal_after, plain_sought, short_decimal}
-use Rattle.office_types.specs.Sought.{sought_of}
+use Rattle.office_types.specs.Sought.{hexadecimal_after, plain_sought, short_decimal, sought_of}
 use Rattle.office_types.specs.declared.sought.Sought.{Sought}
 use Rattle.office_types.specs.declared.sought.Sought.TheVariants as sought
 use Rattle.desk_head.specs.Asked.{IsSought, word_of}

@@ -1,9 +1,7 @@
 -- Heads of responses, and bytes that have none.
-use Rattle.std.proofs.Common.{◌≡◌, ◌≢◌, ℕ, ◌<◌, List, [], ◌∷◌, ◌++◌, length, ap, arith}
-use Rattle.std.proofs.Common.{append_assoc, length-append}
-use Rattle.httparse.specs.Grammar.{AllPass, IsField, HasNoResponse, LineEnd, crlf, lf}
-use Rattle.httparse.specs.Grammar.{is_token_byte, is_value_byte, print_blank, print_end, print_response, print_version}
-use Rattle.httparse.specs.Grammar.{print_reason, print_section}
+use Rattle.std.proofs.Common.{◌≡◌, ◌≢◌, ℕ, ◌<◌, List, [], ◌∷◌, ◌++◌, length, ap, arith, append_assoc, length-append}
+use Rattle.httparse.specs.Grammar.{AllPass, IsField, HasNoResponse, LineEnd, crlf, lf, is_token_byte, is_value_byte}
+use Rattle.httparse.specs.Grammar.{print_blank, print_end, print_response, print_version, print_reason, print_section}
 use Rattle.desk_client.specs.Received.{NeverHasHead}
 use Rattle.desk_client.specs.Request.{header}
 

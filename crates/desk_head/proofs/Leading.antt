@@ -22,9 +22,8 @@ use Rattle.desk_head.specs.declared.endpoint.Showing.{Showing}
 use Rattle.desk_head.specs.declared.endpoint.Showing.TheVariants as shown
 use Rattle.desk_head.specs.declared.routes.Route.{Route}
 use Rattle.desk_head.specs.declared.routes.Route.TheVariants as route
-use Rattle.desk_head.proofs.Matching.{Finds, all_end, all_parameters, at_bytes}
-use Rattle.desk_head.proofs.Matching.{at_part, past_bytes, past_part, some_slash}
-use Rattle.desk_head.proofs.Matching.{steps}
+use Rattle.desk_head.proofs.Matching.{Finds, all_end, all_parameters, at_bytes, at_part, past_bytes, past_part}
+use Rattle.desk_head.proofs.Matching.{some_slash, steps}
 use Rattle.desk_head.proofs.TargetParts.{IsPart, decimal_part, name_part, plain_part, word_part}
 
 abbrev value_of : RouteOf Route → Route

@@ -1,7 +1,6 @@
 -- How a target matches a route, part by part.
-use Rattle.std.proofs.Common.{◌≡◌, ◌-◌, ℕ, zero, suc, List, [], ◌∷◌, ◌++◌, length, drop, Option, Some}
-use Rattle.std.proofs.Common.{None, Bool, true, false, ◌==◌, ◌||◌, ◌&&◌, refl, ap, arith, length-append, cond, ltb}
-use Rattle.std.proofs.Common.{nat_eq}
+use Rattle.std.proofs.Common.{◌≡◌, ◌-◌, ℕ, zero, suc, List, [], ◌∷◌, ◌++◌, length, drop, Option, Some, None, Bool, true}
+use Rattle.std.proofs.Common.{false, ◌==◌, ◌||◌, ◌&&◌, refl, ap, arith, length-append, cond, ltb, nat_eq}
 use Rattle.std.specs.Option.{option_map}
 use Rattle.std.specs.List.{list_all}
 use Rattle.std.proofs.Math.Seq.{drop-append_seam}

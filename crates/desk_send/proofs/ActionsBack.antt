@@ -1,6 +1,5 @@
 -- The values of an action's fields give that action.
-use Rattle.std.proofs.Common.{◌≡◌, ◌≢◌, ◌≤◌, ◌<◌, ◌^◌, ◌&&◌, ℕ, true, List, [], ◌∷◌, Some, refl, arith}
-use Rattle.std.proofs.Common.{nat_le}
+use Rattle.std.proofs.Common.{◌≡◌, ◌≢◌, ◌≤◌, ◌<◌, ◌^◌, ◌&&◌, ℕ, true, List, [], ◌∷◌, Some, refl, arith, nat_le}
 use Rattle.std.proofs.lemmas.Bool.{and_parts}
 use Rattle.std.proofs.lemmas.Bool.Decides.{nat_tests}
 use Rattle.std.specs.Prelude.{IfSome, unwrap_or}

@@ -1,6 +1,5 @@
 -- A plain text is escaped to itself.
-use Rattle.std.proofs.Common.{◌≡◌, ◌+◌, ◌%◌, ◌≤◌, ◌==◌, ◌++◌, ◌||◌, not, ℕ, true, false, cond, List, [], ◌∷◌}
-use Rattle.std.proofs.Common.{Some}
+use Rattle.std.proofs.Common.{◌≡◌, ◌+◌, ◌%◌, ◌≤◌, ◌==◌, ◌++◌, ◌||◌, not, ℕ, true, false, cond, List, [], ◌∷◌, Some}
 use Rattle.std.proofs.Common.{None, refl, sym, ap, ◌∙◌, arith, inl, inr, ◌⊎◌}
 use Rattle.std.specs.Prelude.{nat_le, nat_lt, slice_index}
 use Rattle.std.specs.List.{list_all}
@@ -9,8 +8,7 @@ use Rattle.std.proofs.lemmas.Bool.Decides.{nat_tests}
 use Rattle.html.specs.declared.characters.Character.{Character}
 use Rattle.html.specs.Characters.{char_at, is_between, longer, written_by}
 use Rattle.html.specs.Text.{escaped, is_control, is_mark, is_plain, is_unshown, reference, shown, written}
-use Rattle.html.specs.Text.{written_after}
-use Rattle.html.specs.Text.{written_shown}
+use Rattle.html.specs.Text.{written_after, written_shown}
 use Rattle.html.proofs.Steps.{begun}
 
 -- ---- which bytes are plain

@@ -8,12 +8,10 @@ use Rattle.std.proofs.lemmas.Bool.Decides.{nat_tests}
 use Rattle.std.proofs.lemmas.Fmt.{decimal_by_steps_wide}
 use Rattle.html.specs.declared.characters.Character.{Character}
 use Rattle.html.specs.Characters.{char_at, chars_after, chars_of, first_of, four, longer, number_of_four}
-use Rattle.html.specs.Characters.{number_of_three}
-use Rattle.html.specs.Characters.{three, two}
+use Rattle.html.specs.Characters.{number_of_three, three, two}
 use Rattle.html.specs.Text.{characters, escaped, is_control, is_plain, is_unshown, reference, shown, written}
 use Rattle.html.specs.Reading.{AreBytes, AreReadBack, between, after_ampersand, after_digits, after_hash, is_digit}
-use Rattle.html.specs.Reading.{read_from}
-use Rattle.html.specs.Reading.{text_read}
+use Rattle.html.specs.Reading.{read_from, text_read}
 
 -- ---- a reference
 

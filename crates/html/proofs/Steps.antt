@@ -1,7 +1,6 @@
 -- What is written of bytes, one byte after the other.
 use Rattle.std.proofs.Common.{◌≡◌, ◌+◌, ◌-◌, ◌<◌, ◌≤◌, ◌++◌, ℕ, suc, List, ◌∷◌, Option, Some, None, length, drop}
-use Rattle.std.proofs.Common.{get_or, arith}
-use Rattle.std.proofs.Common.{refl, sym, ap, ◌∙◌, append_assoc}
+use Rattle.std.proofs.Common.{get_or, arith, refl, sym, ap, ◌∙◌, append_assoc}
 use Rattle.std.specs.List.{cons_option, flat_map}
 use Rattle.std.proofs.lemmas.List.{drop_more}
 use Rattle.html.specs.declared.characters.Character.{Character}

@@ -1,8 +1,7 @@
 -- Bytes as a text of HTML, in ASCII alone (the HTML Standard, decimal numeric character references). It may stand
 -- between tags, and between the quotes of an attribute.
 use Rattle.std.specs.Prelude.{ℕ, ◌+◌, ◌%◌, ◌==◌, ◌&&◌, ◌||◌, not, nat_le, nat_lt, Bool, List, [], ◌∷◌, ◌++◌, codes}
-use Rattle.std.specs.Prelude.{decimal}
-use Rattle.std.specs.Prelude.{Option, Some, None, if◌then◌else◌}
+use Rattle.std.specs.Prelude.{decimal, Option, Some, None, if◌then◌else◌}
 use Rattle.std.specs.List.{filter_map, flat_map}
 use Rattle.html.specs.Characters.{chars_after, is_between}
 

@@ -1,7 +1,6 @@
 -- Which elements a piece of HTML leaves open, when something is added to it.
-use Rattle.std.proofs.Common.{◌≡◌, ◌++◌, ◌∙◌, ◌==◌, ℕ, Bool, true, false, List, [], ◌∷◌, if◌then◌else◌, refl, sym}
-use Rattle.std.proofs.Common.{ap, append-nil, append_assoc, map, not, reverse, subst, Ok, Err, is_err, is_ok}
-use Rattle.std.proofs.Common.{OnOk, Result}
+use Rattle.std.proofs.Common.{◌≡◌, ◌++◌, ◌∙◌, ◌==◌, ℕ, Bool, true, false, List, [], ◌∷◌, if◌then◌else◌, refl, sym, ap}
+use Rattle.std.proofs.Common.{append-nil, append_assoc, map, not, reverse, subst, Ok, Err, is_err, is_ok, OnOk, Result}
 use Rattle.std.specs.Prelude.{codes, decimal}
 use Rattle.std.specs.List.{flat_map, list_all}
 use Rattle.std.proofs.lemmas.Bool.{and_parts, false≢true}

@@ -15,8 +15,7 @@ use Rattle.office_types.specs.State.{by_name}
 use Rattle.office_types.specs.declared.book.SpnBlock.{SpnBlock}
 use Rattle.office_types.specs.declared.book.SpnBook.{SpnBook}
 use Rattle.office_types.specs.declared.change.Change.{Change}
-use Rattle.office_types.specs.declared.change.Change.TheVariants.{SetHead, AddSignal}
-use Rattle.office_types.specs.declared.change.Change.TheVariants.{RemoveSignal, SetSpn, SetValues}
+use Rattle.office_types.specs.declared.change.Change.TheVariants.{SetHead, AddSignal, RemoveSignal, SetSpn, SetValues}
 use Rattle.office_types.specs.declared.change.Change.TheVariants.{SetSpnBlock, EnterSpn}
 use Rattle.office_types.specs.declared.state.LiveMessage.{LiveMessage}
 use Rattle.office_types.specs.declared.state.Net.{Net}

@@ -7,9 +7,7 @@ use Rattle.std.proofs.lemmas.Bool.{false≢true}
 use Rattle.office_types.specs.Free.{is_taken}
 use Rattle.office_types.specs.declared.book.SpnBook.{SpnBook}
 use Rattle.office_types.specs.declared.change.Change.{Change}
-use Rattle.office_types.specs.declared.change.Change.TheVariants.{SetHead}
-use Rattle.office_types.specs.declared.change.Change.TheVariants.{SetBlock}
-use Rattle.office_types.specs.declared.change.Change.TheVariants.{SetSpnBlock, EnterSpn, SetApproval}
+use Rattle.office_types.specs.declared.change.Change.TheVariants.{SetHead, SetBlock, SetSpnBlock, EnterSpn, SetApproval}
 use Rattle.office_types.specs.declared.change.Change.TheVariants.{ClearApprovals, AddRelease}
 use Rattle.office_types.specs.declared.state.Net.{Net}
 use Rattle.office_types.specs.declared.state.LiveMessage.{LiveMessage}

@@ -15,8 +15,7 @@ use Rattle.office_types.specs.declared.command.Task.{Task}
 use Rattle.office_types.specs.declared.command.Task.TheVariants.{Act, Bundle}
 use Rattle.office_types.specs.declared.reply.Reply.{Reply}
 use Rattle.office_types.specs.declared.reply.PartReply.{PartReply}
-use Rattle.office_types.specs.declared.reply.Reply.TheVariants.{Number}
-use Rattle.office_types.specs.declared.reply.Reply.TheVariants.{Bundle as Bundled}
+use Rattle.office_types.specs.declared.reply.Reply.TheVariants.{Number, Bundle as Bundled}
 use Rattle.office_types.specs.declared.state.Net.{Net}
 use Rattle.office_types.specs.declared.state.Office.{Office}
 use Rattle.office_rules.specs.Kept.{IsOffice}

@@ -32,8 +32,7 @@ use Rattle.office_blocks.specs.Blocks.{live_numbers, row_with, spns_of, taken_nu
 use Rattle.office_blocks.specs.declared.blocks.TheConstants.{BLOCKS, BLOCK_TOTALS}
 use Rattle.office_looks.specs.Looks.{list_in, shown_of, table_of, text_of}
 use Rattle.office_views.specs.Sending.{received, receives, receives_some, sends}
-use Rattle.office_looks.specs.Nodes.{counts_row, node_row, received_rows}
-use Rattle.office_looks.specs.Nodes.{sent_rows, use_row, uses_table}
+use Rattle.office_looks.specs.Nodes.{counts_row, node_row, received_rows, sent_rows, use_row, uses_table}
 use Rattle.office_looks.specs.Reads.{AreRead, net_read, reads_of, received_of, row_of, with_signals}
 use Rattle.office_looks.specs.State.{state_row}
 use Rattle.office_looks.specs.declared.nodes.TheConstants.{NODES, NODE_TOTALS, USES, USE_TOTALS}

@@ -3,7 +3,8 @@ use Rattle.std.specs.Prelude.{ℕ, ◌-◌, List, [], ◌∷◌, length, unwrap_
 use Rattle.dbc_sheet.specs.Pairs.{counts_of}
 use Rattle.dbc_sheet.specs.declared.counts.Counts.{Counts}
 use Rattle.office_types.specs.State.{submitter_of}
-use Rattle.office_views.specs.NetList.{kind_word, phase_word}
+use Rattle.office_types.specs.Command.{kind_word}
+use Rattle.office_views.specs.NetList.{phase_word}
 use Rattle.office_views.specs.Table.{signal_count}
 use Rattle.office_seen.specs.Since.{last_release}
 use Rattle.office_seen.specs.declared.view.View.{View}

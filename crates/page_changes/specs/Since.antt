@@ -1,6 +1,5 @@
 -- What has changed since the last release: the lists of the messages that differ.
-use Rattle.std.specs.Prelude.{◌≡◌, ℕ, Bool, List, [], ◌∷◌, ◌++◌, Option, Some, None, codes, map, take}
-use Rattle.std.specs.Prelude.{if◌then◌else◌}
+use Rattle.std.specs.Prelude.{◌≡◌, ℕ, Bool, List, [], ◌∷◌, ◌++◌, Option, Some, None, codes, map, take, if◌then◌else◌}
 use Rattle.std.specs.Borrow.{Bor}
 use Rattle.std.specs.List.{flat_map, fold, list_any}
 use Rattle.std.specs.List.Sorted.{IsPermutation, IsSortedBy, IsStableBy}

@@ -4,11 +4,10 @@ use Rattle.std.proofs.Common.{get_or, length, None, Some, refl, ap, sym, ◌∙�
 use Rattle.std.specs.List.{find, list_any}
 use Rattle.std.proofs.lemmas.Bool.{and_from, and_parts, both_ways, false_from_ne_true, leb-true, le-leb, or_from}
 use Rattle.std.proofs.lemmas.Bool.{or_parts}
-use Rattle.office_types.specs.Block.{same_form}
+use Rattle.office_types.specs.Block.{same_form, form_number}
 use Rattle.office_types.specs.declared.block.BlockForm.{BlockForm}
 use Rattle.office_types.specs.declared.state.GrantedBlock.{GrantedBlock}
 use Rattle.office_seen.specs.Granted.{has_number_in}
-use Rattle.office_types.specs.Block.{form_number}
 use Rattle.page_numbers.specs.Charts.{is_near}
 use Rattle.page_numbers.specs.Ordered.{high, key, low}
 use Rattle.page_numbers.proofs.InBlocks.{same_block}

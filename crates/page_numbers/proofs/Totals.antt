@@ -1,7 +1,6 @@
 -- Sums and lists over the items that pass a test, item by item.
 use Rattle.std.proofs.Common.{◌≡◌, ◌+◌, ◌<◌, ◌++◌, ℕ, Bool, true, false, List, [], ◌∷◌, length, take, filter, get_or}
-use Rattle.std.proofs.Common.{cond, map, sum}
-use Rattle.std.proofs.Common.{sym, ap, ◌∙◌, append-nil}
+use Rattle.std.proofs.Common.{cond, map, sum, sym, ap, ◌∙◌, append-nil}
 use Rattle.std.specs.List.{flat_map, sum_by}
 use Rattle.std.proofs.lemmas.List.{take_more}
 use Rattle.std.proofs.lemmas.List.Concat.{flat_map-append}

@@ -1,7 +1,6 @@
 -- The JSON of a list nests a few levels, and has no number with a fraction. So it reads back, and its text is computed.
 use Rattle.std.proofs.Common.{◌≡◌, ◌≤◌, ◌||◌, ◌∙◌, ℕ, suc, Bool, true, false, cond, List, [], ◌∷◌, Option, Some, None}
-use Rattle.std.proofs.Common.{◌++◌, map, nat_lt}
-use Rattle.std.proofs.Common.{refl, ap, arith}
+use Rattle.std.proofs.Common.{◌++◌, map, nat_lt, refl, ap, arith}
 use Rattle.std.specs.Prelude.{max, decimal, codes, ◌^◌}
 use Rattle.std.specs.Option.{option_map}
 use Rattle.std.specs.Ordering.{match_ordering, nat_cmp}

@@ -22,8 +22,7 @@ use Rattle.store.specs.declared.lost.Lost.TheVariants.{NewerProfile, OlderProfil
 use Rattle.store.specs.Calls.{OnOpen, ShowsSame}
 use Rattle.store.specs.Lost.{IsOfCall}
 use Rattle.store.specs.Opening.{AreTreesOf, HasCommitted, HasProfileRowsOf, HasOlderProfileRows, IsCarried, IsGrown}
-use Rattle.store.specs.Opening.{IsNew}
-use Rattle.store.specs.Opening.{MayMigrateFrom, MayOpen}
+use Rattle.store.specs.Opening.{IsNew, MayMigrateFrom, MayOpen}
 
 -- the connection has this schema
 abbrev pub HasSchema : {S : Type 0} → Ghosts S → Held S → Schema → Type 0

@@ -20,14 +20,13 @@ use Rattle.store_tables.specs.Selected.{IsSelected}
 use Rattle.store_statements.specs.Rows.{has_net_and_number}
 use Rattle.store_statements.specs.Shown.{receivers_order, receivers_shown}
 use Rattle.store_rows.specs.Listed.{AreListed, AreShown}
-use Rattle.store_rows.specs.Live.{AreSignalsOf, IsReceiverRow, live_rows, parts_of}
+use Rattle.store_rows.specs.Live.{AreSignalsOf, IsReceiverRow, live_rows, parts_of, bare_signal}
 use Rattle.store_rows.specs.NetIn.{HasRows, IsNetAt}
 use Rattle.store_rows.specs.SignalShowing.{PlacesAscend, ShowsLive, ShowsPart, ShowsPlaced, ShowsReceiver}
 use Rattle.store_rows.proofs.LiveRows.{of_number, receivers_total}
 use Rattle.store_rows.proofs.PartShown.{IsPart, Part, one_shown, placed_part}
 use Rattle.store_rows.proofs.Reading.{selected_shown}
 use Rattle.store_net.specs.SignalParts.{live_in}
-use Rattle.store_rows.specs.Live.{bare_signal}
 use Rattle.store_net.specs.Texts.{live_table}
 use Rattle.store_net.specs.declared.signal_parts.SignalParts.{SignalParts}
 use Rattle.store_net.specs.declared.signal_parts.SignalParts.TheVariants.{RowOnly, All}

@@ -33,14 +33,13 @@ use Rattle.columns.proofs.Pieces.{items_more}
 use Rattle.office_views.specs.NetList.{line_of, net_line, nets_text}
 use Rattle.store_rows.specs.Listed.{AreListed, AreShown}
 use Rattle.store_rows.specs.NetIn.{IsNetAt, IsRestAt, RestRows, rest_of}
-use Rattle.store_rows.specs.Rows.{IsFrozenRow, IsNetRow, IsRowOf, numbered}
+use Rattle.store_rows.specs.Rows.{IsFrozenRow, IsNetRow, IsRowOf, numbered, IsNamed}
 use Rattle.store_rows.proofs.Keys.{net_total, other_net, own_text, releases_total, text_order}
 use Rattle.store_rows.proofs.Listing.{found_listed, none_listed}
 use Rattle.store_rows.proofs.Reading.{both_tests, selected_shown}
 use Rattle.store_rows.proofs.Setting.{left_none, left_others}
 use Rattle.store_rows.proofs.Values.{one_text}
 use Rattle.store_net.specs.Nets.{AreKnownNets, AreNets}
-use Rattle.store_rows.specs.Rows.{IsNamed}
 
 abbrev name_of : Net → List ℕ
 name_of net = net.name

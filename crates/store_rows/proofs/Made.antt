@@ -11,8 +11,7 @@ use Rattle.sqlite_trees.specs.declared.store.Store.{Ghosts}
 use Rattle.store_tables.specs.Frames.{ReadsOnly, ReadsWhileOpen, StaysIn}
 use Rattle.store_tables.specs.Statements.{Makes, statistics_of}
 use Rattle.store_tables.specs.Tables.{IsOffice, Tables, tables_of}
-use Rattle.store_rows.proofs.Frames.{going}
-use Rattle.store_rows.proofs.Frames.{nothing_left}
+use Rattle.store_rows.proofs.Frames.{going, nothing_left}
 
 -- a statement after another
 pub makes_then : (first second : Tables → Tables) (a b c : State) → Makes first a b → Makes second b c

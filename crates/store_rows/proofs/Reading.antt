@@ -6,7 +6,7 @@ use Rattle.std.specs.Ordering.{is_eq, is_lt, nat_cmp}
 use Rattle.std.proofs.lemmas.Bool.Decides.{nat_tests}
 use Rattle.std.proofs.lemmas.List.Elements.{filter-append}
 use Rattle.sqlite.specs.declared.types.Value.TheVariants.{Int}
-use Rattle.store_rows.proofs.Keys.{int_test}
+use Rattle.store_rows.proofs.Keys.{int_test, net_total, messages_total, blocks_total, blocks_of_form_total, held_total}
 use Rattle.std.proofs.lemmas.List.Kept.{IsSortedBy-filter}
 use Rattle.std.proofs.lemmas.List.Sorted.{ranks_by}
 use Rattle.sqlite_trees.proofs.ListLemmas.{IsPermutation-filter}
@@ -33,7 +33,6 @@ use Rattle.store_rows.specs.Rows.{IsSpnRow, IsFrozenRow, is_granted, numbered}
 use Rattle.store_rows.specs.Showing.{ShowsHead, ShowsMessage, ShowsBlock, ShowsSpnBlock, ShowsIdent, ShowsTeam}
 use Rattle.store_rows.specs.Showing.{ShowsNumber, ShowsRelease, is_own}
 use Rattle.store_rows.proofs.Listing.{found_listed}
-use Rattle.store_rows.proofs.Keys.{net_total, messages_total, blocks_total, blocks_of_form_total, held_total}
 use Rattle.store_rows.proofs.Keys.{spns_total, approvals_total, releases_total}
 
 shown_map : {A X Y : Type 0} (R : A → X → Type 0) (S : A → Y → Type 0) (f : X → Y)

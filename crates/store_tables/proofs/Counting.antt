@@ -1,7 +1,7 @@
 -- What a count of one table's rows answers, and a SELECT of the first of them.
 use Rattle.std.proofs.Common.{◌≡◌, ◌∙◌, inl, inr, ℕ, zero, suc, pos, negsuc, List, [], ◌∷◌, map, length, Bool, cond}
 use Rattle.std.proofs.Common.{Some, None, refl, sym, ap, subst, arith}
-use Rattle.std.specs.Prelude.{filter, flat_map, min, take, IsPermutation, All}
+use Rattle.std.specs.Prelude.{filter, flat_map, min, take, IsPermutation, All, IfOk, Result, Ok, Err, codes, false}
 use Rattle.std.specs.List.{AllZip, list_all}
 use Rattle.std.proofs.lemmas.Bool.{cases_Bool}
 use Rattle.std.proofs.lemmas.List.{length-map}
@@ -16,7 +16,6 @@ use Rattle.sqlite_sql.specs.Group.{Aggregate, Grouping, IsSummary, value_over}
 use Rattle.sqlite_sql.specs.Term.{Env}
 use Rattle.sqlite_sql.specs.declared.aggregate.AggregateOp.TheVariants.{CountRows}
 use Rattle.sqlite.specs.Query.{Query, inner, end, IsAnswer, output, Output}
-use Rattle.std.specs.Prelude.{IfOk, Result, Ok, Err, codes, false}
 use Rattle.sqlite.specs.declared.error.Error.{Error}
 use Rattle.sqlite.specs.Command.TheVariants.{Select}
 use Rattle.sqlite.specs.Listing.{understood, reads_listing}

@@ -1,8 +1,7 @@
-use Rattle.std.proofs.Common.{[], refl, append_assoc}
+use Rattle.std.proofs.Common.{[], refl, append_assoc, map}
 use Rattle.std.specs.Prelude.{codes}
 use Rattle.markup.specs.Html.{element_html, escaped}
 use Rattle.markup.specs.declared.tag.Tag.TheVariants as tag
-use Rattle.std.proofs.Common.{map}
 use Rattle.std.specs.Option.{option_copied}
 use Rattle.page_changes.specs.Act.{after_point, lost_item}
 use Rattle.page_changes.specs.Names.{text_of}

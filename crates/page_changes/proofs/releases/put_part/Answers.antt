@@ -1,6 +1,5 @@
-use Rattle.std.proofs.Common.{refl, append_assoc}
+use Rattle.std.proofs.Common.{refl, append_assoc, None, length}
 use Rattle.std.specs.Prelude.{codes}
-use Rattle.std.proofs.Common.{None, length}
 use Rattle.page_parts.specs.Frames.{with_part, with_wide}
 use Rattle.page_changes.specs.Releases.{more_releases, release_table, releases_part}
 use Rattle.page_changes.proofs.Steps.{add, by, end, finish, start}

@@ -4,9 +4,8 @@ use Rattle.markup.proofs.Changes.{added}
 use Rattle.page_parts.specs.Letters.{class_in}
 use Rattle.page_parts.specs.declared.letters.Shade.TheVariants as shade
 use Rattle.page_numbers.specs.Elements.{around}
-use Rattle.page_numbers.specs.Left.{share_html}
+use Rattle.page_numbers.specs.Left.{share_html, bar_cell}
 use Rattle.page_numbers.proofs.Closing.{closed, instead}
-use Rattle.page_numbers.specs.Left.{bar_cell}
 use Rattle.page_numbers.proofs.left.put_bar.Goals as goal
 
 pub returns : goal.returns

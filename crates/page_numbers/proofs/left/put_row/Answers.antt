@@ -6,9 +6,8 @@ use Rattle.page_parts.specs.Letters.{badge}
 use Rattle.page_parts.specs.Words.{cell, number_cell}
 use Rattle.page_numbers.specs.Counts.{counts_of, granted, short}
 use Rattle.page_numbers.specs.Elements.{around}
-use Rattle.page_numbers.specs.Left.{bar_cell, form_words, free_html, held_cell, runs_cell}
+use Rattle.page_numbers.specs.Left.{bar_cell, form_words, free_html, held_cell, runs_cell, left_row}
 use Rattle.page_numbers.proofs.Closing.{closed, instead}
-use Rattle.page_numbers.specs.Left.{left_row}
 use Rattle.page_numbers.proofs.left.put_row.Goals as goal
 
 pub returns : goal.returns

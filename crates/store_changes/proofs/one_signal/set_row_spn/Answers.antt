@@ -5,9 +5,8 @@ use Rattle.sqlite.specs.Held.{state}
 use Rattle.sqlite.specs.Order.{column}
 use Rattle.sqlite.specs.State.{HasCleanDisk}
 use Rattle.store_tables.specs.Tables.{Tables, tables_of}
-use Rattle.store_rows.specs.Live.{sig_values}
+use Rattle.store_rows.specs.Live.{sig_values, bare_signal}
 use Rattle.store_rows.proofs.Values.{one_number}
-use Rattle.store_rows.specs.Live.{bare_signal}
 use Rattle.store_rows.proofs.PartShown.{one_shown}
 use Rattle.store_changes.proofs.SetSignals.{one_numbered}
 use Rattle.store_changes.proofs.one_signal.set_row_spn.Goals as goal

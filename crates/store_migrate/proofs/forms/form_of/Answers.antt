@@ -1,8 +1,7 @@
 use Rattle.std.proofs.Common.{rules, ◌∙◌, sym}
 use Rattle.std.proofs.lemmas.Bool.{false≢true}
 use Rattle.store_migrate.proofs.Formed.{all_are, all_counted, analyzed_are, analyzed_counted, begun, bodies_are}
-use Rattle.store_migrate.proofs.Formed.{bodies_counted, counted, none_counted}
-use Rattle.store_migrate.proofs.Formed.{rows_are, rows_counted}
+use Rattle.store_migrate.proofs.Formed.{bodies_counted, counted, none_counted, rows_are, rows_counted}
 use Rattle.store_migrate.proofs.forms.form_of.Goals as goal
 
 pub returns-then-not-is_begun-clause-known : goal.returns-then-not-is_begun-clause-known

@@ -11,9 +11,8 @@ use Rattle.store_rows.specs.Listed.{AreShown}
 use Rattle.store_rows.specs.SignalShowing.{ShowsPart, ShowsReceiver, ShowsValueText}
 use Rattle.store_rows.proofs.LiveRows.{places_ascend, sigs_are_shown}
 use Rattle.store_net.specs.SignalParts.{received_signal}
-use Rattle.store_net.proofs.Bare.{no_parts, part_signals, parts_ascend, parts_shown}
+use Rattle.store_net.proofs.Bare.{no_parts, part_signals, parts_ascend, parts_shown, receivers_are_shown, same_parts_of}
 use Rattle.store_rows.proofs.PartShown.{placed_part}
-use Rattle.store_net.proofs.Bare.{receivers_are_shown, same_parts_of}
 use Rattle.store_net.proofs.message.received_signals_at.Goals as goal
 
 pub returns-clause-found : goal.returns-clause-found

@@ -6,9 +6,6 @@ use Rattle.office_types.specs.declared.refusal.Refusal.{Refusal}
 abbrev pub key_reused_text : List ℕ
 key_reused_text = codes "the team has used this key for another request; another key asks anew"
 
-abbrev pub kept_text : List ℕ → List ℕ
-kept_text reason = reason ++ codes "; answered before under this key: another key asks anew"
-
 -- a refusal that isn't that of today
 abbrev pub outdated_text : Refusal → List ℕ → List ℕ
 outdated_text now reason = codes "answered so before under this key: another key asks anew, and is refused "

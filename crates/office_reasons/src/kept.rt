@@ -1,6 +1,6 @@
 //! What is reported of an answer that may be an earlier one.
 ghost use Rattle.std.specs.Prelude.{◌≡◌, IfOk, string_bytes};
-ghost use Rattle.office_reasons.specs.Kept.{key_reused_text, kept_text, outdated_text};
+ghost use Rattle.office_reasons.specs.Kept.{key_reused_text, outdated_text};
 ghost use Rattle.office_reasons.specs.Pieces.{IsSentence};
 
 use crate::pieces::{sentence_of, shown};
@@ -30,13 +30,6 @@ fn refusal_now(
         Reply::Refused(refusal) => Ok(Some(*refusal)),
         _ => Ok(None),
     }
-}
-
-/// What is reported of a kept refusal for which there is this reason still.
-fn kept_text(alloc: Global, reason: &str) -> Result<String, AllocError>
-    ensures { IfOk result (λ text. string_bytes text ≡ kept_text reason.now) }
-{
-    format!(in alloc; "{reason}; answered before under this key: another key asks anew")
 }
 
 /// What is reported of a kept refusal where the command would be refused with this one now, for this reason.
@@ -73,29 +66,10 @@ fn outdated_reason(
     }
 }
 
-/// What is reported of a refusal that the team's command got before under its key, by the office as it is seen now: why
-/// it would be refused so still, or that another key would be answered otherwise. It is one sentence of printable
-/// ASCII, without a line's end. The error is out of memory.
-pub fn kept_reason(
-    alloc: Global,
-    team: &Team,
-    command: &Command,
-    refusal: Refusal,
-    seen: &Seen<'_>,
-) -> Result<Vec<u8>, AllocError>
-    ensures { IfOk result (λ sentence. IsSentence sentence.items) }
-{
-    let now = refusal_now(alloc, team, command, seen)?;
-    if now != Some(refusal) {
-        return outdated_reason(alloc, team, command, now, seen);
-    }
-    let why = reason(alloc, team, command, refusal, seen)?;
-    let text = kept_text(alloc, shown(&why))?;
-    sentence_of(alloc, text.as_str())
-}
-
-/// The same where it isn't known whether the refusal was given before. A command that came first is refused as the
-/// office decides now, since a refusal changes nothing: then this is [`reason`]. Another refusal was kept.
+/// Why the team's command was refused so, by the office as it is seen now, where it isn't known whether that was
+/// before. A command that came first is refused as the office decides now, since a refusal changes nothing: then this
+/// is [`reason`]. Another refusal was kept under its key: then it is how the command would be answered under another
+/// one. It is one sentence of printable ASCII, without a line's end. The error is out of memory.
 pub fn answer_reason(
     alloc: Global,
     team: &Team,

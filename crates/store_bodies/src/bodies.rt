@@ -4,38 +4,14 @@ ghost use Rattle.dbc_grammar.specs.Reads.{Reads};
 ghost use Rattle.dbc_sheet.specs.declared.message.Message.{Message as MessageModel};
 ghost use Rattle.dbc_sheet.specs.declared.sheet.Sheet.{Sheet as Whole};
 ghost use Rattle.dbc_read.specs.Reading.{ReadsAsNothing};
-ghost use Rattle.store_bodies.specs.Body.{IsBody, only_message, sheet_alone};
+ghost use Rattle.store_bodies.specs.Body.{IsBody, only_message};
 
-use base::{Copying, Items};
+use base::Items;
 use dbc_lex::ReadCode;
 use dbc_read::{Reading, read};
 use dbc_sheet::{Message, Sheet};
-use dbc_words::SheetCode;
-use dbc_write::text_of;
 use std::alloc::{AllocError, Global};
 use std::mem::replace;
-
-/// The sheet that has the message alone.
-fn sheet_alone(alloc: Global, message: &Message) -> Result<Sheet, AllocError>
-    ensures { IfOk result (λ sheet. sheet ≡ sheet_alone message.now) }
-{
-    let mut sheet = Sheet::new(alloc);
-    match sheet.with_message(alloc, message.duplicate(alloc)?) {
-        Ok(()) => Ok(sheet),
-        Err(fault) => match fault.code {
-            SheetCode::Memory => Err(AllocError),
-            _ => unreachable!(),
-        },
-    }
-}
-
-/// A body of the message: a text that reads as the sheet that has this message alone. The error is out of memory.
-pub fn body_of(alloc: Global, message: &Message) -> Result<Vec<u8>, AllocError>
-    ensures { IfOk result (λ body. IsBody body.items message.now) }
-{
-    let sheet = sheet_alone(alloc, message)?;
-    text_of(alloc, &sheet)
-}
 
 /// The sheet of a reading, without what was skipped.
 fn sheet_in(alloc: Global, reading: Reading) -> Sheet

@@ -1,31 +1,14 @@
 -- What the texts on `approval` make of it, and show of it.
-use Rattle.std.proofs.Common.{◌≡◌, ℕ, List, [], ◌∷◌, ◌++◌, codes, not, refl, ap, ◌∙◌}
-use Rattle.std.specs.Prelude.{filter, length}
-use Rattle.sqlite.specs.declared.types.Value.TheVariants.{Null, Int, Text}
-use Rattle.sqlite.specs.Order.{Row}
-use Rattle.sqlite.specs.Term.{Term, lit, col}
-use Rattle.sqlite.specs.Tree.{Trees, put_row}
-use Rattle.sqlite.specs.Schema.{Schema}
-use Rattle.sqlite.specs.Source.TheVariants.{Values}
-use Rattle.sqlite.specs.Command.TheVariants.{Insert, Delete}
-use Rattle.sqlite.specs.Edit.{edit_of, edited, next_rowid}
-use Rattle.sqlite.specs.Rowids.TheVariants.{Chosen}
-use Rattle.sqlite.specs.Effect.{value_rows}
-use Rattle.sqlite.specs.Rows.{stamped}
-use Rattle.sqlite_value.specs.declared.keys.Key.{Key}
-use Rattle.sqlite_value.proofs.OrderLemmas.{then-Equal}
+use Rattle.store_statements.proofs.Common.{◌≡◌, ℕ, List, [], ◌∷◌, ◌++◌, codes, not, refl, ap, ◌∙◌, filter, length, Null}
+use Rattle.store_statements.proofs.Common.{Int, Text, Row, Term, lit, col, Trees, put_row, Schema, Values, Insert}
+use Rattle.store_statements.proofs.Common.{Delete, edit_of, edited, next_rowid, Chosen, value_rows, stamped, Key}
+use Rattle.store_statements.proofs.Common.{then-Equal, IsPlain, command_of, IsCurrentSchema, values, IsSelected}
+use Rattle.store_statements.proofs.Common.{cast_null, column_is, appends, makes, removes, InEach, in_each, query}
+use Rattle.store_statements.proofs.Common.{ascending, IsSelect, Means, finds_now}
 use Rattle.sqlite_tied.specs.Compute.{everything}
 use Rattle.sqlite.specs.Listing.{understood}
-use Rattle.sqlite.proofs.Callers.{IsPlain, command_of}
-use Rattle.store_tables.specs.Schema.{IsCurrentSchema, analyzed_schema, office_schema}
-use Rattle.store_tables.specs.Tables.{values}
-use Rattle.store_tables.specs.Selected.{IsSelected}
-use Rattle.store_tables.proofs.Columns.{cast_null, column_is}
-use Rattle.store_tables.proofs.Changing.{appends, makes, removes}
-use Rattle.store_tables.proofs.Current.{InEach, in_each}
+use Rattle.store_tables.specs.Schema.{analyzed_schema, office_schema}
 use Rattle.store_tables.proofs.TableIndices.{approval, approval_there, approval_only}
-use Rattle.store_tables.proofs.Selecting.{query}
-use Rattle.store_tables.proofs.Finding.{ascending, IsSelect, Means, finds_now}
 use Rattle.store_statements.specs.Rows.{approval_row, has_two_texts, is_of_net}
 use Rattle.store_statements.specs.Shown.{approvals_order, approvals_shown}
 use Rattle.store_statements.proofs.Requested.{net_requested, one_test, texts_requested, two_tests}
@@ -55,7 +38,7 @@ put net team db = rw cast_null refl
 
 pub inserts : (net : List ℕ) (team : List ℕ) → Runs insert_text (approval_row net team)
     (λ t. record t { approval = t.approval ++ approval_row net team ∷ [] }) (λ t. 1)
-unfolding office_schema
+unfolding office_schema Runs
 inserts net team old new r office ended ran =
     makes insert_text (approval_row net team) _ 1 old new r
     (appends 6 approval approval_there approval_only insert_text (approval_row net team) insert_terms 3 insert_is
@@ -78,7 +61,7 @@ delete_approval_plain = record { usual = (refl, refl); analyzed = (refl, refl) }
 pub delete_approvals : (net : List ℕ) (team : List ℕ) → Runs delete_approval_text (Text net ∷ Text team ∷ [])
     (λ t. record t { approval = filter (λ row. not (has_two_texts net team row)) t.approval })
     (λ t. length (filter (has_two_texts net team) t.approval))
-unfolding office_schema
+unfolding office_schema Runs
 delete_approvals net team old new r office ended ran =
     makes delete_approval_text (Text net ∷ Text team ∷ []) _ _ old new r
     (removes 6 approval approval_there approval_only delete_approval_text (Text net ∷ Text team ∷ []) two_tests
@@ -102,7 +85,7 @@ delete_approvals_plain = record { usual = (refl, refl); analyzed = (refl, refl) 
 pub delete_approvalss : (net : List ℕ) → Runs delete_approvals_text (Text net ∷ [])
     (λ t. record t { approval = filter (λ row. not (is_of_net net row)) t.approval })
     (λ t. length (filter (is_of_net net) t.approval))
-unfolding office_schema
+unfolding office_schema Runs
 delete_approvalss net old new r office ended ran =
     makes delete_approvals_text (Text net ∷ []) _ _ old new r
     (removes 6 approval approval_there approval_only delete_approvals_text (Text net ∷ []) one_test
@@ -138,6 +121,7 @@ approvals_means net = record {
 
 pub approvals_found : {X : Type 0} (rows_of : X → List Row) (net : List ℕ) → Queries rows_of approvals_text
     (Text net ∷ []) (λ t rows. IsSelected (is_of_net net) approvals_shown approvals_order t.approval rows)
+unfolding Queries
 approvals_found rows_of net = finds_now approvals_text 11 one_test approvals_columns approvals_by _
     (Text net ∷ []) (approvals_selects (Text net ∷ [])) values (is_of_net net) approvals_shown approvals_order
     (approvals_means net) rows_of

@@ -1,32 +1,15 @@
 -- What the texts on `block` make of it, and show of it.
-use Rattle.std.proofs.Common.{◌≡◌, ℕ, pos, List, [], ◌∷◌, ◌++◌, codes, not, refl, ap, ◌∙◌}
-use Rattle.std.specs.Prelude.{filter, length}
-use Rattle.std.specs.Ordering.{ordering_then}
-use Rattle.sqlite.specs.declared.types.Value.TheVariants.{Null, Int, Text}
-use Rattle.sqlite.specs.Order.{Row, column, value_cmp}
-use Rattle.sqlite.specs.Term.{Term, lit, col}
-use Rattle.sqlite.specs.Tree.{Trees, put_row}
-use Rattle.sqlite.specs.Schema.{Schema}
-use Rattle.sqlite.specs.Source.TheVariants.{Values}
-use Rattle.sqlite.specs.Command.TheVariants.{Insert, Delete}
-use Rattle.sqlite.specs.Edit.{edit_of, edited, next_rowid}
-use Rattle.sqlite.specs.Rowids.TheVariants.{Chosen}
-use Rattle.sqlite.specs.Effect.{value_rows}
-use Rattle.sqlite.specs.Rows.{stamped}
-use Rattle.sqlite_value.specs.declared.keys.Key.{Key}
-use Rattle.sqlite_value.proofs.OrderLemmas.{then-Equal}
+use Rattle.store_statements.proofs.Common.{◌≡◌, ℕ, pos, List, [], ◌∷◌, ◌++◌, codes, not, refl, ap, ◌∙◌, filter, length}
+use Rattle.store_statements.proofs.Common.{ordering_then, Null, Int, Text, Row, column, value_cmp, Term, lit, col}
+use Rattle.store_statements.proofs.Common.{Trees, put_row, Schema, Values, Insert, Delete, edit_of, edited, next_rowid}
+use Rattle.store_statements.proofs.Common.{Chosen, value_rows, stamped, Key, then-Equal, IsPlain, command_of}
+use Rattle.store_statements.proofs.Common.{IsCurrentSchema, values, IsSelected, cast_null, cast_number, column_is}
+use Rattle.store_statements.proofs.Common.{appends, makes, removes, InEach, in_each, query, ascending, IsSelect, Means}
+use Rattle.store_statements.proofs.Common.{finds_now}
 use Rattle.sqlite_tied.specs.Compute.{everything}
 use Rattle.sqlite.specs.Listing.{understood}
-use Rattle.sqlite.proofs.Callers.{IsPlain, command_of}
-use Rattle.store_tables.specs.Schema.{IsCurrentSchema, analyzed_schema, office_schema}
-use Rattle.store_tables.specs.Tables.{values}
-use Rattle.store_tables.specs.Selected.{IsSelected}
-use Rattle.store_tables.proofs.Columns.{cast_null, cast_number, column_is}
-use Rattle.store_tables.proofs.Changing.{appends, makes, removes}
-use Rattle.store_tables.proofs.Current.{InEach, in_each}
+use Rattle.store_tables.specs.Schema.{analyzed_schema, office_schema}
 use Rattle.store_tables.proofs.TableIndices.{block, block_there, block_only}
-use Rattle.store_tables.proofs.Selecting.{query}
-use Rattle.store_tables.proofs.Finding.{ascending, IsSelect, Means, finds_now}
 use Rattle.store_statements.specs.declared.row.BlockRow.{BlockRow}
 use Rattle.store_statements.specs.Rows.{block_row, is_block, is_of_form, is_of_net}
 use Rattle.store_statements.specs.Shown.{blocks_of_form_order, blocks_of_form_shown, blocks_order, blocks_shown}
@@ -57,7 +40,7 @@ put row db = rw (cast_null, cast_number row.form, cast_number row.first, cast_nu
 
 pub inserts : (row : BlockRow) → Runs insert_text (block_row row)
     (λ t. record t { block = t.block ++ block_row row ∷ [] }) (λ t. 1)
-unfolding office_schema
+unfolding office_schema Runs
 inserts row old new r office ended ran =
     makes insert_text (block_row row) _ 1 old new r
     (appends 3 block block_there block_only insert_text (block_row row) insert_terms 6 insert_is insert_plain
@@ -81,7 +64,7 @@ pub delete_blocks : (net : List ℕ) (form : ℕ) (first : ℕ) → Runs delete_
     (Text net ∷ Int (pos form) ∷ Int (pos first) ∷ [])
     (λ t. record t { block = filter (λ row. not (is_block net form first row)) t.block })
     (λ t. length (filter (is_block net form first) t.block))
-unfolding office_schema
+unfolding office_schema Runs
 delete_blocks net form first old new r office ended ran =
     makes delete_block_text (Text net ∷ Int (pos form) ∷ Int (pos first) ∷ []) _ _ old new r
     (removes 3 block block_there block_only delete_block_text (Text net ∷ Int (pos form) ∷ Int (pos first) ∷ [])
@@ -118,6 +101,7 @@ blocks_means net = record {
 
 pub blocks_found : {X : Type 0} (rows_of : X → List Row) (net : List ℕ) → Queries rows_of blocks_text (Text net ∷ [])
     (λ t rows. IsSelected (is_of_net net) blocks_shown blocks_order t.block rows)
+unfolding Queries
 blocks_found rows_of net = finds_now blocks_text 6 one_test blocks_columns blocks_by _ (Text net ∷ [])
     (blocks_selects (Text net ∷ [])) values (is_of_net net) blocks_shown blocks_order (blocks_means net) rows_of
 
@@ -156,6 +140,7 @@ blocks_of_form_means form = record {
 pub blocks_of_form_found : {X : Type 0} (rows_of : X → List Row) (form : ℕ) → Queries rows_of blocks_of_form_text
     (Int (pos form) ∷ [])
     (λ t rows. IsSelected (is_of_form form) blocks_of_form_shown blocks_of_form_order t.block rows)
+unfolding Queries
 blocks_of_form_found rows_of form = finds_now blocks_of_form_text 6 form_test blocks_of_form_columns
     blocks_of_form_by _ (Int (pos form) ∷ []) (blocks_of_form_selects (Int (pos form) ∷ [])) values (is_of_form form)
     blocks_of_form_shown blocks_of_form_order (blocks_of_form_means form) rows_of

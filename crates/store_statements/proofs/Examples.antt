@@ -1,8 +1,7 @@
 -- Worked examples, computed from the definitions.
-use Rattle.std.proofs.Common.{◌≡◌, [], ◌∷◌, pos, negsuc, filter, map, not, codes, true, false, refl}
+use Rattle.store_statements.proofs.Common.{◌≡◌, [], ◌∷◌, pos, not, codes, false, refl, Null, Int, Text, put_row}
+use Rattle.std.proofs.Common.{negsuc, filter, map, true}
 use Rattle.std.specs.declared.cmp.Ordering.TheVariants.{Less, Greater}
-use Rattle.sqlite.specs.declared.types.Value.TheVariants.{Null, Int, Text}
-use Rattle.sqlite.specs.Tree.{put_row}
 use Rattle.sqlite_value.specs.Order.{value_cmp}
 use lib.Ieee
 use Rattle.store_statements.specs.Rows.{approval_row, held_row, spn_row, is_of_net, has_name_of, has_net_and_number}

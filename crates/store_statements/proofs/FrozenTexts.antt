@@ -1,29 +1,14 @@
 -- What the texts on `frozen` make of it, and show of it.
-use Rattle.std.proofs.Common.{◌≡◌, ℕ, pos, List, [], ◌∷◌, ◌++◌, codes, refl, ap, ◌∙◌}
-use Rattle.sqlite.specs.declared.types.Value.TheVariants.{Null, Int, Text}
-use Rattle.sqlite.specs.Order.{Row}
-use Rattle.sqlite.specs.Term.{Term, lit, col}
-use Rattle.sqlite.specs.Tree.{Trees, put_row}
-use Rattle.sqlite.specs.Schema.{Schema}
-use Rattle.sqlite.specs.Source.TheVariants.{Values}
-use Rattle.sqlite.specs.Command.TheVariants.{Insert}
-use Rattle.sqlite.specs.Edit.{edit_of, edited, next_rowid}
-use Rattle.sqlite.specs.Rowids.TheVariants.{Chosen}
-use Rattle.sqlite.specs.Effect.{value_rows}
-use Rattle.sqlite.specs.Rows.{stamped}
-use Rattle.sqlite_value.specs.declared.keys.Key.{Key}
-use Rattle.sqlite_value.proofs.OrderLemmas.{then-Equal}
+use Rattle.store_statements.proofs.Common.{◌≡◌, ℕ, pos, List, [], ◌∷◌, ◌++◌, codes, refl, ap, ◌∙◌, Null, Int, Text, Row}
+use Rattle.store_statements.proofs.Common.{Term, lit, col, Trees, put_row, Schema, Values, Insert, edit_of, edited}
+use Rattle.store_statements.proofs.Common.{next_rowid, Chosen, value_rows, stamped, Key, then-Equal, IsPlain}
+use Rattle.store_statements.proofs.Common.{command_of, IsCurrentSchema, values, IsSelected, cast_null, cast_number}
+use Rattle.store_statements.proofs.Common.{column_is, appends, makes, InEach, in_each, ascending, IsSelect, Means}
+use Rattle.store_statements.proofs.Common.{finds_now}
 use Rattle.sqlite_tied.specs.Compute.{everything}
 use Rattle.sqlite.specs.Listing.{understood}
-use Rattle.sqlite.proofs.Callers.{IsPlain, command_of}
-use Rattle.store_tables.specs.Schema.{IsCurrentSchema, analyzed_schema, office_schema}
-use Rattle.store_tables.specs.Tables.{values}
-use Rattle.store_tables.specs.Selected.{IsSelected}
-use Rattle.store_tables.proofs.Columns.{cast_null, cast_number, column_is}
-use Rattle.store_tables.proofs.Changing.{appends, makes}
-use Rattle.store_tables.proofs.Current.{InEach, in_each}
+use Rattle.store_tables.specs.Schema.{analyzed_schema, office_schema}
 use Rattle.store_tables.proofs.TableIndices.{frozen, frozen_there, frozen_only}
-use Rattle.store_tables.proofs.Finding.{ascending, IsSelect, Means, finds_now}
 use Rattle.store_statements.specs.declared.row.FrozenRow.{FrozenRow}
 use Rattle.store_statements.specs.Rows.{frozen_row, has_net_and_number, is_of_net}
 use Rattle.store_statements.specs.Shown.{release_numbers_order, release_numbers_shown, release_order, release_shown}
@@ -54,7 +39,7 @@ put row db = rw (cast_null, cast_number row.number) refl
 
 pub inserts : (row : FrozenRow) → Runs insert_text (frozen_row row)
     (λ t. record t { frozen = t.frozen ++ frozen_row row ∷ [] }) (λ t. 1)
-unfolding office_schema
+unfolding office_schema Runs
 inserts row old new r office ended ran =
     makes insert_text (frozen_row row) _ 1 old new r
     (appends 7 frozen frozen_there frozen_only insert_text (frozen_row row) insert_terms 4 insert_is insert_plain
@@ -89,6 +74,7 @@ releases_means net = record {
 
 pub releases_found : {X : Type 0} (rows_of : X → List Row) (net : List ℕ) → Queries rows_of releases_text
     (Text net ∷ []) (λ t rows. IsSelected (is_of_net net) releases_shown releases_order t.frozen rows)
+unfolding Queries
 releases_found rows_of net = finds_now releases_text 13 one_test releases_columns releases_by _
     (Text net ∷ []) (releases_selects (Text net ∷ [])) values (is_of_net net) releases_shown releases_order
     (releases_means net) rows_of
@@ -127,6 +113,7 @@ release_numbers_means net = record {
 
 pub release_numbers_found : {X : Type 0} (rows_of : X → List Row) (net : List ℕ) → Queries rows_of release_numbers_text
     (Text net ∷ []) (λ t rows. IsSelected (is_of_net net) release_numbers_shown release_numbers_order t.frozen rows)
+unfolding Queries
 release_numbers_found rows_of net = finds_now release_numbers_text 13 one_test release_numbers_columns
     release_numbers_by _ (Text net ∷ []) (release_numbers_selects (Text net ∷ [])) values (is_of_net net)
     release_numbers_shown release_numbers_order (release_numbers_means net) rows_of
@@ -165,6 +152,7 @@ release_means net number = record {
 pub release_found : {X : Type 0} (rows_of : X → List Row) (net : List ℕ) (number : ℕ) → Queries rows_of release_text
     (Text net ∷ Int (pos number) ∷ [])
     (λ t rows. IsSelected (has_net_and_number net number) release_shown release_order t.frozen rows)
+unfolding Queries
 release_found rows_of net number = finds_now release_text 13 two_tests release_columns release_by _
     (Text net ∷ Int (pos number) ∷ []) (release_selects (Text net ∷ Int (pos number) ∷ [])) values
     (has_net_and_number net number) release_shown release_order (release_means net number) rows_of

@@ -1,31 +1,14 @@
 -- What the texts on `held` make of it, and show of it.
-use Rattle.std.proofs.Common.{◌≡◌, ℕ, pos, List, [], ◌∷◌, ◌++◌, codes, not, refl, ap, ◌∙◌}
-use Rattle.std.specs.Prelude.{filter, length}
-use Rattle.sqlite.specs.declared.types.Value.TheVariants.{Null, Int, Text}
-use Rattle.sqlite.specs.Order.{Row}
-use Rattle.sqlite.specs.Term.{Term, lit, col}
-use Rattle.sqlite.specs.Tree.{Trees, put_row}
-use Rattle.sqlite.specs.Schema.{Schema}
-use Rattle.sqlite.specs.Source.TheVariants.{Values}
-use Rattle.sqlite.specs.Command.TheVariants.{Insert, Delete}
-use Rattle.sqlite.specs.Edit.{edit_of, edited, next_rowid}
-use Rattle.sqlite.specs.Rowids.TheVariants.{Chosen}
-use Rattle.sqlite.specs.Effect.{value_rows}
-use Rattle.sqlite.specs.Rows.{stamped}
-use Rattle.sqlite_value.specs.declared.keys.Key.{Key}
-use Rattle.sqlite_value.proofs.OrderLemmas.{then-Equal}
+use Rattle.store_statements.proofs.Common.{◌≡◌, ℕ, pos, List, [], ◌∷◌, ◌++◌, codes, not, refl, ap, ◌∙◌, filter, length}
+use Rattle.store_statements.proofs.Common.{Null, Int, Text, Row, Term, lit, col, Trees, put_row, Schema, Values, Insert}
+use Rattle.store_statements.proofs.Common.{Delete, edit_of, edited, next_rowid, Chosen, value_rows, stamped, Key}
+use Rattle.store_statements.proofs.Common.{then-Equal, IsPlain, command_of, IsCurrentSchema, values, IsSelected}
+use Rattle.store_statements.proofs.Common.{cast_null, cast_number, column_is, appends, makes, removes, InEach, in_each}
+use Rattle.store_statements.proofs.Common.{query, ascending, IsSelect, Means, finds_now}
 use Rattle.sqlite_tied.specs.Compute.{everything}
 use Rattle.sqlite.specs.Listing.{understood}
-use Rattle.sqlite.proofs.Callers.{IsPlain, command_of}
-use Rattle.store_tables.specs.Schema.{IsCurrentSchema, analyzed_schema, office_schema}
-use Rattle.store_tables.specs.Tables.{values}
-use Rattle.store_tables.specs.Selected.{IsSelected}
-use Rattle.store_tables.proofs.Columns.{cast_null, cast_number, column_is}
-use Rattle.store_tables.proofs.Changing.{appends, makes, removes}
-use Rattle.store_tables.proofs.Current.{InEach, in_each}
+use Rattle.store_tables.specs.Schema.{analyzed_schema, office_schema}
 use Rattle.store_tables.proofs.TableIndices.{held, held_there, held_only}
-use Rattle.store_tables.proofs.Selecting.{query}
-use Rattle.store_tables.proofs.Finding.{ascending, IsSelect, Means, finds_now}
 use Rattle.store_statements.specs.Rows.{has_net_and_number, has_number_between, held_row, is_of_net}
 use Rattle.store_statements.specs.Shown.{held_order, held_shown}
 use Rattle.store_statements.proofs.Requested.{net_requested, numbered_requested, one_test, range_requested, range_tests}
@@ -55,7 +38,7 @@ put net number db = rw (cast_null, cast_number number) refl
 
 pub inserts : (net : List ℕ) (number : ℕ) → Runs insert_text (held_row net number)
     (λ t. record t { held = t.held ++ held_row net number ∷ [] }) (λ t. 1)
-unfolding office_schema
+unfolding office_schema Runs
 inserts net number old new r office ended ran =
     makes insert_text (held_row net number) _ 1 old new r
     (appends 4 held held_there held_only insert_text (held_row net number) insert_terms 3 insert_is insert_plain
@@ -78,7 +61,7 @@ delete_held_plain = record { usual = (refl, refl); analyzed = (refl, refl) }
 pub delete_helds : (net : List ℕ) (number : ℕ) → Runs delete_held_text (Text net ∷ Int (pos number) ∷ [])
     (λ t. record t { held = filter (λ row. not (has_net_and_number net number row)) t.held })
     (λ t. length (filter (has_net_and_number net number) t.held))
-unfolding office_schema
+unfolding office_schema Runs
 delete_helds net number old new r office ended ran =
     makes delete_held_text (Text net ∷ Int (pos number) ∷ []) _ _ old new r
     (removes 4 held held_there held_only delete_held_text (Text net ∷ Int (pos number) ∷ []) two_tests
@@ -114,6 +97,7 @@ held_means net = record {
 
 pub held_found : {X : Type 0} (rows_of : X → List Row) (net : List ℕ) → Queries rows_of held_text (Text net ∷ [])
     (λ t rows. IsSelected (is_of_net net) held_shown held_order t.held rows)
+unfolding Queries
 held_found rows_of net = finds_now held_text 8 one_test held_columns held_by _ (Text net ∷ [])
     (held_selects (Text net ∷ [])) values (is_of_net net) held_shown held_order (held_means net) rows_of
 
@@ -145,6 +129,7 @@ held_numbers_means net first last = record {
 pub held_numbers_found : {X : Type 0} (rows_of : X → List Row) (net : List ℕ) (first last : ℕ) → Queries rows_of
     held_numbers_text (Text net ∷ Int (pos first) ∷ Int (pos last) ∷ [])
     (λ t rows. IsSelected (has_number_between net first last) held_shown held_order t.held rows)
+unfolding Queries
 held_numbers_found rows_of net first last = finds_now held_numbers_text 8 range_tests held_columns held_by _
     (Text net ∷ Int (pos first) ∷ Int (pos last) ∷ [])
     (held_numbers_selects (Text net ∷ Int (pos first) ∷ Int (pos last) ∷ [])) values (has_number_between net first last)

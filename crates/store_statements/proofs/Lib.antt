@@ -1,3 +1,4 @@
+pub mod Common
 mod Requested
 mod Texts
 mod Examples

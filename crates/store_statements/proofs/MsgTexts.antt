@@ -1,33 +1,16 @@
 -- What the texts on `msg` make of it, and show of it.
-use Rattle.std.proofs.Common.{◌≡◌, ℕ, pos, List, [], ◌∷◌, ◌++◌, codes, not, Result, refl, ◌∙◌}
-use Rattle.std.specs.Prelude.{IfOk, filter, length, min}
-use Rattle.sqlite.specs.declared.types.Value.TheVariants.{Null, Int, Text}
-use Rattle.sqlite.specs.declared.error.Error.{Error}
-use Rattle.sqlite.specs.Order.{Row}
-use Rattle.sqlite.specs.Term.{Term, lit, col}
-use Rattle.sqlite.specs.Tree.{Trees, put_row}
-use Rattle.sqlite.specs.Schema.{Schema}
-use Rattle.sqlite.specs.Source.TheVariants.{Values}
-use Rattle.sqlite.specs.Command.TheVariants.{Insert, Delete}
-use Rattle.sqlite.specs.Edit.{edit_of, edited, next_rowid}
-use Rattle.sqlite.specs.Rowids.TheVariants.{Chosen}
-use Rattle.sqlite.specs.Effect.{value_rows}
-use Rattle.sqlite.specs.Rows.{stamped}
-use Rattle.sqlite_value.specs.declared.keys.Key.{Key}
-use Rattle.sqlite_value.proofs.OrderLemmas.{then-Equal}
+use Rattle.store_statements.proofs.Common.{◌≡◌, ℕ, pos, List, [], ◌∷◌, ◌++◌, codes, not, Result, refl, ◌∙◌, IfOk}
+use Rattle.store_statements.proofs.Common.{filter, length, Null, Int, Text, Error, Row, Term, lit, col, Trees, put_row}
+use Rattle.store_statements.proofs.Common.{Schema, Values, Insert, Delete, edit_of, edited, next_rowid, Chosen}
+use Rattle.store_statements.proofs.Common.{value_rows, stamped, Key, then-Equal, State, Shown, IsPlain, command_of}
+use Rattle.store_statements.proofs.Common.{IsCurrentSchema, values, IsSelected, cast_null, cast_number, column_is}
+use Rattle.store_statements.proofs.Common.{appends, makes, removes, InEach, in_each, query, ascending, IsSelect, Means}
+use Rattle.store_statements.proofs.Common.{finds_now, IsCountSelect, counts, count}
+use Rattle.std.specs.Prelude.{min}
 use Rattle.sqlite_tied.specs.Compute.{everything}
 use Rattle.sqlite.specs.Listing.{understood}
-use Rattle.sqlite.specs.State.{State, Shown}
-use Rattle.sqlite.proofs.Callers.{IsPlain, command_of}
-use Rattle.store_tables.specs.Schema.{IsCurrentSchema, analyzed_schema, office_schema}
-use Rattle.store_tables.specs.Tables.{values}
-use Rattle.store_tables.specs.Selected.{IsSelected}
-use Rattle.store_tables.proofs.Columns.{cast_null, cast_number, column_is}
-use Rattle.store_tables.proofs.Changing.{appends, makes, removes}
-use Rattle.store_tables.proofs.Current.{InEach, in_each}
+use Rattle.store_tables.specs.Schema.{analyzed_schema, office_schema}
 use Rattle.store_tables.proofs.TableIndices.{msg, msg_there, msg_only}
-use Rattle.store_tables.proofs.Selecting.{query}
-use Rattle.store_tables.proofs.Finding.{ascending, IsSelect, Means, finds_now}
 use Rattle.store_statements.specs.declared.row.LiveRow.{LiveRow}
 use Rattle.store_statements.specs.Rows.{has_net_and_name, has_net_and_number, has_number_between, has_rowid_above}
 use Rattle.store_statements.specs.Rows.{has_rowid_below, is_of_net, msg_row}
@@ -36,8 +19,7 @@ use Rattle.store_statements.specs.Shown.{msg_named_shown, msgs_shown}
 use Rattle.store_statements.proofs.Requested.{above_requested, above_test, below_requested, below_test, named_requested}
 use Rattle.store_statements.proofs.Requested.{net_requested, numbered_requested, name_tests, one_test, two_tests}
 use Rattle.store_statements.proofs.Requested.{range_requested, range_tests}
-use Rattle.store_tables.proofs.Counting.{IsCountSelect, IsAnySelect, counts, shows_any}
-use Rattle.sqlite_sql.specs.Aggregate.{count}
+use Rattle.store_tables.proofs.Counting.{IsAnySelect, shows_any}
 use Rattle.store_statements.proofs.Texts.{Queries, Runs}
 
 -- ---- insert_msg
@@ -63,7 +45,7 @@ put row db = rw (cast_null, cast_number row.number, cast_number row.length) refl
 
 pub inserts : (row : LiveRow) → Runs insert_text (msg_row row) (λ t. record t { msg = t.msg ++ msg_row row ∷ [] })
     (λ t. 1)
-unfolding office_schema
+unfolding office_schema Runs
 inserts row old new r office ended ran =
     makes insert_text (msg_row row) _ 1 old new r
     (appends 9 msg msg_there msg_only insert_text (msg_row row) insert_terms 8 insert_is insert_plain (msg_row row) refl
@@ -86,7 +68,7 @@ delete_plain = record { usual = (refl, refl); analyzed = (refl, refl) }
 pub deletes : (net : List ℕ) (number : ℕ) → Runs delete_text (Text net ∷ Int (pos number) ∷ [])
     (λ t. record t { msg = filter (λ row. not (has_net_and_number net number row)) t.msg })
     (λ t. length (filter (has_net_and_number net number) t.msg))
-unfolding office_schema
+unfolding office_schema Runs
 deletes net number old new r office ended ran =
     makes delete_text (Text net ∷ Int (pos number) ∷ []) _ _ old new r
     (removes 9 msg msg_there msg_only delete_text (Text net ∷ Int (pos number) ∷ []) two_tests
@@ -124,6 +106,7 @@ msg_named_means net name = record {
 pub msg_named_found : {X : Type 0} (rows_of : X → List Row) (net : List ℕ) (name : List ℕ) → Queries rows_of
     msg_named_text (Text net ∷ Text name ∷ [])
     (λ t rows. IsSelected (has_net_and_name net name) msg_named_shown msg_named_order t.msg rows)
+unfolding Queries
 msg_named_found rows_of net name = finds_now msg_named_text 17 name_tests msg_named_columns msg_named_by _
     (Text net ∷ Text name ∷ []) (msg_named_selects (Text net ∷ Text name ∷ [])) values (has_net_and_name net name)
     msg_named_shown msg_named_order (msg_named_means net name) rows_of
@@ -161,6 +144,7 @@ msgs_means net = record {
 
 pub msgs_found : {X : Type 0} (rows_of : X → List Row) (net : List ℕ) → Queries rows_of msgs_text (Text net ∷ [])
     (λ t rows. IsSelected (is_of_net net) msgs_shown msgs_order t.msg rows)
+unfolding Queries
 msgs_found rows_of net = finds_now msgs_text 17 one_test msgs_columns msgs_by _ (Text net ∷ [])
     (msgs_selects (Text net ∷ [])) values (is_of_net net) msgs_shown msgs_order (msgs_means net) rows_of
 
@@ -181,6 +165,7 @@ count_selects params = record {
 
 pub counted_msgs : {X : Type 0} (rows_of : X → List Row) (net : List ℕ) → Queries rows_of count_text (Text net ∷ [])
     (λ t rows. rows ≡ (count (length (filter (is_of_net net) t.msg)) ∷ []) ∷ [])
+unfolding Queries
 counted_msgs rows_of net = counts count_text 17 one_test (Text net ∷ []) (count_selects (Text net ∷ [])) (is_of_net net)
     (net_requested net) rows_of
 
@@ -260,6 +245,7 @@ msg_numbers_means net first last = record {
 pub msg_numbers_found : {X : Type 0} (rows_of : X → List Row) (net : List ℕ) (first last : ℕ) → Queries rows_of
     msg_numbers_text (Text net ∷ Int (pos first) ∷ Int (pos last) ∷ [])
     (λ t rows. IsSelected (has_number_between net first last) msg_numbers_shown msg_numbers_order t.msg rows)
+unfolding Queries
 msg_numbers_found rows_of net first last =
     finds_now msg_numbers_text 17 range_tests (col 1 2 ∷ []) ((col 1 2, ascending) ∷ []) _
     (Text net ∷ Int (pos first) ∷ Int (pos last) ∷ [])

@@ -1,31 +1,14 @@
 -- What the texts on `net` make of it, and show of it.
-use Rattle.std.proofs.Common.{◌≡◌, ℕ, List, [], ◌∷◌, ◌++◌, codes, not, refl, ap, ◌∙◌}
-use Rattle.std.specs.Prelude.{filter, length}
-use Rattle.sqlite.specs.declared.types.Value.TheVariants.{Null, Int, Text}
-use Rattle.sqlite.specs.Order.{Row}
-use Rattle.sqlite.specs.Term.{Term, lit, col}
-use Rattle.sqlite.specs.Tree.{Trees, put_row}
-use Rattle.sqlite.specs.Schema.{Schema}
-use Rattle.sqlite.specs.Source.TheVariants.{Values}
-use Rattle.sqlite.specs.Command.TheVariants.{Insert, Delete}
-use Rattle.sqlite.specs.Edit.{edit_of, edited, next_rowid}
-use Rattle.sqlite.specs.Rowids.TheVariants.{Chosen}
-use Rattle.sqlite.specs.Effect.{value_rows}
-use Rattle.sqlite.specs.Rows.{stamped}
-use Rattle.sqlite_value.specs.declared.keys.Key.{Key}
-use Rattle.sqlite_value.proofs.OrderLemmas.{then-Equal}
+use Rattle.store_statements.proofs.Common.{◌≡◌, ℕ, List, [], ◌∷◌, ◌++◌, codes, not, refl, ap, ◌∙◌, filter, length, Null}
+use Rattle.store_statements.proofs.Common.{Int, Text, Row, Term, lit, col, Trees, put_row, Schema, Values, Insert}
+use Rattle.store_statements.proofs.Common.{Delete, edit_of, edited, next_rowid, Chosen, value_rows, stamped, Key}
+use Rattle.store_statements.proofs.Common.{then-Equal, IsPlain, command_of, IsCurrentSchema, values, IsSelected}
+use Rattle.store_statements.proofs.Common.{cast_null, cast_number, column_is, appends, makes, removes, InEach, in_each}
+use Rattle.store_statements.proofs.Common.{query, ascending, IsSelect, Means, finds_now}
 use Rattle.sqlite_tied.specs.Compute.{everything}
 use Rattle.sqlite.specs.Listing.{understood}
-use Rattle.sqlite.proofs.Callers.{IsPlain, command_of}
-use Rattle.store_tables.specs.Schema.{IsCurrentSchema, analyzed_schema, office_schema}
-use Rattle.store_tables.specs.Tables.{values}
-use Rattle.store_tables.specs.Selected.{IsSelected}
-use Rattle.store_tables.proofs.Columns.{cast_null, cast_number, column_is}
-use Rattle.store_tables.proofs.Changing.{appends, makes, removes}
-use Rattle.store_tables.proofs.Current.{InEach, in_each}
+use Rattle.store_tables.specs.Schema.{analyzed_schema, office_schema}
 use Rattle.store_tables.proofs.TableIndices.{net, net_there, net_only}
-use Rattle.store_tables.proofs.Selecting.{query}
-use Rattle.store_tables.proofs.Finding.{ascending, IsSelect, Means, finds_now}
 use Rattle.store_statements.specs.declared.row.NetRow.{NetRow}
 use Rattle.store_statements.specs.Rows.{is_any, is_of_net, net_row}
 use Rattle.store_statements.specs.Shown.{net_names_order, net_names_shown, net_order, net_shown}
@@ -55,7 +38,7 @@ put row db = rw (cast_null, cast_number row.kind, cast_number row.reviews, cast_
 
 pub inserts : (row : NetRow) → Runs insert_text (net_row row) (λ t. record t { net = t.net ++ net_row row ∷ [] })
     (λ t. 1)
-unfolding office_schema
+unfolding office_schema Runs
 inserts row old new r office ended ran =
     makes insert_text (net_row row) _ 1 old new r
     (appends 1 net net_there net_only insert_text (net_row row) insert_terms 7 insert_is insert_plain (net_row row) refl
@@ -78,7 +61,7 @@ delete_net_plain = record { usual = (refl, refl); analyzed = (refl, refl) }
 pub delete_nets : (name : List ℕ) → Runs delete_net_text (Text name ∷ [])
     (λ t. record t { net = filter (λ row. not (is_of_net name row)) t.net })
     (λ t. length (filter (is_of_net name) t.net))
-unfolding office_schema
+unfolding office_schema Runs
 delete_nets name old new r office ended ran =
     makes delete_net_text (Text name ∷ []) _ _ old new r
     (removes 1 net net_there net_only delete_net_text (Text name ∷ []) one_test (delete_net_is (Text name ∷ []))
@@ -112,6 +95,7 @@ net_names_means = record {
 
 pub net_names_found : {X : Type 0} (rows_of : X → List Row) → Queries rows_of net_names_text []
     (λ t rows. IsSelected is_any net_names_shown net_names_order t.net rows)
+unfolding Queries
 net_names_found rows_of = finds_now net_names_text 1 [] net_names_columns net_names_by _ []
     (net_names_selects []) values is_any net_names_shown net_names_order net_names_means rows_of
 
@@ -148,6 +132,7 @@ net_means name = record {
 
 pub net_found : {X : Type 0} (rows_of : X → List Row) (name : List ℕ) → Queries rows_of net_text (Text name ∷ [])
     (λ t rows. IsSelected (is_of_net name) net_shown net_order t.net rows)
+unfolding Queries
 net_found rows_of name = finds_now net_text 1 one_test net_columns net_by _ (Text name ∷ [])
     (net_selects (Text name ∷ [])) values (is_of_net name) net_shown net_order (net_means name) rows_of
 

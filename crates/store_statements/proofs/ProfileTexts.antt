@@ -1,34 +1,17 @@
 -- What the texts on `profile` make of it, and show of it.
-use Rattle.std.proofs.Common.{◌≡◌, ◌∙◌, inl, inr, ℕ, pos, List, [], ◌∷◌, codes, Ok, Result, refl, sym, ap}
-use Rattle.std.proofs.Common.{subst}
-use Rattle.std.specs.Prelude.{IfOk, length}
-use Rattle.sqlite.specs.declared.types.Value.TheVariants.{Null, Int}
-use Rattle.sqlite.specs.declared.error.Error.{Error}
-use Rattle.sqlite.specs.Order.{Row}
-use Rattle.sqlite.specs.Term.{Term, lit, col}
-use Rattle.sqlite.specs.Tree.{Trees, put_row}
-use Rattle.sqlite.specs.Schema.{Schema}
-use Rattle.sqlite.specs.Source.TheVariants.{Values}
-use Rattle.sqlite.specs.Command.TheVariants.{Insert, Delete}
-use Rattle.sqlite.specs.Edit.{edit_of, edited}
-use Rattle.sqlite.specs.Rowids.TheVariants.{Chosen}
-use Rattle.sqlite.specs.Effect.{value_rows}
-use Rattle.sqlite.specs.Rows.{stamped}
-use Rattle.sqlite_value.specs.declared.keys.Key.{Key}
-use Rattle.sqlite_value.proofs.OrderLemmas.{then-Equal}
+use Rattle.store_statements.proofs.Common.{◌≡◌, ◌∙◌, ℕ, pos, List, [], ◌∷◌, codes, Ok, Result, refl, sym, ap, IfOk}
+use Rattle.store_statements.proofs.Common.{length, Null, Int, Error, Row, Term, lit, col, Trees, put_row, Schema}
+use Rattle.store_statements.proofs.Common.{Values, Insert, Delete, edit_of, edited, Chosen, value_rows, stamped, Key}
+use Rattle.store_statements.proofs.Common.{then-Equal, State, Executes, Shown, IsPlain, command_of, IsOfficeSchema}
+use Rattle.store_statements.proofs.Common.{tables_of, keyed_values, IsSelected, cast_null, cast_number, InEach, in_each}
+use Rattle.store_statements.proofs.Common.{IsOfficeAs, makes, puts, removes, query, ascending, IsSelect, Means}
+use Rattle.std.proofs.Common.{inl, inr, subst}
 use Rattle.sqlite_tied.specs.Compute.{everything}
 use Rattle.sqlite.specs.Listing.{understood}
-use Rattle.sqlite.specs.State.{State, Executes, Shown}
-use Rattle.sqlite.proofs.Callers.{IsPlain, command_of}
-use Rattle.store_tables.specs.Schema.{IsOfficeSchema, analyzed_schema, office_schema, schema_9, schema_13}
-use Rattle.store_tables.specs.Tables.{tables_of, keyed_values}
-use Rattle.store_tables.specs.Selected.{IsSelected}
-use Rattle.store_tables.proofs.Columns.{cast_null, cast_number, keyed_column_is}
-use Rattle.store_tables.proofs.Current.{InEach, in_each}
-use Rattle.store_tables.proofs.Changing.{IsOfficeAs, makes, puts, removes}
+use Rattle.store_tables.specs.Schema.{analyzed_schema, office_schema, schema_9, schema_13}
+use Rattle.store_tables.proofs.Columns.{keyed_column_is}
 use Rattle.store_tables.proofs.TableIndices.{profile, profile_there, profile_only}
-use Rattle.store_tables.proofs.Selecting.{query}
-use Rattle.store_tables.proofs.Finding.{ascending, IsSelect, Means, finds}
+use Rattle.store_tables.proofs.Finding.{finds}
 use Rattle.store_statements.specs.Rows.{is_any, mark_row}
 use Rattle.store_statements.specs.Shown.{profile_order, profile_shown}
 use Rattle.store_statements.proofs.Requested.{all_wanted, none_left}
@@ -57,7 +40,7 @@ put one number db = rw (cast_null, cast_number one, cast_number number) refl
 
 pub inserts : (one number : ℕ) → Runs insert_text (mark_row one number)
     (λ t. record t { profile = put_row (mark_row one number) t.profile }) (λ t. 1)
-unfolding office_schema
+unfolding office_schema Runs
 inserts one number old new r office ended ran =
     makes insert_text (mark_row one number) _ 1 old new r
     (puts 0 profile profile_there profile_only insert_text (mark_row one number) insert_terms 3 insert_is insert_plain
@@ -78,7 +61,7 @@ unfolding understood everything office_schema analyzed_schema
 clear_plain = record { usual = (refl, refl); analyzed = (refl, refl) }
 
 pub clears : Runs clear_text [] (λ t. record t { profile = [] }) (λ t. length t.profile)
-unfolding office_schema
+unfolding office_schema Runs
 clears old new r office ended ran = makes clear_text [] _ _ old new r does ended ran
   where
     does : (count : ℕ) → Executes clear_text [] old new (Ok count)

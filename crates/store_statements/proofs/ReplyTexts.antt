@@ -1,29 +1,14 @@
 -- What the texts on `reply` make of it, and show of it.
-use Rattle.std.proofs.Common.{◌≡◌, ℕ, List, [], ◌∷◌, ◌++◌, codes, refl, ap, ◌∙◌}
-use Rattle.sqlite.specs.declared.types.Value.TheVariants.{Null, Int, Text}
-use Rattle.sqlite.specs.Order.{Row}
-use Rattle.sqlite.specs.Term.{Term, lit, col}
-use Rattle.sqlite.specs.Tree.{Trees, put_row}
-use Rattle.sqlite.specs.Schema.{Schema}
-use Rattle.sqlite.specs.Source.TheVariants.{Values}
-use Rattle.sqlite.specs.Command.TheVariants.{Insert}
-use Rattle.sqlite.specs.Edit.{edit_of, edited, next_rowid}
-use Rattle.sqlite.specs.Rowids.TheVariants.{Chosen}
-use Rattle.sqlite.specs.Effect.{value_rows}
-use Rattle.sqlite.specs.Rows.{stamped}
-use Rattle.sqlite_value.specs.declared.keys.Key.{Key}
-use Rattle.sqlite_value.proofs.OrderLemmas.{then-Equal}
+use Rattle.store_statements.proofs.Common.{◌≡◌, ℕ, List, [], ◌∷◌, ◌++◌, codes, refl, ap, ◌∙◌, Null, Int, Text, Row}
+use Rattle.store_statements.proofs.Common.{Term, lit, col, Trees, put_row, Schema, Values, Insert, edit_of, edited}
+use Rattle.store_statements.proofs.Common.{next_rowid, Chosen, value_rows, stamped, Key, then-Equal, IsPlain}
+use Rattle.store_statements.proofs.Common.{command_of, IsCurrentSchema, values, IsSelected, cast_null, cast_number}
+use Rattle.store_statements.proofs.Common.{column_is, appends, makes, InEach, in_each, ascending, IsSelect, Means}
+use Rattle.store_statements.proofs.Common.{finds_now}
 use Rattle.sqlite_tied.specs.Compute.{everything}
 use Rattle.sqlite.specs.Listing.{understood}
-use Rattle.sqlite.proofs.Callers.{IsPlain, command_of}
-use Rattle.store_tables.specs.Schema.{IsCurrentSchema, analyzed_schema, office_schema}
-use Rattle.store_tables.specs.Tables.{values}
-use Rattle.store_tables.specs.Selected.{IsSelected}
-use Rattle.store_tables.proofs.Columns.{cast_null, cast_number, column_is}
-use Rattle.store_tables.proofs.Changing.{appends, makes}
-use Rattle.store_tables.proofs.Current.{InEach, in_each}
+use Rattle.store_tables.specs.Schema.{analyzed_schema, office_schema}
 use Rattle.store_tables.proofs.TableIndices.{reply, reply_there, reply_only}
-use Rattle.store_tables.proofs.Finding.{ascending, IsSelect, Means, finds_now}
 use Rattle.store_statements.specs.declared.row.ReplyRow.{ReplyRow}
 use Rattle.store_statements.specs.Rows.{has_two_texts, is_of_team, reply_row}
 use Rattle.store_statements.specs.Shown.{keys_order, keys_shown, reply_order, reply_shown}
@@ -53,7 +38,7 @@ put row db = rw (cast_null, cast_number row.kind, cast_number row.a, cast_number
 
 pub inserts : (row : ReplyRow) → Runs insert_text (reply_row row)
     (λ t. record t { reply = t.reply ++ reply_row row ∷ [] }) (λ t. 1)
-unfolding office_schema
+unfolding office_schema Runs
 inserts row old new r office ended ran =
     makes insert_text (reply_row row) _ 1 old new r
     (appends 8 reply reply_there reply_only insert_text (reply_row row) insert_terms 8 insert_is insert_plain
@@ -90,6 +75,7 @@ reply_means team key = record {
 
 pub reply_found : {X : Type 0} (rows_of : X → List Row) (team : List ℕ) (key : List ℕ) → Queries rows_of reply_text
     (Text team ∷ Text key ∷ []) (λ t rows. IsSelected (has_two_texts team key) reply_shown reply_order t.reply rows)
+unfolding Queries
 reply_found rows_of team key =
     finds_now reply_text 15 two_tests reply_columns reply_by _ (Text team ∷ Text key ∷ [])
     (reply_selects (Text team ∷ Text key ∷ [])) values (has_two_texts team key) reply_shown reply_order
@@ -124,6 +110,7 @@ keys_means team = record {
 
 pub keys_found : {X : Type 0} (rows_of : X → List Row) (team : List ℕ) → Queries rows_of keys_text (Text team ∷ [])
     (λ t rows. IsSelected (is_of_team team) keys_shown keys_order t.reply rows)
+unfolding Queries
 keys_found rows_of team = finds_now keys_text 15 one_test keys_columns reply_by _ (Text team ∷ [])
     (keys_selects (Text team ∷ [])) values (is_of_team team) keys_shown keys_order (keys_means team) rows_of
 

@@ -1,20 +1,19 @@
 -- What WHERE requires of a row of the tree is what the definitions require of the row as it is shown.
-use Rattle.std.proofs.Common.{◌≡◌, ℕ, pos, List, [], ◌∷◌, refl, ap, sym, ◌∙◌}
+use Rattle.store_statements.proofs.Common.{◌≡◌, ℕ, pos, List, [], ◌∷◌, refl, ap, sym, ◌∙◌, filter, Null, Int, Text, Row}
+use Rattle.store_statements.proofs.Common.{column, value_cmp, Term, col, values, keyed_values, column_is}
 use Rattle.std.specs.List.{list_all}
-use Rattle.std.specs.Prelude.{◌&&◌, filter, not}
+use Rattle.std.specs.Prelude.{◌&&◌, not}
 use Rattle.std.specs.Ordering.{is_ge, is_gt, is_le, is_lt}
 use Rattle.sqlite.specs.Ops.{binary, is_true}
 use Rattle.sqlite_value.proofs.OrderLemmas.{value_cmp-Null}
 use Rattle.sqlite.specs.declared.types.Value.{Value}
-use Rattle.sqlite.specs.declared.types.Value.TheVariants.{Null, Int, Real, Text, Blob}
-use Rattle.sqlite.specs.Order.{Row, column, value_cmp}
-use Rattle.sqlite.specs.Term.{Term, col, op2, holds}
+use Rattle.sqlite.specs.declared.types.Value.TheVariants.{Real, Blob}
+use Rattle.sqlite.specs.Term.{op2, holds}
 use Rattle.sqlite.specs.Collation.TheVariants.{Binary}
 use Rattle.sqlite_sql.specs.declared.ops.BinaryOp.TheVariants.{Compare}
 use Rattle.sqlite_sql.specs.declared.ops.CompareOp.TheVariants.{Eq, Ge, Gt, Le, Lt}
-use Rattle.store_tables.specs.Tables.{values, keyed_values}
 use Rattle.store_tables.proofs.Selecting.{and_true, truth_of}
-use Rattle.store_tables.proofs.Columns.{column_is, text_requested, number_requested, key_requested}
+use Rattle.store_tables.proofs.Columns.{text_requested, number_requested, key_requested}
 use Rattle.store_statements.specs.Rows.{is_of_net, has_name_of, has_net_and_name, has_net_and_number}
 use Rattle.store_statements.specs.Rows.{has_number_between, has_place_of, has_rowid_above, has_rowid_below, is_below}
 use Rattle.store_statements.specs.Rows.{is_between, is_block, is_of_form, has_two_texts, is_any, is_number}

@@ -1,31 +1,16 @@
 -- What the texts on `sig` make of it, and show of it.
-use Rattle.std.proofs.Common.{◌≡◌, ℕ, pos, List, [], ◌∷◌, ◌++◌, codes, not, refl, ◌∙◌}
-use Rattle.std.specs.Prelude.{filter, length}
-use Rattle.sqlite.specs.declared.types.Value.TheVariants.{Null, Int, Text}
-use Rattle.sqlite.specs.Order.{Row}
-use Rattle.sqlite.specs.Term.{Term, lit, col}
-use Rattle.sqlite.specs.Tree.{Trees, put_row}
-use Rattle.sqlite.specs.Schema.{Schema}
-use Rattle.sqlite.specs.Source.TheVariants.{Values}
-use Rattle.sqlite.specs.Command.TheVariants.{Insert, Delete}
-use Rattle.sqlite.specs.Edit.{edit_of, edited, next_rowid}
-use Rattle.sqlite.specs.Rowids.TheVariants.{Chosen}
-use Rattle.sqlite.specs.Effect.{value_rows}
-use Rattle.sqlite.specs.Rows.{stamped}
-use Rattle.sqlite_value.specs.declared.keys.Key.{Key}
-use Rattle.sqlite_value.proofs.OrderLemmas.{then-Equal}
+use Rattle.store_statements.proofs.Common.{◌≡◌, ℕ, pos, List, [], ◌∷◌, ◌++◌, codes, not, refl, ◌∙◌, filter, length}
+use Rattle.store_statements.proofs.Common.{Null, Int, Text, Row, Term, lit, col, Trees, put_row, Schema, Values, Insert}
+use Rattle.store_statements.proofs.Common.{Delete, edit_of, edited, next_rowid, Chosen, value_rows, stamped, Key}
+use Rattle.store_statements.proofs.Common.{then-Equal, IsPlain, command_of, IsCurrentSchema, values, IsSelected}
+use Rattle.store_statements.proofs.Common.{cast_null, cast_number, column_is, appends, makes, removes, InEach, in_each}
+use Rattle.store_statements.proofs.Common.{query, ascending, IsSelect, Means, finds_now, IsCountSelect, counts, count}
 use Rattle.sqlite_tied.specs.Compute.{everything}
 use Rattle.sqlite.specs.Listing.{understood}
-use Rattle.sqlite.proofs.Callers.{IsPlain, command_of}
-use Rattle.store_tables.specs.Schema.{IsCurrentSchema, analyzed_schema, office_schema}
-use Rattle.store_tables.specs.Tables.{values}
-use Rattle.store_tables.specs.Selected.{IsFirstSelected, IsSelected}
-use Rattle.store_tables.proofs.Columns.{cast_int, cast_null, cast_number, column_is}
-use Rattle.store_tables.proofs.Changing.{appends, makes, removes}
-use Rattle.store_tables.proofs.Current.{InEach, in_each}
+use Rattle.store_tables.specs.Schema.{analyzed_schema, office_schema}
+use Rattle.store_tables.specs.Selected.{IsFirstSelected}
+use Rattle.store_tables.proofs.Columns.{cast_int}
 use Rattle.store_tables.proofs.TableIndices.{sig, sig_there, sig_only}
-use Rattle.store_tables.proofs.Selecting.{query}
-use Rattle.store_tables.proofs.Finding.{ascending, IsSelect, Means, finds_now}
 use Rattle.store_tables.proofs.TopRow.{IsTopSelect, descending, tops}
 use Rattle.store_statements.specs.declared.row.SigRow.{SigRow}
 use Rattle.store_statements.specs.Mux.{mux_number}
@@ -33,8 +18,6 @@ use Rattle.store_statements.specs.Rows.{has_name_of, has_net_and_number, has_pla
 use Rattle.store_statements.specs.Shown.{last_place_order, last_place_shown, sigs_order, sigs_shown}
 use Rattle.store_statements.proofs.Requested.{net_requested, numbered_requested, one_test, place_requested}
 use Rattle.store_statements.proofs.Requested.{signal_requested, signal_tests, three_tests, two_tests}
-use Rattle.store_tables.proofs.Counting.{IsCountSelect, counts}
-use Rattle.sqlite_sql.specs.Aggregate.{count}
 use Rattle.store_statements.proofs.Texts.{Queries, Runs}
 
 -- ---- insert_sig
@@ -72,7 +55,7 @@ put row db = rw (
 
 pub inserts : (row : SigRow) → Runs insert_text (sig_row row) (λ t. record t { sig = t.sig ++ sig_row row ∷ [] })
     (λ t. 1)
-unfolding office_schema
+unfolding office_schema Runs
 inserts row old new r office ended ran =
     makes insert_text (sig_row row) _ 1 old new r
     (appends 10 sig sig_there sig_only insert_text (sig_row row) insert_terms 18 insert_is insert_plain (sig_row row)
@@ -95,7 +78,7 @@ delete_plain = record { usual = (refl, refl); analyzed = (refl, refl) }
 pub deletes : (net : List ℕ) (number : ℕ) → Runs delete_text (Text net ∷ Int (pos number) ∷ [])
     (λ t. record t { sig = filter (λ row. not (has_net_and_number net number row)) t.sig })
     (λ t. length (filter (has_net_and_number net number) t.sig))
-unfolding office_schema
+unfolding office_schema Runs
 deletes net number old new r office ended ran =
     makes delete_text (Text net ∷ Int (pos number) ∷ []) _ _ old new r
     (removes 10 sig sig_there sig_only delete_text (Text net ∷ Int (pos number) ∷ []) two_tests
@@ -120,7 +103,7 @@ pub deletes_at : (net : List ℕ) (number place : ℕ) → Runs delete_at_text
     (Text net ∷ Int (pos number) ∷ Int (pos place) ∷ [])
     (λ t. record t { sig = filter (λ row. not (has_place_of net number place row)) t.sig })
     (λ t. length (filter (has_place_of net number place) t.sig))
-unfolding office_schema
+unfolding office_schema Runs
 deletes_at net number place old new r office ended ran =
     makes delete_at_text (Text net ∷ Int (pos number) ∷ Int (pos place) ∷ []) _ _ old new r
     (removes 10 sig sig_there sig_only delete_at_text (Text net ∷ Int (pos number) ∷ Int (pos place) ∷ []) three_tests
@@ -178,6 +161,7 @@ sigs_means net number = record {
 pub sigs_found : {X : Type 0} (rows_of : X → List Row) (net : List ℕ) (number : ℕ) → Queries rows_of sigs_text
     (Text net ∷ Int (pos number) ∷ [])
     (λ t rows. IsSelected (has_net_and_number net number) sigs_shown sigs_order t.sig rows)
+unfolding Queries
 sigs_found rows_of net number =
     finds_now sigs_text 20 two_tests sigs_columns sigs_by _ (Text net ∷ Int (pos number) ∷ [])
     (sigs_selects (Text net ∷ Int (pos number) ∷ [])) values (has_net_and_number net number) sigs_shown sigs_order
@@ -213,6 +197,7 @@ named_means net number name = record {
 pub named_found : {X : Type 0} (rows_of : X → List Row) (net : List ℕ) (number : ℕ) (name : List ℕ) → Queries rows_of
     named_text (Text net ∷ Int (pos number) ∷ Text name ∷ [])
     (λ t rows. IsSelected (has_name_of net number name) sigs_shown sigs_order t.sig rows)
+unfolding Queries
 named_found rows_of net number name =
     finds_now named_text 20 signal_tests sigs_columns sigs_by _ (Text net ∷ Int (pos number) ∷ Text name ∷ [])
     (named_selects (Text net ∷ Int (pos number) ∷ Text name ∷ [])) values (has_name_of net number name) sigs_shown
@@ -249,6 +234,7 @@ last_place_means net number = record {
 pub last_place_found : {X : Type 0} (rows_of : X → List Row) (net : List ℕ) (number : ℕ) → Queries rows_of
     last_place_text (Text net ∷ Int (pos number) ∷ [])
     (λ t rows. IsFirstSelected (has_net_and_number net number) last_place_shown last_place_order t.sig rows)
+unfolding Queries
 last_place_found rows_of net number =
     tops last_place_text 20 two_tests (col 1 3 ∷ []) last_place_by (codes "place" ∷ [])
     (Text net ∷ Int (pos number) ∷ [])
@@ -272,6 +258,7 @@ count_selects params = record {
 
 pub counted_sigs : {X : Type 0} (rows_of : X → List Row) (net : List ℕ) → Queries rows_of count_text (Text net ∷ [])
     (λ t rows. rows ≡ (count (length (filter (is_of_net net) t.sig)) ∷ []) ∷ [])
+unfolding Queries
 counted_sigs rows_of net = counts count_text 20 one_test (Text net ∷ []) (count_selects (Text net ∷ [])) (is_of_net net)
     (net_requested net) rows_of
 

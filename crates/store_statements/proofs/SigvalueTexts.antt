@@ -1,39 +1,20 @@
 -- What the texts on `sigvalue` make of it, and show of it.
-use Rattle.std.proofs.Common.{◌≡◌, ℕ, pos, List, [], ◌∷◌, ◌++◌, codes, not, ap, refl, ◌∙◌}
-use Rattle.std.specs.Ordering.{ordering_then}
-use Rattle.std.specs.Prelude.{filter, length}
-use Rattle.sqlite.specs.declared.types.Value.TheVariants.{Null, Int, Text}
-use Rattle.sqlite.specs.Order.{Row, column, value_cmp}
-use Rattle.sqlite.specs.Term.{Term, lit, col}
-use Rattle.sqlite.specs.Tree.{Trees, put_row}
-use Rattle.sqlite.specs.Schema.{Schema}
-use Rattle.sqlite.specs.Source.TheVariants.{Values}
-use Rattle.sqlite.specs.Command.TheVariants.{Insert, Delete}
-use Rattle.sqlite.specs.Edit.{edit_of, edited, next_rowid}
-use Rattle.sqlite.specs.Rowids.TheVariants.{Chosen}
-use Rattle.sqlite.specs.Effect.{value_rows}
-use Rattle.sqlite.specs.Rows.{stamped}
-use Rattle.sqlite_value.specs.declared.keys.Key.{Key}
-use Rattle.sqlite_value.proofs.OrderLemmas.{then-Equal}
+use Rattle.store_statements.proofs.Common.{◌≡◌, ℕ, pos, List, [], ◌∷◌, ◌++◌, codes, not, ap, refl, ◌∙◌, ordering_then}
+use Rattle.store_statements.proofs.Common.{filter, length, Null, Int, Text, Row, column, value_cmp, Term, lit, col}
+use Rattle.store_statements.proofs.Common.{Trees, put_row, Schema, Values, Insert, Delete, edit_of, edited, next_rowid}
+use Rattle.store_statements.proofs.Common.{Chosen, value_rows, stamped, Key, then-Equal, IsPlain, command_of}
+use Rattle.store_statements.proofs.Common.{IsCurrentSchema, values, IsSelected, cast_null, cast_number, column_is}
+use Rattle.store_statements.proofs.Common.{appends, makes, removes, InEach, in_each, query, ascending, IsSelect, Means}
+use Rattle.store_statements.proofs.Common.{finds_now, IsCountSelect, counts, count}
 use Rattle.sqlite_tied.specs.Compute.{everything}
 use Rattle.sqlite.specs.Listing.{understood}
-use Rattle.sqlite.proofs.Callers.{IsPlain, command_of}
-use Rattle.store_tables.specs.Schema.{IsCurrentSchema, analyzed_schema, office_schema}
-use Rattle.store_tables.specs.Tables.{values}
-use Rattle.store_tables.specs.Selected.{IsSelected}
-use Rattle.store_tables.proofs.Columns.{cast_null, cast_number, column_is}
-use Rattle.store_tables.proofs.Changing.{appends, makes, removes}
-use Rattle.store_tables.proofs.Current.{InEach, in_each}
+use Rattle.store_tables.specs.Schema.{analyzed_schema, office_schema}
 use Rattle.store_tables.proofs.TableIndices.{sigvalue, sigvalue_there, sigvalue_only}
-use Rattle.store_tables.proofs.Selecting.{query}
-use Rattle.store_tables.proofs.Finding.{ascending, IsSelect, Means, finds_now}
 use Rattle.store_statements.specs.declared.row.SigValueRow.{SigValueRow}
 use Rattle.store_statements.specs.Rows.{has_net_and_number, has_place_of, is_of_net, sigvalue_row}
 use Rattle.store_statements.specs.Shown.{sigvalues_order, sigvalues_shown}
 use Rattle.store_statements.proofs.Requested.{net_requested, numbered_requested, one_test, place_requested, three_tests}
 use Rattle.store_statements.proofs.Requested.{two_tests}
-use Rattle.store_tables.proofs.Counting.{IsCountSelect, counts}
-use Rattle.sqlite_sql.specs.Aggregate.{count}
 use Rattle.store_statements.proofs.Texts.{Queries, Runs}
 
 -- ---- insert_sigvalue
@@ -59,7 +40,7 @@ put row db = rw (cast_null, cast_number row.number, cast_number row.place, cast_
 
 pub inserts : (row : SigValueRow) → Runs insert_text (sigvalue_row row)
     (λ t. record t { sigvalue = t.sigvalue ++ sigvalue_row row ∷ [] }) (λ t. 1)
-unfolding office_schema
+unfolding office_schema Runs
 inserts row old new r office ended ran =
     makes insert_text (sigvalue_row row) _ 1 old new r
     (appends 12 sigvalue sigvalue_there sigvalue_only insert_text (sigvalue_row row) insert_terms 7 insert_is
@@ -82,7 +63,7 @@ delete_plain = record { usual = (refl, refl); analyzed = (refl, refl) }
 pub deletes : (net : List ℕ) (number : ℕ) → Runs delete_text (Text net ∷ Int (pos number) ∷ [])
     (λ t. record t { sigvalue = filter (λ row. not (has_net_and_number net number row)) t.sigvalue })
     (λ t. length (filter (has_net_and_number net number) t.sigvalue))
-unfolding office_schema
+unfolding office_schema Runs
 deletes net number old new r office ended ran =
     makes delete_text (Text net ∷ Int (pos number) ∷ []) _ _ old new r
     (removes 12 sigvalue sigvalue_there sigvalue_only delete_text (Text net ∷ Int (pos number) ∷ []) two_tests
@@ -107,7 +88,7 @@ pub deletes_at : (net : List ℕ) (number place : ℕ) → Runs delete_at_text
     (Text net ∷ Int (pos number) ∷ Int (pos place) ∷ [])
     (λ t. record t { sigvalue = filter (λ row. not (has_place_of net number place row)) t.sigvalue })
     (λ t. length (filter (has_place_of net number place) t.sigvalue))
-unfolding office_schema
+unfolding office_schema Runs
 deletes_at net number place old new r office ended ran =
     makes delete_at_text (Text net ∷ Int (pos number) ∷ Int (pos place) ∷ []) _ _ old new r
     (removes 12 sigvalue sigvalue_there sigvalue_only delete_at_text
@@ -147,6 +128,7 @@ sigvalues_means net number = record {
 pub sigvalues_found : {X : Type 0} (rows_of : X → List Row) (net : List ℕ) (number : ℕ) → Queries rows_of sigvalues_text
     (Text net ∷ Int (pos number) ∷ [])
     (λ t rows. IsSelected (has_net_and_number net number) sigvalues_shown sigvalues_order t.sigvalue rows)
+unfolding Queries
 sigvalues_found rows_of net number = finds_now sigvalues_text 25 two_tests sigvalues_columns sigvalues_by _
     (Text net ∷ Int (pos number) ∷ []) (sigvalues_selects (Text net ∷ Int (pos number) ∷ [])) values
     (has_net_and_number net number) sigvalues_shown sigvalues_order (sigvalues_means net number) rows_of
@@ -168,6 +150,7 @@ count_selects params = record {
 
 pub counted_sigvalues : {X : Type 0} (rows_of : X → List Row) (net : List ℕ) → Queries rows_of count_text
     (Text net ∷ []) (λ t rows. rows ≡ (count (length (filter (is_of_net net) t.sigvalue)) ∷ []) ∷ [])
+unfolding Queries
 counted_sigvalues rows_of net = counts count_text 25 one_test (Text net ∷ []) (count_selects (Text net ∷ []))
     (is_of_net net) (net_requested net) rows_of
 

@@ -1,31 +1,13 @@
 -- What the texts on `spn` make of it, and show of it.
-use Rattle.std.proofs.Common.{◌≡◌, ℕ, pos, List, [], ◌∷◌, codes, not, refl}
-use Rattle.std.specs.Prelude.{filter, length}
-use Rattle.sqlite.specs.declared.types.Value.TheVariants.{Null, Int}
-use Rattle.sqlite.specs.Order.{Row}
-use Rattle.sqlite.specs.Term.{Term, lit, col}
-use Rattle.sqlite.specs.Tree.{Trees, put_row}
-use Rattle.sqlite.specs.Schema.{Schema}
-use Rattle.sqlite.specs.Source.TheVariants.{Values}
-use Rattle.sqlite.specs.Command.TheVariants.{Insert, Delete}
-use Rattle.sqlite.specs.Edit.{edit_of, edited}
-use Rattle.sqlite.specs.Rowids.TheVariants.{Chosen}
-use Rattle.sqlite.specs.Effect.{value_rows}
-use Rattle.sqlite.specs.Rows.{stamped}
-use Rattle.sqlite_value.specs.declared.keys.Key.{Key}
-use Rattle.sqlite_value.proofs.OrderLemmas.{then-Equal}
+use Rattle.store_statements.proofs.Common.{◌≡◌, ℕ, pos, List, [], ◌∷◌, codes, not, refl, filter, length, Null, Int, Row}
+use Rattle.store_statements.proofs.Common.{Term, lit, col, Trees, put_row, Schema, Values, Insert, Delete, edit_of}
+use Rattle.store_statements.proofs.Common.{edited, Chosen, value_rows, stamped, Key, then-Equal, IsPlain, command_of}
+use Rattle.store_statements.proofs.Common.{IsCurrentSchema, keyed_values, IsSelected, cast_null, cast_number, makes}
+use Rattle.store_statements.proofs.Common.{puts, removes, InEach, in_each, query, ascending, IsSelect, Means, finds_now}
 use Rattle.sqlite_tied.specs.Compute.{everything}
 use Rattle.sqlite.specs.Listing.{understood}
-use Rattle.sqlite.proofs.Callers.{IsPlain, command_of}
-use Rattle.store_tables.specs.Schema.{IsCurrentSchema, analyzed_schema, office_schema}
-use Rattle.store_tables.specs.Tables.{keyed_values}
-use Rattle.store_tables.specs.Selected.{IsSelected}
-use Rattle.store_tables.proofs.Columns.{cast_null, cast_number}
-use Rattle.store_tables.proofs.Changing.{makes, puts, removes}
-use Rattle.store_tables.proofs.Current.{InEach, in_each}
+use Rattle.store_tables.specs.Schema.{analyzed_schema, office_schema}
 use Rattle.store_tables.proofs.TableIndices.{spn, spn_there, spn_only}
-use Rattle.store_tables.proofs.Selecting.{query}
-use Rattle.store_tables.proofs.Finding.{ascending, IsSelect, Means, finds_now}
 use Rattle.store_statements.specs.Rows.{is_any, is_number, spn_row}
 use Rattle.store_statements.specs.Shown.{spns_order, spns_shown}
 use Rattle.store_statements.proofs.Requested.{key_test, number_requested_alone}
@@ -54,7 +36,7 @@ put number db = rw (cast_null, cast_number number) refl
 
 pub inserts : (number : ℕ) → Runs insert_text (spn_row number) (λ t. record t { spn = put_row (spn_row number) t.spn })
     (λ t. 1)
-unfolding office_schema
+unfolding office_schema Runs
 inserts number old new r office ended ran =
     makes insert_text (spn_row number) _ 1 old new r
     (puts 5 spn spn_there spn_only insert_text (spn_row number) insert_terms 2 insert_is insert_plain (pos number) []
@@ -77,7 +59,7 @@ delete_spn_plain = record { usual = (refl, refl); analyzed = (refl, refl) }
 pub delete_spns : (number : ℕ) → Runs delete_spn_text (Int (pos number) ∷ [])
     (λ t. record t { spn = filter (λ row. not (is_number number row)) t.spn })
     (λ t. length (filter (is_number number) t.spn))
-unfolding office_schema
+unfolding office_schema Runs
 delete_spns number old new r office ended ran =
     makes delete_spn_text (Int (pos number) ∷ []) _ _ old new r
     (removes 5 spn spn_there spn_only delete_spn_text (Int (pos number) ∷ []) key_test
@@ -112,6 +94,7 @@ spns_means = record {
 
 pub spns_found : {X : Type 0} (rows_of : X → List Row) → Queries rows_of spns_text []
     (λ t rows. IsSelected is_any spns_shown spns_order t.spn rows)
+unfolding Queries
 spns_found rows_of = finds_now spns_text 10 [] spns_columns spns_by _ [] (spns_selects []) keyed_values is_any
     spns_shown spns_order spns_means rows_of
 

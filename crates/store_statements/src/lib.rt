@@ -35,7 +35,7 @@ pub use approval::{delete_approval, delete_approvals, insert_approval, select_ap
 pub use block::{delete_block, insert_block, select_blocks, select_blocks_of_form};
 pub use frozen::{insert_frozen, select_release, select_release_numbers, select_releases};
 pub use held::{delete_held, insert_held, select_held, select_held_numbers};
-pub use message::{clear_messages, delete_message, insert_message, select_messages};
+pub use message::{clear_messages, select_messages};
 pub use msg::{
     count_msgs, delete_msgs, insert_msg, select_msg_above, select_msg_below, select_msg_named,
     select_msg_numbers, select_msgs,

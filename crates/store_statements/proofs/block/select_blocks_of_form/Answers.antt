@@ -1,16 +1,11 @@
-use Rattle.sqlite.specs.Held.{state}
-use Rattle.store_tables.proofs.Keeping.{reads_only}
-use Rattle.store_statements.proofs.BlockTexts.{blocks_of_form_found, blocks_of_form_text, blocks_of_form_plain}
+use Rattle.store_statements.proofs.BlockTexts.{blocks_of_form_found, blocks_of_form_plain}
+use Rattle.store_statements.proofs.Texts.{shows}
 use Rattle.store_statements.proofs.block.select_blocks_of_form.Goals as goal
 
-pub returns-clause-found : goal.returns-clause-found
-returns-clause-found g c clean office =
-    blocks_of_form_found (λ rows. rows.items) c.args.form (state g.S.Store c.args.tx.now.conn.now)
-    (state g.S.Store c.query_all.new.self.conn.now) c.query_all.result office.schema
-    (rw c.to_sql.ensures at (c.query_all.ensures.ok clean))
-
-pub returns-clause-frame : goal.returns-clause-frame
-returns-clause-frame g c =
-    reads_only g.S.Store c.args.tx.now c.query_all.new.self (λ rows. rows.items) blocks_of_form_text _
-    c.query_all.result blocks_of_form_plain
-    c.query_all.ensures.same_reference c.query_all.ensures.ok c.query_all.ensures.err c.query_all.ensures.survives
+pub returns : goal.returns
+returns g c =
+    let both = shows g.S.Store c.args.tx.now c.query_all.new.self (λ rows. rows.items) c.query_all.result _ _ _
+    (blocks_of_form_found (λ rows. rows.items) c.args.form) blocks_of_form_plain c.query_all.ensures.same_reference
+    (rw c.to_sql.ensures at c.query_all.ensures.ok) (rw c.to_sql.ensures at c.query_all.ensures.err)
+    c.query_all.ensures.survives in
+    record { found = both.0; frame = both.1 }

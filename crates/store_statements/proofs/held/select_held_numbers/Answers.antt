@@ -1,16 +1,17 @@
-use Rattle.sqlite.specs.Held.{state}
-use Rattle.store_tables.proofs.Keeping.{reads_only}
-use Rattle.store_statements.proofs.HeldTexts.{held_numbers_found, held_numbers_text, held_numbers_plain}
+use Rattle.store_statements.proofs.HeldTexts.{held_numbers_found, held_numbers_plain}
+use Rattle.store_statements.proofs.Texts.{shows}
 use Rattle.store_statements.proofs.held.select_held_numbers.Goals as goal
 
 pub returns-clause-found : goal.returns-clause-found
-returns-clause-found g c clean office =
-    held_numbers_found (λ rows. rows.items) c.args.net.now c.args.first c.args.last
-    (state g.S.Store c.args.tx.now.conn.now) (state g.S.Store c.query_all.new.self.conn.now) c.query_all.result
-    office.schema (rw (c.to_sql.ensures, c.to_sql-2.ensures) at (c.query_all.ensures.ok clean))
+returns-clause-found g c =
+    (shows g.S.Store c.args.tx.now c.query_all.new.self (λ rows. rows.items) c.query_all.result _ _ _
+    (held_numbers_found (λ rows. rows.items) c.args.net.now c.args.first c.args.last) held_numbers_plain
+    c.query_all.ensures.same_reference (rw (c.to_sql.ensures, c.to_sql-2.ensures) at c.query_all.ensures.ok)
+    (rw (c.to_sql.ensures, c.to_sql-2.ensures) at c.query_all.ensures.err) c.query_all.ensures.survives).0
 
 pub returns-clause-frame : goal.returns-clause-frame
 returns-clause-frame g c =
-    reads_only g.S.Store c.args.tx.now c.query_all.new.self (λ rows. rows.items) held_numbers_text _ c.query_all.result
-    held_numbers_plain
-    c.query_all.ensures.same_reference c.query_all.ensures.ok c.query_all.ensures.err c.query_all.ensures.survives
+    (shows g.S.Store c.args.tx.now c.query_all.new.self (λ rows. rows.items) c.query_all.result _ _ _
+    (held_numbers_found (λ rows. rows.items) c.args.net.now c.args.first c.args.last) held_numbers_plain
+    c.query_all.ensures.same_reference (rw (c.to_sql.ensures, c.to_sql-2.ensures) at c.query_all.ensures.ok)
+    (rw (c.to_sql.ensures, c.to_sql-2.ensures) at c.query_all.ensures.err) c.query_all.ensures.survives).1

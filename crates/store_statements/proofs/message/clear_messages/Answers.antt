@@ -1,16 +1,13 @@
-use Rattle.sqlite.specs.Held.{state}
-use Rattle.store_tables.proofs.Changing.{only_made, only_rows}
 use Rattle.store_statements.proofs.MessageTexts.{clears}
+use Rattle.store_statements.proofs.Texts.{edits}
 use Rattle.store_statements.proofs.message.clear_messages.Goals as goal
 
 pub returns-clause-removed : goal.returns-clause-removed
-returns-clause-removed g c clean office =
-    only_made _ _ c.execute.result
-    (clears (state g.S.Store c.args.tx.now.conn.now) (state g.S.Store c.execute.new.self.conn.now) c.execute.result
-    office (λ no. (c.execute.ensures.ended no).0) (c.execute.ensures.runs clean))
+returns-clause-removed g c =
+    (edits g.S.Store c.args.tx.now c.execute.new.self c.execute.result _ _ _ _ clears c.execute.ensures.ended
+    c.execute.ensures.runs).0
 
 pub returns-clause-rows : goal.returns-clause-rows
-returns-clause-rows g c clean office =
-    only_rows _ _ c.execute.result
-    (clears (state g.S.Store c.args.tx.now.conn.now) (state g.S.Store c.execute.new.self.conn.now) c.execute.result
-    office (λ no. (c.execute.ensures.ended no).0) (c.execute.ensures.runs clean))
+returns-clause-rows g c =
+    (edits g.S.Store c.args.tx.now c.execute.new.self c.execute.result _ _ _ _ clears c.execute.ensures.ended
+    c.execute.ensures.runs).1

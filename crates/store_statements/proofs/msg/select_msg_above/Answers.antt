@@ -1,5 +1,4 @@
-use Rattle.sqlite.specs.Held.{state}
-use Rattle.store_tables.proofs.Keeping.{reads_only}
+use Rattle.store_statements.proofs.Common.{state, reads_only}
 use Rattle.store_statements.proofs.MsgTexts.{above_found, above_text, above_plain}
 use Rattle.store_statements.proofs.msg.select_msg_above.Goals as goal
 

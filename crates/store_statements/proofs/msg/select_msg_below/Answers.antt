@@ -1,5 +1,4 @@
-use Rattle.sqlite.specs.Held.{state}
-use Rattle.store_tables.proofs.Keeping.{reads_only}
+use Rattle.store_statements.proofs.Common.{state, reads_only}
 use Rattle.store_statements.proofs.MsgTexts.{below_found, below_text, below_plain}
 use Rattle.store_statements.proofs.msg.select_msg_below.Goals as goal
 

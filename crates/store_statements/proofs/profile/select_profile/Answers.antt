@@ -1,8 +1,6 @@
-use Rattle.std.proofs.Common.{rules}
+use Rattle.store_statements.proofs.Common.{rules, state, IsOfficeSchema}
 use Rattle.std.specs.Prelude.{OnOk}
-use Rattle.sqlite.specs.Held.{state}
 use Rattle.sqlite.specs.State.{HasCleanDisk, IsUnchanged}
-use Rattle.store_tables.specs.Schema.{IsOfficeSchema}
 use Rattle.store_tables.proofs.Keeping.{query_inside_same, query_alone_keeps, query_survives}
 use Rattle.store_statements.proofs.ProfileTexts.{profile_found, profile_text, profile_plain}
 use Rattle.store_statements.proofs.profile.select_profile.Goals as goal

@@ -1,18 +1,11 @@
-use Rattle.sqlite.specs.Held.{state}
-use Rattle.store_tables.proofs.Changing.{only_made, only_rows}
+use Rattle.std.proofs.Common.{rules}
 use Rattle.store_statements.proofs.ReceiverTexts.{deletes_at}
+use Rattle.store_statements.proofs.Texts.{edits}
 use Rattle.store_statements.proofs.receiver.delete_receivers_at.Goals as goal
 
-pub returns-clause-removed : goal.returns-clause-removed
-returns-clause-removed g c clean office =
-    only_made _ _ c.execute.result
-    (deletes_at c.args.net.now c.args.number c.args.place (state g.S.Store c.args.tx.now.conn.now)
-    (state g.S.Store c.execute.new.self.conn.now) c.execute.result office (λ no. (c.execute.ensures.ended no).0)
-    (rw (c.to_sql.ensures, c.to_sql-2.ensures) at (c.execute.ensures.runs clean)))
-
-pub returns-clause-rows : goal.returns-clause-rows
-returns-clause-rows g c clean office =
-    only_rows _ _ c.execute.result
-    (deletes_at c.args.net.now c.args.number c.args.place (state g.S.Store c.args.tx.now.conn.now)
-    (state g.S.Store c.execute.new.self.conn.now) c.execute.result office (λ no. (c.execute.ensures.ended no).0)
-    (rw (c.to_sql.ensures, c.to_sql-2.ensures) at (c.execute.ensures.runs clean)))
+pub returns : goal.returns
+returns g c =
+    let both = edits g.S.Store c.args.tx.now c.execute.new.self c.execute.result _ _ _ _
+    (deletes_at c.args.net.now c.args.number c.args.place) c.execute.ensures.ended
+    (rw (c.to_sql.ensures, c.to_sql-2.ensures) at c.execute.ensures.runs) in
+    record { removed = both.0; rows = both.1; frame = search rules }

@@ -165,18 +165,10 @@ impl Work for Looking<'_> {
 }
 
 /// Carries tables over.
+#[derive(Drop)]
 struct Migrating<'a, W: Write> {
     alloc: Global,
     progress: &'a mut Progress<W>,
-}
-
-impl<W: Write> Drop for Migrating<'_, W> {
-    fn drop(self) {
-        let Migrating {
-            alloc: _alloc,
-            progress: _progress,
-        } = self;
-    }
 }
 
 impl<W: Write> Work for Migrating<'_, W> {

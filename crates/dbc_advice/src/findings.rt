@@ -24,6 +24,7 @@ pub const FAULTS_REPORTED: usize = 100;
 pub const BYTES_READ_AGAIN: usize = 400_000_000;
 
 /// A fault, and what people need to know of it.
+#[derive(Drop)]
 pub(crate) struct Reported {
     /// The fault.
     pub fault: ReadFault,
@@ -49,6 +50,7 @@ pub(crate) enum Ending {
 }
 
 /// The faults of a text.
+#[derive(Drop)]
 pub(crate) struct Findings {
     /// The faults, in the order in which they were found.
     pub reported: Vec<Reported>,
@@ -200,24 +202,4 @@ pub(crate) fn reported_faults(alloc: Global, source: &[u8]) -> Result<Findings, 
     }
     let ending = Ending::Many;
     Ok(Findings { reported, ending })
-}
-
-impl Drop for Reported {
-    fn drop(self) {
-        let Reported {
-            fault: _fault,
-            lines: _lines,
-            wanted: _wanted,
-            hint: _hint,
-        } = self;
-    }
-}
-
-impl Drop for Findings {
-    fn drop(self) {
-        let Findings {
-            reported: _reported,
-            ending: _ending,
-        } = self;
-    }
 }

@@ -1,5 +1,5 @@
 //! What is first amiss in a file, for who shows one sentence of it.
-ghost use Rattle.std.specs.Prelude.{◌≡◌, IfOk};
+ghost use Rattle.std.specs.Prelude.{IfOk};
 ghost use Rattle.dbc_advice.specs.First.{IsFirst, IsStatedFault};
 
 use crate::clashes::first_unclear;
@@ -11,6 +11,7 @@ use crate::sentences::{code_label, sentence};
 use std::alloc::{AllocError, Global};
 
 /// Something that is amiss in a file, as a line of [`explained`](crate::explained) has it.
+#[derive(Drop)]
 pub struct Stated {
     /// Where it is.
     pub position: Position,
@@ -54,15 +55,5 @@ pub fn first_stated(alloc: Global, text: &[u8]) -> Result<Option<Stated>, AllocE
     match reported_next(alloc, text)? {
         Next::Reads(reading) => first_unclear(alloc, text, &reading.sheet),
         Next::Fault(reported) => Ok(Some(stated_fault(alloc, text, &reported)?)),
-    }
-}
-
-impl Drop for Stated {
-    fn drop(self) {
-        let Stated {
-            position: _position,
-            label: _label,
-            sentence: _sentence,
-        } = self;
     }
 }

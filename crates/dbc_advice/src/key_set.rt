@@ -6,6 +6,7 @@ ghost use Rattle.dbc_advice.specs.Names.{IsSetOf};
 use std::alloc::AllocError;
 
 /// Keys in ascending order.
+#[derive(Drop)]
 pub(crate) struct KeySet<K> {
     sorted: Vec<K>,
 }
@@ -29,11 +30,5 @@ impl<K: Ord> KeySet<K> {
             Ok(_) => true,
             Err(_) => false,
         }
-    }
-}
-
-impl<K: Drop> Drop for KeySet<K> {
-    fn drop(self) {
-        let KeySet { sorted: _sorted } = self;
     }
 }

@@ -1,6 +1,6 @@
 //! What is stated of statements that are skipped: those that cite what isn't in the file one by one, the others kind by
 //! kind.
-ghost use Rattle.std.specs.Prelude.{◌≡◌, ◌≤◌, IfOk, codes, length, option_map, string_bytes};
+ghost use Rattle.std.specs.Prelude.{◌≡◌, IfOk, codes, option_map, string_bytes};
 ghost use Rattle.dbc_advice.specs.Citation.{cited_of};
 ghost use Rattle.dbc_advice.specs.LeftOut.{ArePartedFrom, count_text, has_keyword, kind_count, kinds_text};
 ghost use Rattle.dbc_advice.specs.LeftOut.{left_out, line_after, missing_at, missing_line, passed_label, passed_line};
@@ -126,6 +126,7 @@ fn count_text(alloc: Global, count: usize) -> Result<String, AllocError>
 }
 
 /// What is reported one by one, and the statements that are left.
+#[derive(Drop)]
 struct Parts {
     /// A line for each of the first of those that cite what isn't in the file.
     lines: Vec<u8>,
@@ -220,14 +221,4 @@ pub fn left_out(alloc: Global, source: Source, reading: &Reading) -> Result<Vec<
     let more = more_missing(alloc, source.name, parted.missing)?;
     let kinds = kind_lines(alloc, source, &parted.others)?;
     concat(alloc, &[&parted.lines, &more, &kinds])
-}
-
-impl Drop for Parts {
-    fn drop(self) {
-        let Parts {
-            lines: _lines,
-            missing: _missing,
-            others: _others,
-        } = self;
-    }
 }

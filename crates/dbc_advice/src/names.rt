@@ -20,6 +20,7 @@ use std::alloc::{AllocError, Global};
 type Key<'s> = (u32, &'s [u8]);
 
 /// The names of the nodes of a sheet, and the keys of its signals.
+#[derive(Drop)]
 pub(crate) struct Names<'s> {
     nodes: KeySet<&'s [u8]>,
     signals: KeySet<Key<'s>>,
@@ -88,14 +89,5 @@ impl Names<'_> {
             (message_at s.messages number) false }
     {
         self.signals.has(&(number, name))
-    }
-}
-
-impl Drop for Names<'_> {
-    fn drop(self) {
-        let Names {
-            nodes: _nodes,
-            signals: _signals,
-        } = self;
     }
 }

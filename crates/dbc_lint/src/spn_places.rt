@@ -10,6 +10,7 @@ use std::collections::BTreeMap;
 use std::marker::Model;
 
 /// A signal and its message. Contracts see it as the pair of the message and the signal.
+#[derive(Drop)]
 pub(crate) struct Place<'a> {
     pub(crate) message: &'a Message,
     pub(crate) signal: &'a Signal,
@@ -21,15 +22,6 @@ impl<'a> Model for Place<'a> {
     ghost Value = { PlaceModel };
 
     ghost view = { λ place. (place.message.now, place.signal.now) };
-}
-
-impl Drop for Place<'_> {
-    fn drop(self) {
-        let Place {
-            message: _message,
-            signal: _signal,
-        } = self;
-    }
 }
 
 /// The first place of each suspect parameter number.

@@ -25,6 +25,7 @@ use page_parts::{Checked, Letters, Marks, Subject, put_dot};
 use std::alloc::{AllocError, Global};
 
 /// What the page of a network shows beside the network itself.
+#[derive(Drop)]
 struct Shown<'a> {
     /// What is seen of it.
     view: &'a View,
@@ -38,19 +39,6 @@ struct Shown<'a> {
     spns: &'a SpnRows<'a>,
     /// What a check of its sheet finds.
     checked: &'a Checked,
-}
-
-impl Drop for Shown<'_> {
-    fn drop(self) {
-        let Shown {
-            view: _view,
-            subject: _subject,
-            changes: _changes,
-            marks: _marks,
-            spns: _spns,
-            checked: _checked,
-        } = self;
-    }
 }
 
 /// What differs between the last release and the live sheet; nothing before the first release.

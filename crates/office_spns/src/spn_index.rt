@@ -9,6 +9,7 @@ use std::alloc::{AllocError, Global};
 use std::marker::Model;
 
 /// A signal and its message. Contracts see it as the pair of the message and the signal.
+#[derive(Drop)]
 pub struct SpnPlace<'a> {
     message: &'a Message,
     signal: &'a Signal,
@@ -41,15 +42,6 @@ impl<'a> SpnPlace<'a> {
         ensures { result ≡ spn_at self.now }
     {
         self.signal.spn.number()
-    }
-}
-
-impl Drop for SpnPlace<'_> {
-    fn drop(self) {
-        let SpnPlace {
-            message: _message,
-            signal: _signal,
-        } = self;
     }
 }
 

@@ -1,11 +1,11 @@
 //! Which nodes must act, since what they receive breaks.
-ghost use Rattle.std.specs.Prelude.{◌≡◌, ◌≤◌, ◌++◌, IfOk, OnOk, filter, length, map};
+ghost use Rattle.std.specs.Prelude.{◌≡◌, ◌≤◌, ◌++◌, IfOk, OnOk, length, map};
 ghost use Rattle.std.specs.List.{flat_map, list_any, prefix_len};
 ghost use Rattle.std.specs.Option.{option_copied};
 ghost use Rattle.dbc_compare.specs.List.{breaks};
 ghost use Rattle.markup.specs.Writing.{Becomes, adding};
 ghost use Rattle.page_changes.specs.Act.{AreByNode, IsActTable, Lost, act_html, after_point, breaking_words};
-ghost use Rattle.page_changes.specs.Act.{first_node, is_meant, is_one_node, is_one_thing, losses_at, losses_in};
+ghost use Rattle.page_changes.specs.Act.{first_node, is_meant, is_one_node, is_one_thing, losses_at};
 ghost use Rattle.page_changes.specs.Act.{losses_of, lost_at, lost_item, node_html, node_row, or_nobody};
 ghost use Rattle.page_changes.specs.Act.{receivers_if, receivers_of, rows_table, same_name, signal_of, things_of};
 ghost use Rattle.page_changes.specs.Changes.{changes_in, list_of};
@@ -29,6 +29,7 @@ const HEADS: &[&[u8]] = &[b"Node", b"What breaks"];
 
 /// A node, and differences of one thing that it receives, a message or a signal. Contracts see it as the pair of the
 /// node's name and the differences.
+#[derive(Drop)]
 struct Loss<'a> {
     /// The node; without bytes where none is named.
     node: &'a [u8],
@@ -59,15 +60,6 @@ impl<'a> Loss<'a> {
         ensures { result.now ≡ self.now.1 }
     {
         self.thing
-    }
-}
-
-impl Drop for Loss<'_> {
-    fn drop(self) {
-        let Loss {
-            node: _node,
-            thing: _thing,
-        } = self;
     }
 }
 

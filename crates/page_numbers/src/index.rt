@@ -35,6 +35,7 @@ pub(crate) fn number_of(form: BlockForm, ident: Ident) -> Option<u32>
 }
 
 /// A message with its owner, and its number of a form. Contracts see it as the pair of the number and the message.
+#[derive(Drop)]
 pub(crate) struct Place<'a> {
     number: u32,
     message: &'a Message,
@@ -67,16 +68,6 @@ impl<'a> Place<'a> {
     /// Whose the message is; without bytes where that isn't known.
     pub(crate) fn owner(&self) -> &'a [u8] {
         self.owner
-    }
-}
-
-impl Drop for Place<'_> {
-    fn drop(self) {
-        let Place {
-            number: _number,
-            message: _message,
-            owner: _owner,
-        } = self;
     }
 }
 

@@ -123,22 +123,12 @@ fn head_of(alloc: Global, chart: Chart, number: u32) -> Markup {
 // ---- rows
 
 /// What the cells of a chart are found by.
+#[derive(Drop)]
 struct ChartFacts<'c> {
     chart: Chart,
     index: &'c FormIndex<'c>,
     blocks: &'c Blocks<'c>,
     letters: &'c Letters<'c>,
-}
-
-impl Drop for ChartFacts<'_> {
-    fn drop(self) {
-        let ChartFacts {
-            chart: _chart,
-            index: _index,
-            blocks: _blocks,
-            letters: _letters,
-        } = self;
-    }
 }
 
 /// Adds the cells of the row that has the number.

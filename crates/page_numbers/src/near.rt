@@ -92,6 +92,7 @@ fn blocks_near(
 
 /// Granted blocks, of which those near a number are found by binary search where they are in order. Contracts see them
 /// as the list of them.
+#[derive(Drop)]
 pub(crate) struct Blocks<'a> {
     blocks: &'a [GrantedBlock],
     is_ordered: bool,
@@ -153,14 +154,5 @@ impl<'a> Blocks<'a> {
         ensures { result ≡ is_some (team_at self.now form number) }
     {
         self.team_at(form, number).is_some()
-    }
-}
-
-impl Drop for Blocks<'_> {
-    fn drop(self) {
-        let Blocks {
-            blocks: _blocks,
-            is_ordered: _is_ordered,
-        } = self;
     }
 }

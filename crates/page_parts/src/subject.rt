@@ -9,6 +9,7 @@ use office_types::GrantedBlock;
 
 /// What a page is of: a live network, or a sheet alone (a release, or a file). Of a sheet alone the letters are of the
 /// nodes that send, and it has no blocks and no held numbers.
+#[derive(Drop)]
 pub struct Subject<'a> {
     /// The network's name, or the file's.
     pub name: &'a [u8],
@@ -45,20 +46,5 @@ impl<'a> Subject<'a> {
             Some(owner) => owner,
             None => b"",
         }
-    }
-}
-
-impl Drop for Subject<'_> {
-    fn drop(self) {
-        let Subject {
-            name: _name,
-            sheet: _sheet,
-            owners: _owners,
-            letters: _letters,
-            blocks: _blocks,
-            held: _held,
-            is_j1939: _is_j1939,
-            is_alone: _is_alone,
-        } = self;
     }
 }

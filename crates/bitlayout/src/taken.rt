@@ -1,12 +1,10 @@
 //! The positions of the places of a list, as masks.
-ghost use Rattle.std.specs.Prelude.{◌≡◌, ℕ, ◌+◌, ◌<◌, ◌↔◌, ◌⊎◌, ◌++◌, ◌∷◌, [], true, Some, IsTrue, IfSome, List};
+ghost use Rattle.std.specs.Prelude.{◌≡◌, ℕ, ◌+◌, ◌<◌, ◌↔◌, ◌++◌, ◌∷◌, [], true, Some, IsTrue, IfSome, List};
 ghost use Rattle.bitlayout.specs.declared.layout.Layout.{Layout};
 ghost use Rattle.bitlayout.specs.declared.mask.TheConstants.{MASK_BYTES};
 ghost use Rattle.bitlayout.specs.declared.place.Mux.TheVariants.{Under};
 ghost use Rattle.bitlayout.specs.declared.place.Place.{Place};
 ghost use Rattle.bitlayout.specs.Bits.{IsInside};
-ghost use Rattle.bitlayout.specs.Mask.{mask_end, Has, StripHas};
-ghost use Rattle.bitlayout.specs.Mux.{meets};
 ghost use Rattle.bitlayout.specs.Taken.{IsStripOf, CoversMore, IsTakenBy, Collides, is_present_at};
 
 use crate::mask::{Mask, Strip, strip_of};

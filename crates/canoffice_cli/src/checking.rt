@@ -1,5 +1,5 @@
 //! Checking DBC texts.
-ghost use Rattle.std.specs.Prelude.{◌≡◌, ◌∷◌, [], IfOk, map};
+ghost use Rattle.std.specs.Prelude.{◌≡◌, [], IfOk, map};
 ghost use Rattle.std.specs.Option.{option_map};
 ghost use Rattle.canoffice_cli.specs.Checked.{IsCheckedOutcome, IsJudged, IsLintedCheck, IsPlainCheck, IsRemarkedCheck};
 ghost use Rattle.canoffice_cli.specs.Checked.{IsSheetCheck, clear_kind, fault_line, fault_kind, listed, passed_kind};

@@ -1,5 +1,5 @@
 //! Sending a script to a desk.
-ghost use Rattle.std.specs.Prelude.{◌≡◌, ◌∷◌, length, List, IfOk, IfSome, OnErr};
+ghost use Rattle.std.specs.Prelude.{◌≡◌, length, List, IfOk, IfSome, OnErr};
 ghost use Rattle.std.specs.List.{AllZip};
 ghost use Rattle.desk_send.specs.Desks.{TakesNone};
 ghost use Rattle.desk_send.specs.Request.{IsSentAs};

@@ -1,5 +1,5 @@
 //! Bytes as words of a line.
-ghost use Rattle.std.specs.Prelude.{◌≡◌, ◌++◌, IfOk, OnOk, OnErr};
+ghost use Rattle.std.specs.Prelude.{◌≡◌, ◌++◌, IfOk, OnOk};
 ghost use Rattle.columns.specs.Word.{escape, escaped, is_plain, later_words, rest, shown, shown_byte, word, words};
 
 use crate::padding::filled;

@@ -1,5 +1,5 @@
 //! All that is reported of a file.
-ghost use Rattle.std.specs.Prelude.{◌≡◌, ◌≤◌, IfOk, length};
+ghost use Rattle.std.specs.Prelude.{◌≡◌, IfOk};
 ghost use Rattle.dbc_advice.specs.Explained.{AreFaultLines, IsExplained, IsFaultLine, IsRest, IsStatedOfSheet};
 ghost use Rattle.dbc_advice.specs.Explained.{count_line, ending_text, fault_word};
 

@@ -1,5 +1,5 @@
 //! Pieces of a text, read by themselves.
-ghost use Rattle.std.specs.Prelude.{◌≡◌, ◌≤◌, IfOk, length};
+ghost use Rattle.std.specs.Prelude.{◌≡◌, IfOk};
 ghost use Rattle.dbc_words.specs.declared.keyword.Keyword.TheVariants.{Signal};
 ghost use Rattle.dbc_grammar.specs.Fields.{is_key, key_of};
 ghost use Rattle.dbc_grammar.specs.Lexing.{lexed};

@@ -1,5 +1,5 @@
 //! Lines and columns, counted on.
-ghost use Rattle.std.specs.Prelude.{◌≡◌, ◌==◌, ◌+◌, ◌≤◌, length, slice_range, take};
+ghost use Rattle.std.specs.Prelude.{◌≡◌, ◌==◌, ◌+◌, ◌≤◌, length, take};
 ghost use Rattle.std.specs.List.{count_by, suffix_len};
 ghost use Rattle.dbc_advice.specs.Lines.{in_line, line_feed};
 ghost use Rattle.dbc_advice.specs.Position.{position_at};

@@ -1,5 +1,5 @@
 //! Remarks on a message itself.
-ghost use Rattle.std.specs.Prelude.{◌≡◌, ◌++◌, ◌∷◌, OnOk, find, option_map};
+ghost use Rattle.std.specs.Prelude.{◌≡◌, ◌++◌, OnOk, find};
 ghost use Rattle.std.specs.Option.{option_copied};
 ghost use Rattle.can_id.specs.J1939.{ident_fields};
 ghost use Rattle.dbc_lint.specs.OfMessage.{address_twice, first_sender, is_long_frame, is_sent_from, is_standard};

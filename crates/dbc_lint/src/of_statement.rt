@@ -1,8 +1,8 @@
 //! Remarks on what a statement defines.
-ghost use Rattle.std.specs.Prelude.{◌≡◌, ◌++◌, IfOk, OnOk};
+ghost use Rattle.std.specs.Prelude.{◌≡◌, ◌++◌, OnOk};
 ghost use Rattle.std.specs.Option.{option_copied};
-ghost use Rattle.dbc_statements.specs.Statement.{content_of, names_of, statement_of};
-ghost use Rattle.dbc_lint.specs.OfFile.{of_described, of_names, of_signals, of_statement, tokens_at};
+ghost use Rattle.dbc_statements.specs.Statement.{names_of, statement_of};
+ghost use Rattle.dbc_lint.specs.OfFile.{of_described, of_names, of_signals, of_statement};
 ghost use Rattle.dbc_lint.specs.OfTable.{of_table};
 
 use crate::kind::Kind;

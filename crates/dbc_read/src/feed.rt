@@ -1,5 +1,5 @@
 //! Values that are handed out one by one, such as those that statements attach to signals.
-ghost use Rattle.std.specs.Prelude.{◌≡◌, [], drop};
+ghost use Rattle.std.specs.Prelude.{◌≡◌, drop};
 ghost use Rattle.dbc_read.specs.Built.{first_or};
 
 use base::Items;

@@ -1,6 +1,6 @@
 //! The keys of the nodes, messages and signals of the statements, by kind and in their order.
-ghost use Rattle.std.specs.Prelude.{◌≡◌, ◌++◌, List, IfOk, OnOk, map};
-ghost use Rattle.dbc_grammar.specs.Saying.{keys_of, messages_of, node_names_of};
+ghost use Rattle.std.specs.Prelude.{◌≡◌, ◌++◌, IfOk, OnOk, map};
+ghost use Rattle.dbc_grammar.specs.Saying.{keys_of};
 ghost use Rattle.dbc_grammar.specs.Statement as dbc;
 ghost use Rattle.dbc_read.specs.Keys.{AreKeys, key_of, text_of};
 ghost use Rattle.dbc_statements.specs.Statement.{message_of, names_of, statements_of};

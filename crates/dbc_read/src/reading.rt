@@ -8,7 +8,7 @@ ghost use Rattle.dbc_lex.specs.declared.fault.ReadCode.TheVariants.{Memory};
 ghost use Rattle.dbc_read.specs.Attaching.{in_signals};
 ghost use Rattle.dbc_read.specs.Gathering.{IsOfText};
 ghost use Rattle.dbc_read.specs.Passed.{start_and_keyword};
-ghost use Rattle.dbc_read.specs.Reading.{CanNeverBeSheet, HasFault, ReadsAsNothing};
+ghost use Rattle.dbc_read.specs.Reading.{HasFault, ReadsAsNothing};
 ghost use Rattle.dbc_read.specs.declared.refusal.Refusal.TheVariants.{NoSheet};
 ghost use Rattle.dbc_statements.specs.Division.{HasNoDivision, TokensComeFirst};
 

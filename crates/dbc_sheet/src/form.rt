@@ -2,7 +2,7 @@
 //!
 //! A part keeps its form by its type. The prover learns the form of a part from a call on the part, so it learns that
 //! of a whole sheet from a walk over its parts. The walk computes nothing and returns nothing.
-ghost use Rattle.std.specs.Prelude.{◌≡◌, All, IfSome};
+ghost use Rattle.std.specs.Prelude.{All};
 ghost use Rattle.dbc_words.specs.Name.{IsName};
 ghost use Rattle.dbc_words.specs.Text.{IsText};
 ghost use Rattle.dbc_sheet.specs.Form.{IsLayout, IsMux, IsNode, IsSheet, IsValueText, KeepsMessage, KeepsSignal};

@@ -2,15 +2,13 @@
 ghost use Rattle.std.specs.Prelude.{◌≡◌, [], ℕ, Option, None, Some, if◌then◌else◌, ◌==◌, length, nat_le, false};
 ghost use Rattle.std.specs.Prelude.{IfErr, IfOk, OnOk, OnErr};
 ghost use Rattle.std.specs.Option.{option_copied};
-ghost use Rattle.std.specs.List.{IsDistinct};
 ghost use Rattle.std.specs.List.Sorted.{IsStrictlySortedBy};
 ghost use Rattle.base.specs.Keyed.{put};
 ghost use Rattle.base.specs.Refusing.{first_refusal};
 ghost use Rattle.base.specs.Ascending.{IsAt, IsGap};
 ghost use Rattle.dbc_words.specs.Fault.{IsRefusal};
 ghost use Rattle.dbc_words.specs.Limits.{message_limit};
-ghost use Rattle.dbc_words.specs.Named.{has_name};
-ghost use Rattle.dbc_sheet.specs.Messages.{AreMessages, by_number, message_at, message_name, message_tests};
+ghost use Rattle.dbc_sheet.specs.Messages.{AreMessages, by_number, message_at, message_tests};
 ghost use Rattle.dbc_sheet.specs.Messages.{number_of, without_number};
 
 use crate::message::Message;

@@ -1,5 +1,5 @@
 //! The nodes that receive a signal.
-ghost use Rattle.std.specs.Prelude.{◌≡◌, ◌++◌, ◌∷◌, [], IfOk, OnOk, OnErr};
+ghost use Rattle.std.specs.Prelude.{◌≡◌, ◌++◌, ◌∷◌, [], OnOk, OnErr};
 
 use base::{Copying, duplicates};
 use dbc_words::Name;

@@ -1,5 +1,5 @@
 //! What statements attach to signals: texts for their values, types, and suspect parameter numbers.
-ghost use Rattle.std.specs.Prelude.{◌≡◌, IfOk};
+ghost use Rattle.std.specs.Prelude.{IfOk};
 ghost use Rattle.dbc_grammar.specs.Fields as fields;
 ghost use Rattle.dbc_grammar.specs.Parsing.{either_at, or_else, passed_value_texts_at, skipped_at, spn_at};
 ghost use Rattle.dbc_grammar.specs.Parsing.{value_texts_at, value_type_at};

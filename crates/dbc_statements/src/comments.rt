@@ -1,5 +1,5 @@
 //! Comments.
-ghost use Rattle.std.specs.Prelude.{◌≡◌, IfOk};
+ghost use Rattle.std.specs.Prelude.{IfOk};
 ghost use Rattle.dbc_grammar.specs.Fields as fields;
 ghost use Rattle.dbc_grammar.specs.Parsing.{comment_at, file_comment_at, message_comment_at, node_comment_at};
 ghost use Rattle.dbc_grammar.specs.Parsing.{signal_comment_at};

@@ -1,5 +1,5 @@
 //! Messages with their signals.
-ghost use Rattle.std.specs.Prelude.{◌≡◌, IfOk};
+ghost use Rattle.std.specs.Prelude.{IfOk};
 ghost use Rattle.dbc_grammar.specs.Fields as fields;
 ghost use Rattle.dbc_grammar.specs.Parsing.{either_at, independent_at, message_at};
 ghost use Rattle.dbc_grammar.specs.Rules.{begins};

@@ -1,5 +1,5 @@
 //! The signals of a message.
-ghost use Rattle.std.specs.Prelude.{◌≡◌, [], ◌∷◌, IfErr, IfOk, None, OnOk, Some, codes};
+ghost use Rattle.std.specs.Prelude.{◌≡◌, IfErr, IfOk, None, OnOk, Some, codes};
 ghost use Rattle.dbc_words.specs.declared.keyword.Keyword.TheVariants.{Signal as SignalWord};
 ghost use Rattle.dbc_grammar.specs.Fields as fields;
 ghost use Rattle.dbc_grammar.specs.Parsing.{token_at, optional_at, mark_at, signal_at, signals_at};

@@ -1,6 +1,5 @@
 //! The words that DBC text reserves.
 ghost use Rattle.std.specs.Prelude.{◌≡◌, Some, find, IfSome};
-ghost use Rattle.std.specs.Str.{bytes_eq};
 ghost use Rattle.dbc_words.specs.Keyword.{keyword_of, ends_keyword};
 
 /// A word that DBC text reserves (Vector's DBC File Format Documentation, the keywords of its statements).

@@ -1,7 +1,6 @@
 //! The index of the names of a list. A short list has none: its names are compared one by one, which takes neither a
 //! copy of each name nor more time than a look-up.
-ghost use Rattle.std.specs.Prelude.{◌≡◌, ◌&&◌, ◌||◌, ℕ, List, Bool, Decides, None, Some, option_map, not, IfOk, OnOk};
-ghost use Rattle.std.specs.Prelude.{OnErr};
+ghost use Rattle.std.specs.Prelude.{◌≡◌, ◌&&◌, ◌||◌, Decides, None, Some, option_map, not, IfOk, OnOk, OnErr};
 ghost use Rattle.std.specs.Str.{bytes_eq};
 ghost use Rattle.dbc_words.specs.Named.{AreNamedApart, HasNamesOf, IsIndexBy, IsIndexIff, IsNameIndex, has_name};
 

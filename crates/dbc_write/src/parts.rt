@@ -1,6 +1,6 @@
 //! The text of a sheet by parts, for a text in which other statements stand between them. Together, in this order, they
 //! are the whole text.
-ghost use Rattle.std.specs.Prelude.{◌∷◌, ◌++◌, [], OnOk};
+ghost use Rattle.std.specs.Prelude.{◌∷◌, [], OnOk};
 ghost use Rattle.dbc_grammar.specs.Canon.{each_signal, line_text, spn_default, spn_definition, spn_lines, type_lines};
 ghost use Rattle.dbc_grammar.specs.Canon.{value_lines};
 ghost use Rattle.dbc_write.specs.Adding.{Adds};

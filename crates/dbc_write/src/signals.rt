@@ -1,5 +1,5 @@
 //! The line of a signal.
-ghost use Rattle.std.specs.Prelude.{◌≡◌, ◌∷◌, [], OnOk};
+ghost use Rattle.std.specs.Prelude.{◌∷◌, [], OnOk};
 ghost use Rattle.dbc_grammar.specs.Canon.{layout_pieces, line_text, mux_pieces, pair, receiver_pieces, signal_line};
 ghost use Rattle.dbc_write.specs.Adding.{Adds, piece_text};
 

@@ -1,5 +1,5 @@
 //! Reading a decimal.
-ghost use Rattle.std.specs.Prelude.{◌≡◌, ◌+◌, ◌^◌, ◌<◌, length, drop, Result};
+ghost use Rattle.std.specs.Prelude.{◌≡◌, ◌+◌, ◌^◌, ◌<◌, length, Result};
 ghost use Rattle.decimal.specs.Spelling.{IsNumberToken, bytes_of, signed};
 ghost use Rattle.decimal.specs.Cutting.{spelling};
 ghost use Rattle.decimal.specs.Reading.{ReadsNumber};

@@ -1,8 +1,7 @@
 //! Replies as JSON.
-ghost use Rattle.std.specs.Prelude.{◌≡◌, IfOk, codes, false};
+ghost use Rattle.std.specs.Prelude.{◌≡◌, IfOk, codes};
 ghost use Rattle.serde_json.specs.View.{items_view, view};
 ghost use Rattle.serde_json.specs.Data.{array, member, no_members, object};
-ghost use Rattle.serde_json.specs.Written.{has_float};
 ghost use Rattle.desk_reply.specs.Reply.{answer_data, fault_data, part_data, parts_data, problem_data, refusal_data};
 ghost use Rattle.desk_reply.specs.Reply.{refused_data, reply_data};
 

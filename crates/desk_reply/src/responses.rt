@@ -2,7 +2,7 @@
 ghost use Rattle.std.specs.Prelude.{◌≡◌, IfOk, false, string_bytes};
 ghost use Rattle.serde_json.specs.View.{view};
 ghost use Rattle.serde_json.specs.Written.{compact_text, has_float};
-ghost use Rattle.desk_reply.specs.Reply.{answer_data, answer_status, refusal_status, reply_status};
+ghost use Rattle.desk_reply.specs.Reply.{answer_data, answer_status, reply_status};
 ghost use Rattle.desk_reply.specs.Response.{answer_response, json_response, problem_response, text_response};
 ghost use Rattle.desk_types.specs.Problem.{problem_status};
 

@@ -1,5 +1,5 @@
 //! The fields of each action, as members of an object, in the order of the table.
-ghost use Rattle.std.specs.Prelude.{◌≡◌, [], ◌∷◌};
+ghost use Rattle.std.specs.Prelude.{◌≡◌};
 ghost use Rattle.serde_json.specs.View.{members_view};
 ghost use Rattle.decimal.specs.Printing as printed;
 ghost use Rattle.office_fields.specs.declared.field.Field.TheVariants as field;

@@ -1,7 +1,6 @@
 //! What came first under a pair of team and key.
 ghost use Rattle.std.specs.Prelude.{◌≡◌, List, map, None, Some, IfOk};
 ghost use Rattle.std.specs.Option.{MatchOption};
-ghost use Rattle.office_types.specs.declared.reply.Reply.{Reply as ReplyModel};
 ghost use Rattle.office_history.specs.declared.arrival.Answer.TheVariants as answer;
 ghost use Rattle.office_history.specs.History.{Answered, answer_again, first_arrivals, first_of};
 ghost use Rattle.office.specs.Keyed.{entry_kept, kept_of};

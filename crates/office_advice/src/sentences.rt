@@ -1,7 +1,7 @@
 //! What is stated of a wrong line: one sentence.
 ghost use Rattle.std.specs.Prelude.{◌≡◌, IfOk, string_bytes};
 ghost use Rattle.office_advice.specs.declared.cause.Cause.TheVariants as why;
-ghost use Rattle.office_advice.specs.Sentence.{apart_text, block_range, block_text, field_name, has_carriage_return};
+ghost use Rattle.office_advice.specs.Sentence.{apart_text, block_range, block_text, has_carriage_return};
 ghost use Rattle.office_advice.specs.Sentence.{hint_of, is_text, key_meaning, meaning_of, sentence_of};
 
 use crate::cause::{Cause, LineCommand};

@@ -3,7 +3,7 @@ ghost use Rattle.std.specs.Prelude.{◌≡◌, IfOk};
 ghost use Rattle.office_fields.specs.Field.{row_of};
 ghost use Rattle.office_fields.specs.Given.{named_value, named_values};
 ghost use Rattle.office_advice.specs.Cause.{apart_wrong, field_cause, field_named, first_field, index_of, is_given};
-ghost use Rattle.office_advice.specs.Cause.{is_missing, may_repeat, missing_field, must_be_given, named_cause};
+ghost use Rattle.office_advice.specs.Cause.{is_missing, may_repeat, missing_field, must_be_given};
 ghost use Rattle.office_advice.specs.Cause.{tied_field, tied_of, value_cause, value_wrong, values_wrong};
 
 use crate::cause::{Cause, LineCommand, Wrong};

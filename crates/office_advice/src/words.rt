@@ -1,5 +1,5 @@
 //! The words of a line, and where they are.
-ghost use Rattle.std.specs.Prelude.{◌≡◌, ◌≤◌, ◌+◌, ◌<◌, ◌∷◌, length, MatchOption, IfSome};
+ghost use Rattle.std.specs.Prelude.{◌≡◌, ◌≤◌, ◌+◌, ◌<◌, ◌∷◌, length, MatchOption};
 ghost use Rattle.office_script.specs.Words.{words_after, words_of};
 ghost use Rattle.office_advice.specs.Words.{offset_of, word_of};
 

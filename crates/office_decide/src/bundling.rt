@@ -1,9 +1,8 @@
 //! Deciding a bundle: its parts one after the other, each on what the earlier ones left.
-ghost use Rattle.std.specs.Prelude.{◌≡◌, ◌++◌, ◌+◌, ◌∷◌, [], IfOk, OnOk};
+ghost use Rattle.std.specs.Prelude.{◌≡◌, ◌++◌, ◌+◌, IfOk, OnOk};
 ghost use Rattle.std.specs.Option.{option_copied};
-ghost use Rattle.office_types.specs.Reply.{part_reply};
 ghost use Rattle.office_rules.specs.Bundling.{bundle_outcome};
-ghost use Rattle.office_rules.specs.Change.{Decides, all_applied};
+ghost use Rattle.office_rules.specs.Change.{Decides};
 ghost use Rattle.office_rules.specs.Commands.{parts_done};
 ghost use Rattle.office_decide.specs.Bundled.{IsPartDecided, refusal_in};
 

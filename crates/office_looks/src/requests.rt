@@ -1,6 +1,6 @@
 //! The requests of a team.
 ghost use Rattle.std.specs.Prelude.{◌≡◌, ◌++◌, ◌∷◌, ◌==◌, [], IfOk, OnOk, codes, count_by, decimal, string_bytes};
-ghost use Rattle.std.specs.List.{before_first, flat_map};
+ghost use Rattle.std.specs.List.{before_first};
 ghost use Rattle.office_types.specs.Reply.{part_text};
 ghost use Rattle.office_looks.specs.Looks.{list_in};
 ghost use Rattle.office_looks.specs.Requests.{asked, content_front, is_refused, part_row, part_rows, request_rows};

@@ -1,5 +1,5 @@
 //! Opening a network.
-ghost use Rattle.std.specs.Prelude.{◌≡◌, ℕ, List, IfOk, None, Some};
+ghost use Rattle.std.specs.Prelude.{ℕ, List, IfOk, None, Some};
 ghost use Rattle.office_types.specs.declared.book.SpnBook.{SpnBook};
 ghost use Rattle.office_types.specs.declared.command.OpenNet.{OpenNet as OpenNetModel};
 ghost use Rattle.office_types.specs.declared.state.Net.{Net};

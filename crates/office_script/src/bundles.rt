@@ -1,8 +1,6 @@
 //! The parts of a bundle, as a file has them.
-ghost use Rattle.std.specs.Prelude.{◌≡◌};
 ghost use Rattle.office_fields.specs.Kind.{action_of_word};
 ghost use Rattle.office_fields.specs.Reading.{ReadsField};
-ghost use Rattle.office_fields.specs.Requested.{are_parts};
 ghost use Rattle.office_script.specs.Bundles.{part_by, part_of_words, parts_in, parts_of_lines};
 ghost use Rattle.office_script.specs.Lines.{lines_of};
 ghost use Rattle.office_script.specs.Words.{words_after, words_of};

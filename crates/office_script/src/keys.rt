@@ -1,5 +1,4 @@
 //! The keys of lines.
-ghost use Rattle.std.specs.Prelude.{◌≡◌};
 ghost use Rattle.office_fields.specs.Reading.{ReadsField};
 ghost use Rattle.office_script.specs.Keys.{key_from, key_of};
 

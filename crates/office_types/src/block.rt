@@ -1,5 +1,5 @@
 //! Blocks of numbers, and the form that the numbers of a granted block have.
-ghost use Rattle.std.specs.Prelude.{◌≡◌, ◌≤◌, SomeIff};
+ghost use Rattle.std.specs.Prelude.{◌≡◌, SomeIff};
 
 use can_id::IdentForm;
 use dbc_words::SPN_LIMIT;

@@ -1,6 +1,6 @@
 //! The allocator: the least free number of some blocks.
-ghost use Rattle.std.specs.Prelude.{◌≡◌, ℕ, ◌+◌, ◌*◌, ◌^◌, ◌<◌, ◌≤◌, ◌↔◌, ◌∷◌, [], ◌&&◌, ◌==◌, nat_le, nat_lt};
-ghost use Rattle.std.specs.Prelude.{IsTrue, IfSome, List, length, slice_index};
+ghost use Rattle.std.specs.Prelude.{◌≡◌, ℕ, ◌+◌, ◌*◌, ◌^◌, ◌<◌, ◌≤◌, ◌↔◌, ◌∷◌, [], ◌&&◌, ◌==◌, nat_le};
+ghost use Rattle.std.specs.Prelude.{IsTrue, IfSome, List, length};
 ghost use Rattle.std.specs.List.Sorted.{IsStrictlyIncreasing};
 ghost use Rattle.office_types.specs.Free.{has_form, greatest_number, lesser_of, IsLeastFree, IsNextFormed, IsNextOf};
 ghost use Rattle.office_types.specs.Free.{SplitsAt, least_free};

@@ -1,9 +1,9 @@
 //! What has become of each message of the live network.
-ghost use Rattle.std.specs.Prelude.{◌≡◌, IfOk, OnOk, map};
-ghost use Rattle.std.specs.List.{filter_map, list_any};
+ghost use Rattle.std.specs.Prelude.{◌≡◌, IfOk, map};
+ghost use Rattle.std.specs.List.{list_any};
 ghost use Rattle.page_changes.specs.Changes.{AreByNumber, changes_in};
 ghost use Rattle.page_changes.specs.Fates.{state_in, state_of};
-ghost use Rattle.page_changes.specs.Marks.{AreMarks, IsMark, changed_by, changed_signals, has_messages, signals_in};
+ghost use Rattle.page_changes.specs.Marks.{AreMarks, IsMark, changed_by, has_messages, signals_in};
 ghost use Rattle.page_changes.specs.Names.{text_of};
 ghost use Rattle.page_changes.specs.Releases.{releases_of};
 

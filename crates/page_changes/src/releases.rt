@@ -4,7 +4,7 @@ ghost use Rattle.std.specs.Option.{option_copied};
 ghost use Rattle.markup.specs.Writing.{Becomes, adding};
 ghost use Rattle.page_changes.specs.Releases.{before_at, breaking_cell, breaking_since, count_cells, counts_since, more_note};
 ghost use Rattle.page_changes.specs.Releases.{head_cell, more_releases, release_row, release_rows, release_table, releases_html};
-ghost use Rattle.page_changes.specs.Releases.{releases_part, row_back, row_of, signed_cell};
+ghost use Rattle.page_changes.specs.Releases.{releases_part, row_of, signed_cell};
 
 use crate::words::put_breaking;
 use dbc_compare::{breaking_count, differences};

@@ -1,11 +1,11 @@
 //! Lists as lines.
-ghost use Rattle.std.specs.Prelude.{◌≡◌, ◌++◌, ◌∷◌, [], IfOk, OnOk, map, string_bytes};
+ghost use Rattle.std.specs.Prelude.{◌≡◌, ◌++◌, [], IfOk, OnOk, map, string_bytes};
 ghost use Rattle.std.specs.Option.{option_copied, option_map};
 ghost use Rattle.columns.specs.Word.{later_words as more_words, rest, words};
 ghost use Rattle.rows.specs.Fact.{fact_of, name_of};
 ghost use Rattle.rows.specs.Lines.{after, change_text, counted, digits_text, fact_text, first_runs, ident_text};
 ghost use Rattle.rows.specs.Lines.{later_words, layout_text, line_text, mark_text, mux_text, name_words};
-ghost use Rattle.rows.specs.Lines.{kind_text, path_text, points, set_in, set_text, spaced, table_text, upright_text};
+ghost use Rattle.rows.specs.Lines.{kind_text, path_text, points, set_in, set_text, table_text, upright_text};
 
 use crate::cell::{Cell, Column, Name, Place};
 use crate::table::{Kind, Table};

@@ -1,5 +1,5 @@
 //! Looking things up.
-ghost use Rattle.std.specs.Prelude.{◌≡◌, List, IfOk, OnOk};
+ghost use Rattle.std.specs.Prelude.{List, IfOk, OnOk};
 ghost use Rattle.office_types.specs.declared.state.Office.{Office as Whole};
 ghost use Rattle.office_history.specs.History.{Answered, IsLegal};
 ghost use Rattle.store.specs.Calls.{HoldsOnErr, HoldsOnOk, IsOfficeCall, IsSettled, KeepsDoubt, KeepsStatistics};

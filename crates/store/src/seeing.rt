@@ -1,5 +1,5 @@
 //! Reading a network of an office, to report why it refused a command.
-ghost use Rattle.std.specs.Prelude.{◌≡◌, List, IfOk};
+ghost use Rattle.std.specs.Prelude.{List, IfOk};
 ghost use Rattle.office_types.specs.declared.state.Office.{Office as Whole};
 ghost use Rattle.office_history.specs.History.{Answered, IsLegal};
 ghost use Rattle.store.specs.Calls.{HoldsOnErr, HoldsOnOk, IsOfficeCall, IsSettled, KeepsDoubt, KeepsStatistics};

@@ -1,8 +1,7 @@
 //! What is seen of a network.
-ghost use Rattle.std.specs.Prelude.{◌≡◌, ◌⊎◌, [], map, filter, IfOk, None, OnOk};
+ghost use Rattle.std.specs.Prelude.{◌≡◌, ◌⊎◌, [], map, IfOk, None};
 ghost use Rattle.std.specs.Option.{option_map};
 ghost use Rattle.std.specs.List.Sorted.{IsStrictlySortedBy};
-ghost use Rattle.std.specs.Str.{bytes_eq};
 ghost use Rattle.dbc_sheet.specs.Messages.{by_number};
 ghost use Rattle.office_law.specs.Released.{with_releases};
 ghost use Rattle.office_looks.specs.Reads.{AreRead, net_read};

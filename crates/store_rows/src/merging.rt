@@ -1,5 +1,5 @@
 //! The signals of a message, of their rows, their receivers' and their value texts'.
-ghost use Rattle.std.specs.Prelude.{◌≡◌, ◌≤◌, ℕ, List, IfOk, map, length, pos, IsTrue};
+ghost use Rattle.std.specs.Prelude.{◌≡◌, ◌≤◌, ℕ, List, IfOk, map, length};
 ghost use Rattle.std.specs.List.{prefix_len};
 ghost use Rattle.dbc_sheet.specs.declared.signal.Signal.{Signal as SignalModel};
 ghost use Rattle.dbc_sheet.specs.declared.value_texts.ValueText.{ValueText as Described};

@@ -1,8 +1,7 @@
 //! A signal of its row, its receivers and its value texts.
-ghost use Rattle.std.specs.Prelude.{◌≡◌, List, IfOk, pos};
+ghost use Rattle.std.specs.Prelude.{◌≡◌, IfOk, pos};
 ghost use Rattle.sqlite.specs.declared.types.Value.TheVariants.{Int};
 ghost use Rattle.sqlite.specs.Order.{column};
-ghost use Rattle.bitlayout.specs.declared.layout.Layout.{Layout as Lies};
 ghost use Rattle.dbc_words.specs.ValueType.{value_type_number};
 ghost use Rattle.dbc_words.specs.declared.value_type.ValueType.{ValueType as Kind};
 ghost use Rattle.dbc_sheet.specs.declared.signal.Signal.{Signal as SignalModel};

@@ -2,8 +2,6 @@
 ghost use Rattle.std.specs.Prelude.{◌≡◌, IfOk, Ok, pos};
 ghost use Rattle.sqlite.specs.declared.types.Value.TheVariants.{Int, Text, Blob};
 ghost use Rattle.sqlite.specs.Order.{column};
-ghost use Rattle.bitlayout.specs.declared.layout.Order.{Order as BitOrder};
-ghost use Rattle.bitlayout.specs.declared.place.Mux.{Mux as Indicator};
 ghost use Rattle.decimal.specs.Number.{IsDecimal, Number};
 ghost use Rattle.decimal.specs.Printing.{text_of};
 ghost use Rattle.decimal.specs.Reading.{ReadsNumber};

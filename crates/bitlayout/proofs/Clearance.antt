@@ -1,11 +1,10 @@
 -- A list has no first clash exactly when it is clear.
-use Rattle.std.proofs.Common.{◌≡◌, ℕ, ◌<◌, ◌↔◌, List, length, take, get_or, Option, Some, None, refl, sym, ap, subst}
-use Rattle.std.proofs.Common.{◌∙◌, arith}
-use Rattle.std.specs.Prelude.{slice_get, IsNone}
-use Rattle.std.specs.Option.{is_some, option_and_then}
-use Rattle.std.proofs.lemmas.Bool.{both_ways, true_from_ne_false}
-use Rattle.std.proofs.lemmas.List.{get_or-take, length-take-le}
-use Rattle.std.proofs.lemmas.Option.{slice_get-get_or, slice_get_within, get_or_from_slice_get}
+use Rattle.bitlayout.proofs.Common.{◌≡◌, ℕ, ◌<◌, ◌↔◌, List, length, take, get_or, Option, Some, None, refl, sym, ap}
+use Rattle.bitlayout.proofs.Common.{subst, ◌∙◌, arith, slice_get, is_some, option_and_then, both_ways, get_or-take}
+use Rattle.bitlayout.proofs.Common.{length-take-le, slice_get-get_or, get_or_from_slice_get}
+use Rattle.std.specs.Prelude.{IsNone}
+use Rattle.std.proofs.lemmas.Bool.{true_from_ne_false}
+use Rattle.std.proofs.lemmas.Option.{slice_get_within}
 use Rattle.bitlayout.specs.declared.place.Place.{Place}
 use Rattle.bitlayout.specs.Bits.{IsInside, SharesBit}
 use Rattle.bitlayout.specs.Mux.{IsPresent, IsUnder}

@@ -1,12 +1,8 @@
 -- A place that collides with none of the earlier ones has no partner, and one that collides has a clash.
-use Rattle.std.proofs.Common.{◌≡◌, ℕ, ◌↔◌, Bool, true, false, List, length, take, get_or, Option, Some, None, refl, sym}
-use Rattle.std.proofs.Common.{ap, subst, ◌∙◌, arith, IsTrue}
-use Rattle.std.specs.Prelude.{slice_get, position, is_none}
-use Rattle.std.specs.Option.{is_some}
-use Rattle.std.proofs.lemmas.Bool.{false_from_ne_true, false≢true}
-use Rattle.std.proofs.lemmas.List.{take_all}
-use Rattle.std.proofs.lemmas.List.Quantifiers.{position-Some}
-use Rattle.std.proofs.lemmas.Option.{slice_get-get_or, get_or_from_slice_get}
+use Rattle.bitlayout.proofs.Common.{◌≡◌, ℕ, ◌↔◌, Bool, true, false, List, length, take, get_or, Option, Some, None}
+use Rattle.bitlayout.proofs.Common.{refl, sym, ap, subst, ◌∙◌, arith, IsTrue, slice_get, position, is_none, is_some}
+use Rattle.bitlayout.proofs.Common.{false_from_ne_true, false≢true, take_all, position-Some, slice_get-get_or}
+use Rattle.bitlayout.proofs.Common.{get_or_from_slice_get}
 use Rattle.bitlayout.specs.declared.clash.Clash.{Clash}
 use Rattle.bitlayout.specs.declared.place.Place.{Place}
 use Rattle.bitlayout.specs.Mux.{meets}

@@ -1,11 +1,9 @@
 -- Masks of the positions that places have.
-use Rattle.std.proofs.Common.{◌≡◌, ℕ, ◌+◌, ◌<◌, ◌≤◌, ◌↔◌, ◌⊎◌, Bool, true, false, List, [], ◌∷◌, ◌++◌, length, take}
-use Rattle.std.proofs.Common.{get_or, Option, Some, None, refl, sym, ap, subst, ◌∙◌, inl, inr, arith, IsTrue}
-use Rattle.std.specs.Prelude.{Any, IfSome}
-use Rattle.std.proofs.Math.ListN.{get_or-append}
-use Rattle.std.proofs.Math.Seq.{get_or-append_seam}
-use Rattle.std.proofs.lemmas.Bool.{cases_lt, eqb-true, eq-eqb, false≢true, true≢false}
-use Rattle.std.proofs.lemmas.List.{length-append, take_more}
+use Rattle.bitlayout.proofs.Common.{◌≡◌, ℕ, ◌+◌, ◌<◌, ◌≤◌, ◌↔◌, ◌⊎◌, Bool, true, false, List, [], ◌∷◌, ◌++◌, length}
+use Rattle.bitlayout.proofs.Common.{take, get_or, Option, Some, None, refl, sym, ap, subst, ◌∙◌, inl, inr, arith}
+use Rattle.bitlayout.proofs.Common.{IsTrue, Any, IfSome, get_or-append, get_or-append_seam, cases_lt, eqb-true, eq-eqb}
+use Rattle.bitlayout.proofs.Common.{false≢true, true≢false, length-append}
+use Rattle.std.proofs.lemmas.List.{take_more}
 use Rattle.std.proofs.lemmas.List.Quantifiers.{Any-push}
 use Rattle.bitlayout.specs.declared.layout.Layout.{Layout}
 use Rattle.bitlayout.specs.declared.mask.Mask.{Mask}

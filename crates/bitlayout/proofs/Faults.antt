@@ -1,17 +1,15 @@
 -- What the first clash of a list implies for its places.
-use Rattle.std.proofs.Common.{◌≡◌, ℕ, ◌<◌, ◌≤◌, inl, inr, Bool, true, false, not, ◌&&◌, List, length, take, get_or}
-use Rattle.std.proofs.Common.{Option, Some, None, refl, ap, subst, ◌∙◌, arith}
-use Rattle.std.specs.Prelude.{Any, slice_get, position, option_map, if◌then◌else◌, nat_lt}
-use Rattle.std.specs.Bool.{Decides}
+use Rattle.bitlayout.proofs.Common.{◌≡◌, ℕ, ◌<◌, ◌≤◌, inl, inr, Bool, true, false, not, ◌&&◌, List, length, take}
+use Rattle.bitlayout.proofs.Common.{get_or, Option, Some, None, refl, ap, subst, ◌∙◌, arith, Any, slice_get, position}
+use Rattle.bitlayout.proofs.Common.{if◌then◌else◌, nat_lt, Decides, option_and_then, cases_lt, both_ways}
+use Rattle.bitlayout.proofs.Common.{false_from_ne_true, not_from_Decides, get_or-take, length-take-le, position-Some}
+use Rattle.bitlayout.proofs.Common.{slice_get-get_or, get_or_from_slice_get}
+use Rattle.std.specs.Prelude.{option_map}
 use Rattle.std.specs.List.{position_or_len}
-use Rattle.std.specs.Option.{option_and_then}
-use Rattle.std.proofs.lemmas.Bool.{cases_lt, cond-true, lt-ltb, both_ways, false_from_ne_true}
-use Rattle.std.proofs.lemmas.Bool.Decides.{Decides-and, Decides-not, not_from_Decides}
-use Rattle.std.proofs.lemmas.List.{get_or-take, length-take-le}
+use Rattle.std.proofs.lemmas.Bool.{cond-true, lt-ltb}
+use Rattle.std.proofs.lemmas.Bool.Decides.{Decides-and, Decides-not}
 use Rattle.std.proofs.lemmas.List.Folds.{Any-from_list_any, list_any-from_Any}
-use Rattle.std.proofs.lemmas.List.Quantifiers.{position-Some}
 use Rattle.std.proofs.lemmas.List.Sums.{fails_before_first}
-use Rattle.std.proofs.lemmas.Option.{slice_get-get_or, get_or_from_slice_get}
 use Rattle.bitlayout.specs.declared.place.Place.{Place}
 use Rattle.bitlayout.specs.declared.clash.Clash.{Clash}
 use Rattle.bitlayout.specs.declared.clash.Clash.TheVariants.{Outside, TwoMultiplexors, NoMultiplexor, Overlap}

@@ -1,3 +1,4 @@
+pub mod Common
 pub mod Adding
 pub mod Clearance
 pub mod Collisions

@@ -1,8 +1,9 @@
 -- Masks, bit by bit.
-use Rattle.std.proofs.Common.{◌≡◌, ℕ, ◌+◌, ◌-◌, ◌*◌, ◌/◌, ◌%◌, ◌^◌, ◌<◌, ◌≤◌, ◌↔◌, ◌⊎◌, not, List, length, get_or, set}
-use Rattle.std.proofs.Common.{replicate, get_or-set_same, get_or-set_other, refl, sym, ap, subst, ◌∙◌, inl, inr, arith}
-use Rattle.std.proofs.Common.{IsTrue, w64}
-use Rattle.std.proofs.lemmas.Bool.{cases_lt, cases_eq, eqb-true, eq-eqb, ne_eqb, false≢true}
+use Rattle.bitlayout.proofs.Common.{◌≡◌, ℕ, ◌+◌, ◌-◌, ◌*◌, ◌/◌, ◌<◌, ◌≤◌, ◌↔◌, ◌⊎◌, not, List, length, get_or, refl}
+use Rattle.bitlayout.proofs.Common.{sym, ap, subst, ◌∙◌, inl, inr, arith, IsTrue, cases_lt, eqb-true, eq-eqb}
+use Rattle.bitlayout.proofs.Common.{false≢true}
+use Rattle.std.proofs.Common.{◌%◌, ◌^◌, set, replicate, get_or-set_same, get_or-set_other, w64}
+use Rattle.std.proofs.lemmas.Bool.{cases_eq, ne_eqb}
 use Rattle.std.proofs.lemmas.Nat.{or_lt, one_shl, shl_whole, shr-shr, and_le_l, pow_pos}
 use Rattle.std.proofs.lemmas.List.{get_or-replicate, length-replicate, length-set, get_or_past}
 use Rattle.std.proofs.lemmas.List.Elements.{All-get_or, All-replicate, All-set}

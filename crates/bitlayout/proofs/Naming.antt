@@ -1,13 +1,9 @@
 -- The first clash of a list is the clash that is named first.
-use Rattle.std.proofs.Common.{◌≡◌, ℕ, ◌<◌, ◌≤◌, ◌⊎◌, inl, inr, Bool, true, false, not, ◌&&◌, List, length, take, get_or}
-use Rattle.std.proofs.Common.{Option, Some, None, refl, sym, ap, subst, ◌∙◌, arith}
-use Rattle.std.specs.Prelude.{Any, slice_get, position, IfSome}
-use Rattle.std.specs.Option.{option_and_then}
-use Rattle.std.proofs.lemmas.Bool.{cases_lt, cases_order}
-use Rattle.std.proofs.lemmas.Bool.Decides.{not_from_Decides}
-use Rattle.std.proofs.lemmas.List.{get_or-take, length-take-le}
-use Rattle.std.proofs.lemmas.List.Quantifiers.{position-Some}
-use Rattle.std.proofs.lemmas.Option.{slice_get-get_or, get_or_from_slice_get}
+use Rattle.bitlayout.proofs.Common.{◌≡◌, ℕ, ◌<◌, ◌≤◌, ◌⊎◌, inl, inr, Bool, true, false, not, ◌&&◌, List, length, take}
+use Rattle.bitlayout.proofs.Common.{get_or, Option, Some, None, refl, sym, ap, subst, ◌∙◌, arith, Any, slice_get}
+use Rattle.bitlayout.proofs.Common.{position, IfSome, option_and_then, cases_lt, not_from_Decides, get_or-take}
+use Rattle.bitlayout.proofs.Common.{length-take-le, position-Some, slice_get-get_or, get_or_from_slice_get}
+use Rattle.std.proofs.lemmas.Bool.{cases_order}
 use Rattle.bitlayout.specs.declared.place.Place.{Place}
 use Rattle.bitlayout.specs.declared.clash.Clash.{Clash}
 use Rattle.bitlayout.specs.declared.clash.Clash.TheVariants.{Outside, TwoMultiplexors, NoMultiplexor, Overlap}

@@ -1,5 +1,5 @@
 -- The definitions computed on small messages.
-use Rattle.std.proofs.Common.{◌≡◌, ◌*◌, ◌≤◌, [], ◌∷◌, Some, None, refl, arith}
+use Rattle.bitlayout.proofs.Common.{◌≡◌, ◌*◌, ◌≤◌, [], ◌∷◌, Some, None, refl, arith}
 use Rattle.bitlayout.specs.declared.layout.Order.TheVariants.{Intel, Motorola}
 use Rattle.bitlayout.specs.declared.place.Mux.TheVariants.{Always, Multiplexor, Under}
 use Rattle.bitlayout.specs.declared.clash.Clash.TheVariants.{TwoMultiplexors, NoMultiplexor, Overlap, Outside}

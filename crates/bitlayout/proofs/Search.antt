@@ -1,8 +1,6 @@
 -- The first answer of a search.
-use Rattle.std.proofs.Common.{◌≡◌, ℕ, true, false, ◌<◌, Option, Some, None, refl, sym, subst, ◌∙◌, inl, inr, ◌⊎◌, arith}
-use Prim.Native.Nat.{zero, suc}
-use Rattle.std.proofs.lemmas.Bool.{cases_lt, false≢true, true≢false}
-use Rattle.std.specs.Option.{is_some}
+use Rattle.bitlayout.proofs.Common.{◌≡◌, ℕ, true, false, ◌<◌, Option, Some, None, refl, sym, subst, ◌∙◌, inl, inr, ◌⊎◌}
+use Rattle.bitlayout.proofs.Common.{arith, zero, suc, cases_lt, false≢true, true≢false, is_some}
 use Rattle.bitlayout.specs.First.{first_answer}
 
 -- the search after one more question, by the answer so far

@@ -1,7 +1,8 @@
 -- The search for a start.
-use Rattle.std.proofs.Common.{◌≡◌, ℕ, ◌+◌, ◌*◌, ◌<◌, ◌≤◌, min, List, [], ◌∷◌, ◌++◌, Option, Some, None, refl, sym, ap}
-use Rattle.std.proofs.Common.{arith}
-use Rattle.std.specs.Prelude.{IfSome, IfNone, is_none, if◌then◌else◌}
+use Rattle.bitlayout.proofs.Common.{◌≡◌, ℕ, ◌+◌, ◌*◌, ◌<◌, ◌≤◌, List, [], ◌∷◌, ◌++◌, Option, Some, None, refl, sym, ap}
+use Rattle.bitlayout.proofs.Common.{arith, IfSome, is_none, if◌then◌else◌}
+use Rattle.std.proofs.Common.{min}
+use Rattle.std.specs.Prelude.{IfNone}
 use Rattle.bitlayout.specs.declared.layout.Order.{Order}
 use Rattle.bitlayout.specs.declared.place.Mux.{Mux}
 use Rattle.bitlayout.specs.declared.place.Place.{Place}

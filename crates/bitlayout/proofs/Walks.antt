@@ -1,9 +1,8 @@
 -- A walk is an interval of ranks.
-use Rattle.std.proofs.Common.{◌≡◌, ℕ, ◌+◌, ◌-◌, ◌*◌, ◌/◌, ◌<◌, ◌≤◌, length, get_or, refl, sym, ap, subst, ◌∙◌, arith}
-use Rattle.std.proofs.Common.{add-zero, List}
-use Prim.Native.Nat.{zero, suc}
-use Rattle.std.specs.Prelude.{Contains, nat_lt, ◌==◌}
-use Rattle.std.specs.Bool.{Decides}
+use Rattle.bitlayout.proofs.Common.{◌≡◌, ℕ, ◌+◌, ◌-◌, ◌*◌, ◌/◌, ◌<◌, ◌≤◌, length, get_or, refl, sym, ap, subst, ◌∙◌}
+use Rattle.bitlayout.proofs.Common.{arith, List, zero, suc, nat_lt, Decides}
+use Rattle.std.proofs.Common.{add-zero}
+use Rattle.std.specs.Prelude.{Contains, ◌==◌}
 use Rattle.std.specs.List.{list_any, list_all}
 use Rattle.std.proofs.lemmas.Bool.Decides.{Decides-eqb, Decides-ltb, Decides-like, Decides-by_or, Decides-by_and}
 use Rattle.std.proofs.lemmas.List.Elements.{Contains-get_or, Contains-from_at, at_from_Contains, All-contains}

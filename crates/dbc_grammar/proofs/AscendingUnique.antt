@@ -1,13 +1,13 @@
 -- Lists in ascending order of a number: given members have one such list at most, and their numbers are distinct.
-use Rattle.std.proofs.Common.{◌≡◌, ◌==◌, ◌<◌, ◌⊎◌, ℕ, zero, suc, false, List, [], ◌∷◌, length, get_or, inl, inr, refl}
-use Rattle.std.proofs.Common.{sym, ap, subst, Contains, IsPermutation, arith}
-use Rattle.std.specs.List.{AllByRecursion, IsDistinct}
+use Rattle.dbc_grammar.proofs.Common.{◌≡◌, ◌==◌, ◌<◌, ◌⊎◌, ℕ, zero, suc, false, List, [], ◌∷◌, length, inl, inr, refl}
+use Rattle.dbc_grammar.proofs.Common.{sym, ap, subst, arith, AllByRecursion, nat_tests, IsPermutation-sym}
+use Rattle.std.proofs.Common.{get_or, Contains, IsPermutation}
+use Rattle.std.specs.List.{IsDistinct}
 use Rattle.std.specs.List.Sorted.{IsStrictlySortedBy}
 use Rattle.std.specs.Ordering.{nat_cmp, on}
 use Rattle.std.specs.declared.cmp.Ordering.TheVariants.{Less}
-use Rattle.std.proofs.lemmas.Bool.Decides.{nat_tests}
 use Rattle.std.proofs.lemmas.Cmp.{ranked}
-use Rattle.std.proofs.lemmas.List.Sorted.{Contains-permutation, IsPermutation-sym}
+use Rattle.std.proofs.lemmas.List.Sorted.{Contains-permutation}
 
 module _ {A : Type 0} where
   In : A → List A → Type 0

@@ -1,21 +1,13 @@
 -- Canonical texts, computed.
-use Rattle.std.proofs.Common.{◌≡◌, true, false, ℕ, List, [], ◌∷◌, ◌++◌, Some, None, refl}
-use Rattle.std.specs.Prelude.{codes, pos, negsuc}
+use Rattle.dbc_grammar.proofs.Common.{◌≡◌, true, false, ℕ, List, [], ◌∷◌, ◌++◌, Some, None, refl, codes, pos, negsuc}
+use Rattle.dbc_grammar.proofs.Common.{flat_map, Intel, Motorola, Always, Multiplexor, Under, Std, Ext, Number, Integer}
+use Rattle.dbc_grammar.proofs.Common.{Float, Double, Message, Sheet, ValueText}
 use Rattle.std.specs.Fmt.{digits}
-use Rattle.std.specs.List.{flat_map}
-use Rattle.bitlayout.specs.declared.layout.Order.TheVariants.{Intel, Motorola}
-use Rattle.bitlayout.specs.declared.place.Mux.TheVariants.{Always, Multiplexor, Under}
-use Rattle.can_id.specs.declared.ident.Ident.TheVariants.{Std, Ext}
-use Rattle.decimal.specs.Number.{Number}
 use Rattle.decimal.specs.Printing.{unsigned_text}
 use Rattle.dbc_words.specs.declared.value_type.ValueType.{ValueType}
-use Rattle.dbc_words.specs.declared.value_type.ValueType.TheVariants.{Integer, Float, Double}
 use Rattle.dbc_grammar.specs.Canon.{canonical_text}
 use Rattle.dbc_sheet.specs.Sheet.{empty_sheet}
-use Rattle.dbc_sheet.specs.declared.message.Message.{Message}
-use Rattle.dbc_sheet.specs.declared.sheet.Sheet.{Sheet}
 use Rattle.dbc_sheet.specs.declared.signal.Signal.{Signal}
-use Rattle.dbc_sheet.specs.declared.value_texts.ValueText.{ValueText}
 
 abbrev lines : List (List ℕ) → List ℕ
 lines ls = flat_map (λ l. l ++ 10 ∷ []) ls

@@ -1,9 +1,8 @@
 -- The numbers of number tokens, by the equation of values.
-use Rattle.std.proofs.Common.{◌≡◌, ◌↔◌, Bool, true, false, List, ℕ, Some, None, Result, Ok, Err, refl, ap}
-use Rattle.std.specs.Prelude.{if◌then◌else◌}
+use Rattle.dbc_grammar.proofs.Common.{◌≡◌, ◌↔◌, Bool, true, false, List, ℕ, Some, None, Result, Ok, Err, refl, ap}
+use Rattle.dbc_grammar.proofs.Common.{if◌then◌else◌, IsDecimal, Number}
 use Rattle.std.specs.Result.{result_ok}
 use Rattle.std.proofs.lemmas.Bool.{false≢true}
-use Rattle.decimal.specs.Number.{IsDecimal, Number}
 use Rattle.decimal.specs.Reading.{ReadsNumber, ReadingsAreComputed, reading}
 use Rattle.decimal.specs.Spelling.{Writes}
 use Rattle.decimal.specs.declared.fault.DecimalFault.{DecimalFault}

@@ -1,10 +1,8 @@
 -- Tokens have one division into statements.
-use Rattle.std.proofs.Common.{◌≡◌, ℕ, ◌<◌, Bool, true, false, not, List, [], ◌∷◌, ◌++◌, map, length, Option, Some, None}
-use Rattle.std.proofs.Common.{is_some, option_map, refl, sym, ap, subst, ◌∙◌, arith}
-use Rattle.std.proofs.lemmas.Bool.{and_from}
+use Rattle.dbc_grammar.proofs.Common.{◌≡◌, ℕ, ◌<◌, Bool, true, false, not, List, [], ◌∷◌, ◌++◌, map, length, Option}
+use Rattle.dbc_grammar.proofs.Common.{Some, None, is_some, option_map, refl, sym, ap, subst, ◌∙◌, arith, and_from}
+use Rattle.dbc_grammar.proofs.Common.{Keyword, Signal}
 use Rattle.std.proofs.lemmas.List.{append_cancel_right}
-use Rattle.dbc_words.specs.declared.keyword.Keyword.{Keyword}
-use Rattle.dbc_words.specs.declared.keyword.Keyword.TheVariants.{Signal}
 use Rattle.dbc_grammar.specs.Division.{IsStatement, OneStatement, StatementsAreRuns, Divides, OneDivision, Part}
 use Rattle.dbc_grammar.specs.Division.{AreParts, DivisionsAreParts, OneParting, ReadingIsExact}
 use Rattle.dbc_grammar.specs.Fields.{is_key, key_of}

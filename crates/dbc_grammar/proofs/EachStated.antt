@@ -1,7 +1,8 @@
 -- What is stated of each key if there is one entry for each, and empty ones are left out.
-use Rattle.std.proofs.Common.{◌≡◌, ◌∙◌, Bool, true, false, cond, List, [], ◌∷◌, map, filter, Option, None, Some}
-use Rattle.std.proofs.Common.{unwrap_or, if◌then◌else◌, refl, sym, ap}
-use Rattle.std.specs.List.{IsDistinct, AllByRecursion}
+use Rattle.dbc_grammar.proofs.Common.{◌≡◌, ◌∙◌, Bool, true, false, cond, List, [], ◌∷◌, map, Option, None, Some, refl}
+use Rattle.dbc_grammar.proofs.Common.{sym, ap, AllByRecursion}
+use Rattle.std.proofs.Common.{filter, unwrap_or, if◌then◌else◌}
+use Rattle.std.specs.List.{IsDistinct}
 use Rattle.dbc_grammar.specs.Saying.{last_at}
 
 -- An entry is a key and its value.

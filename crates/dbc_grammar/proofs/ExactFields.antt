@@ -1,13 +1,10 @@
 -- The parsers of fields are exact.
-use Rattle.std.proofs.Common.{◌≡◌, ℕ, ◌<◌, ◌&&◌, ◌||◌, Bool, true, false, not, List, [], ◌∷◌, length, Option, Some}
-use Rattle.std.proofs.Common.{None, is_some, option_map, refl, sym, ap, ◌∙◌, arith}
-use Rattle.std.specs.Prelude.{if◌then◌else◌, codes, unwrap_or}
-use Rattle.std.specs.Str.{bytes_eq}
-use Rattle.std.proofs.lemmas.Bool.{and_parts, and_from}
-use Rattle.std.proofs.lemmas.Slice.Eq.{bytes_eq-Decides}
-use Rattle.decimal.specs.Number.{Number}
+use Rattle.dbc_grammar.proofs.Common.{◌≡◌, ℕ, ◌<◌, ◌&&◌, Bool, true, false, not, List, [], ◌∷◌, length, Option, Some}
+use Rattle.dbc_grammar.proofs.Common.{None, is_some, option_map, refl, sym, ap, ◌∙◌, arith, if◌then◌else◌, codes}
+use Rattle.dbc_grammar.proofs.Common.{bytes_eq, and_parts, and_from, bytes_eq-Decides, Number, Signal}
+use Rattle.std.proofs.Common.{◌||◌}
+use Rattle.std.specs.Prelude.{unwrap_or}
 use Rattle.dbc_words.specs.Name.{is_name, no_node}
-use Rattle.dbc_words.specs.declared.keyword.Keyword.TheVariants.{Signal}
 use Rattle.dbc_grammar.specs.Fields.{same_kind, is_a, is_mark, is_key, text_of, cited_name, made_name, node_of, whole}
 use Rattle.dbc_grammar.specs.Fields.{whole_where, start_of, size_of, order_of, sign_of, mux_of, number_of, mark}
 use Rattle.dbc_grammar.specs.Fields.{decimal, pair, entry, goes_on, further, no_names, some_names, nodes, layout}

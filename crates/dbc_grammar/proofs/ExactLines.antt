@@ -1,10 +1,9 @@
 -- The parsers of statements are exact.
-use Rattle.std.proofs.Common.{◌≡◌, ℕ, Bool, true, false, not, List, [], ◌∷◌, Option, Some, None, is_some, refl, subst}
-use Rattle.std.specs.Prelude.{if◌then◌else◌, codes}
-use Rattle.std.proofs.lemmas.Bool.{and_parts, and_right}
-use Rattle.dbc_words.specs.Keyword.{keyword_of}
-use Rattle.dbc_words.specs.declared.keyword.Keyword.{Keyword}
-use Rattle.dbc_words.specs.declared.keyword.Keyword.TheVariants.{Nodes, Message, Signal, EnvironmentVariable}
+use Rattle.dbc_grammar.proofs.Common.{◌≡◌, ℕ, Bool, true, false, not, List, [], ◌∷◌, Option, Some, None, is_some, refl}
+use Rattle.dbc_grammar.proofs.Common.{subst, if◌then◌else◌, codes, and_parts, keyword_of, Keyword, Nodes, Signal}
+use Rattle.dbc_grammar.proofs.Common.{EnvironmentVariable}
+use Rattle.std.proofs.lemmas.Bool.{and_right}
+use Rattle.dbc_words.specs.declared.keyword.Keyword.TheVariants.{Message}
 use Rattle.dbc_words.specs.ValueType.{value_type_of}
 use Rattle.dbc_grammar.specs.Fields.{is_a, is_mark, is_key, key_of, text_of, cited_name, made_name, node_of, whole}
 use Rattle.dbc_grammar.specs.Fields.{cited_number, message_ident, independent_number, length_of, type_of, mark, signal}

@@ -1,15 +1,11 @@
 -- Which statement a keyword begins, and that all of them are read.
-use Rattle.std.proofs.Common.{◌≡◌, ℕ, ◌==◌, Bool, true, false, List, Some, None, is_some, refl, sym, subst, ◌∙◌, inl}
-use Rattle.std.proofs.Common.{inr}
-use Rattle.std.specs.Str.{bytes_eq}
-use Rattle.std.proofs.lemmas.Bool.{and_parts}
+use Rattle.dbc_grammar.proofs.Common.{◌≡◌, ℕ, ◌==◌, Bool, true, false, List, Some, None, is_some, refl, sym, subst, ◌∙◌}
+use Rattle.dbc_grammar.proofs.Common.{inl, inr, bytes_eq, and_parts, bytes_eq-Decides, keyword_of, Keyword, Version}
+use Rattle.dbc_grammar.proofs.Common.{NewSymbols, BitTiming, Nodes, ValueTable, Signal, Comment, ValueTexts}
+use Rattle.dbc_grammar.proofs.Common.{SignalValueType, AttributeValue, EnvironmentVariable}
 use Rattle.std.proofs.lemmas.Bool.Decides.{Decides-eqb}
-use Rattle.std.proofs.lemmas.Slice.Eq.{bytes_eq-Decides}
-use Rattle.dbc_words.specs.Keyword.{KeywordGroup, Kept, Passed, Refused, keyword_of, keyword_text, keyword_group}
-use Rattle.dbc_words.specs.declared.keyword.Keyword.{Keyword}
-use Rattle.dbc_words.specs.declared.keyword.Keyword.TheVariants.{Version, NewSymbols, BitTiming, Nodes, ValueTable}
-use Rattle.dbc_words.specs.declared.keyword.Keyword.TheVariants.{Message, Signal, Comment, ValueTexts, SignalValueType}
-use Rattle.dbc_words.specs.declared.keyword.Keyword.TheVariants.{AttributeValue, EnvironmentVariable}
+use Rattle.dbc_words.specs.Keyword.{KeywordGroup, Kept, Passed, Refused, keyword_text, keyword_group}
+use Rattle.dbc_words.specs.declared.keyword.Keyword.TheVariants.{Message}
 use Rattle.dbc_grammar.specs.Fields.{is_a, is_key, key_of, key, text_of, cited_name, whole, cited_number, ident_of}
 use Rattle.dbc_grammar.specs.Fields.{message_ident, independent_number}
 use Rattle.dbc_grammar.specs.Grammar.{message_line, file_comment, node_comment, message_comment, signal_comment}

@@ -1,8 +1,8 @@
 -- Rules and their parsers: a parser finds the one reading of its rule.
-use Rattle.std.proofs.Common.{◌≡◌, ℕ, zero, suc, ◌≤◌, ◌<◌, ◌⊎◌, Bool, true, false, cond, List, [], ◌∷◌, ◌++◌, length}
-use Rattle.std.proofs.Common.{Option, Some, None}
-use Rattle.std.proofs.Common.{is_some, refl, sym, ap, subst, ◌∙◌, arith, inl, inr, append_assoc, length-append}
-use Rattle.std.specs.Option.{option_and_then}
+use Rattle.dbc_grammar.proofs.Common.{◌≡◌, ℕ, zero, suc, ◌≤◌, ◌<◌, ◌⊎◌, Bool, true, false, cond, List, [], ◌∷◌, ◌++◌}
+use Rattle.dbc_grammar.proofs.Common.{length, Option, Some, None, is_some, refl, sym, ap, subst, ◌∙◌, arith, inl, inr}
+use Rattle.dbc_grammar.proofs.Common.{append_assoc, option_and_then}
+use Rattle.std.proofs.Common.{length-append}
 use Rattle.dbc_grammar.specs.Parsing.{Parsed, token_at, one_at, followed_at, optional_at, many_by, many_at, or_else}
 use Rattle.dbc_grammar.specs.Rules.{Rule, Read, token, one, only, starts, begins, ◌>>=◌, Done, done, Followed, followed}
 use Rattle.dbc_grammar.specs.Rules.{optional, many, either, unless}

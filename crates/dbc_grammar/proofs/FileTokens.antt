@@ -1,6 +1,7 @@
 -- The tokens of a file, and of its lines cut at each byte.
-use Rattle.std.proofs.Common.{◌≡◌, ℕ, zero, suc, ◌+◌, List, [], ◌∷◌, ◌++◌, length, map, Option, Some, None, refl, ap}
-use Rattle.std.specs.Prelude.{◌==◌, ◌-◌, if◌then◌else◌, codes, drop, option_map, Result, Ok, Err}
+use Rattle.dbc_grammar.proofs.Common.{◌≡◌, ℕ, zero, suc, ◌+◌, List, [], ◌∷◌, ◌++◌, length, map, Option, Some, None}
+use Rattle.dbc_grammar.proofs.Common.{refl, ap, if◌then◌else◌, codes}
+use Rattle.std.specs.Prelude.{◌==◌, ◌-◌, drop, option_map, Result, Ok, Err}
 use Rattle.dbc_grammar.specs.Lexing.{LexFault, UnclosedText, Lexed, exponent_len, first_token, inside_len, lexed}
 use Rattle.dbc_grammar.specs.Lexing.{lexed_in, number_len, power_len, tail_len, token_at, with_first, word_len}
 use Rattle.dbc_grammar.specs.Token.{Token}

@@ -1,10 +1,8 @@
 -- The identifiers that DBC files write as numbers.
-use Rattle.std.proofs.Common.{◌≡◌, ◌≤◌, ◌-◌, ℕ, Bool, true, false, Some, refl, ap, ◌&&◌, nat_le, arith}
-use Rattle.std.specs.Prelude.{if◌then◌else◌}
-use Rattle.std.proofs.lemmas.Bool.Decides.{nat_tests}
+use Rattle.dbc_grammar.proofs.Common.{◌≡◌, ◌≤◌, ◌-◌, ℕ, Bool, true, false, Some, refl, ap, ◌&&◌, arith, if◌then◌else◌}
+use Rattle.dbc_grammar.proofs.Common.{nat_tests, Ident, Std, Ext}
+use Rattle.std.proofs.Common.{nat_le}
 use Rattle.can_id.specs.Ident.{IsIdentifier, dbc_number}
-use Rattle.can_id.specs.declared.ident.Ident.{Ident}
-use Rattle.can_id.specs.declared.ident.Ident.TheVariants.{Std, Ext}
 use Rattle.dbc_grammar.specs.Fields.{ident_of, NumbersAreIdentifiers}
 use Rattle.dbc_grammar.specs.Rules.{only}
 

@@ -1,3 +1,4 @@
+pub mod Common
 mod CanonRows
 pub mod AscendingUnique
 pub mod OneSheet

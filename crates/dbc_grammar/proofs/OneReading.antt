@@ -1,10 +1,9 @@
 -- A text reads as one sheet at most.
-use Rattle.std.proofs.Common.{◌∙◌, ℕ, List, sym, ap, subst}
+use Rattle.dbc_grammar.proofs.Common.{◌∙◌, ℕ, List, sym, ap, subst, Sheet}
 use Rattle.dbc_grammar.specs.Division.{Divides, OneDivision}
 use Rattle.dbc_grammar.specs.Reads.{Reads, ReadsAsOneAtMost, ReadsOnlyAs}
 use Rattle.dbc_grammar.specs.Saying.{Says, SaysOneAtMost, passed_by}
 use Rattle.dbc_grammar.specs.TokenLaw.{TokensAreOne}
-use Rattle.dbc_sheet.specs.declared.sheet.Sheet.{Sheet}
 
 pub one_reading : TokensAreOne → OneDivision → SaysOneAtMost → ReadsAsOneAtMost
 one_reading tokens division says bytes s t p q r u =

@@ -1,10 +1,8 @@
 -- Statements say one sheet at most.
-use Rattle.std.proofs.Common.{◌≡◌, List, map, sym, ◌∙◌}
-use Rattle.std.proofs.lemmas.List.Sorted.{IsPermutation-sym, IsPermutation-trans}
-use Rattle.dbc_sheet.specs.Messages.{number_of}
+use Rattle.dbc_grammar.proofs.Common.{◌≡◌, List, map, sym, ◌∙◌, IsPermutation-sym, number_of, Sheet}
+use Rattle.std.proofs.lemmas.List.Sorted.{IsPermutation-trans}
 use Rattle.dbc_grammar.specs.Saying.{Says, messages_of, whole_message}
 use Rattle.dbc_grammar.specs.Statement.{Statement}
-use Rattle.dbc_sheet.specs.declared.sheet.Sheet.{Sheet}
 use Rattle.dbc_grammar.proofs.AscendingUnique.{one_ascending}
 
 pub one_sheet : (statements : List Statement) (s t : Sheet) → Says statements s → Says statements t → s ≡ t

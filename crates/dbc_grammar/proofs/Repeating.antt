@@ -1,9 +1,7 @@
 -- One after the other, as a loop reads them.
-use Rattle.std.proofs.Common.{◌≡◌, ℕ, zero, suc, ◌≤◌, ◌<◌, Bool, true, false, List, [], ◌∷◌, ◌++◌, length, Some, None}
-use Rattle.std.proofs.Common.{refl, sym, ap, ◌∙◌, append_assoc, arith}
-use Rattle.std.specs.Option.{option_and_then}
-use Rattle.std.proofs.lemmas.List.{append-nil}
-use Rattle.dbc_words.specs.declared.keyword.Keyword.TheVariants.{Signal}
+use Rattle.dbc_grammar.proofs.Common.{◌≡◌, ℕ, zero, suc, ◌≤◌, ◌<◌, Bool, true, false, List, [], ◌∷◌, ◌++◌, length, Some}
+use Rattle.dbc_grammar.proofs.Common.{None, refl, sym, ap, ◌∙◌, append_assoc, arith, option_and_then, append-nil}
+use Rattle.dbc_grammar.proofs.Common.{Signal}
 use Rattle.dbc_grammar.specs.Fields.{is_key, goes_on}
 use Rattle.dbc_grammar.specs.Grammar.{is_open}
 use Rattle.dbc_grammar.specs.Parsing.{Parsed, many_by, many_at, with_front, entry_at, further_at, signal_at}

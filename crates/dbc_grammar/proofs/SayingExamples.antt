@@ -1,20 +1,15 @@
 -- What some statements say: examples that compute, each the answer that the rules of DBC text give by hand.
-use Rattle.std.proofs.Common.{◌≡◌, ◌<◌, ◌≤◌, ◌%◌, ◌^◌, ℕ, ap, false, List, [], ◌∷◌, map, Some, None, codes, refl, arith}
-use Rattle.std.proofs.Common.{true≢false}
-use Rattle.std.specs.List.{AllByRecursion, IsDistinct, flat_map}
+use Rattle.dbc_grammar.proofs.Common.{◌≡◌, ◌<◌, ◌≤◌, ℕ, ap, false, List, [], ◌∷◌, map, Some, None, refl, arith}
+use Rattle.dbc_grammar.proofs.Common.{AllByRecursion, flat_map, bytes_eq, IsPermutation-sym, Intel, Always, Std, Number}
+use Rattle.dbc_grammar.proofs.Common.{IsDecimal, AreNamedApart, pos, Keyword, Integer, Double, bytes_eq-flip}
+use Rattle.dbc_grammar.proofs.Common.{text-Decides, Sheet}
+use Rattle.std.proofs.Common.{◌%◌, ◌^◌, codes, true≢false}
+use Rattle.std.specs.List.{IsDistinct}
 use Rattle.std.proofs.lemmas.List.Elements.{All-from_recursion}
 use Rattle.std.specs.List.Sorted.{IsStrictlySortedBy}
-use Rattle.std.specs.Str.{bytes_eq}
-use Rattle.std.proofs.lemmas.List.Sorted.{IsPermutation-sym}
 use Rattle.std.proofs.lemmas.Map.Keys.{IsDistinct-IsPermutation}
 use Rattle.bitlayout.specs.declared.layout.Layout.{Layout}
-use Rattle.bitlayout.specs.declared.layout.Order.TheVariants.{Intel}
-use Rattle.bitlayout.specs.declared.place.Mux.TheVariants.{Always}
-use Rattle.can_id.specs.declared.ident.Ident.TheVariants.{Std}
-use Rattle.decimal.specs.Number.{Number, IsDecimal}
 use Rattle.dbc_words.specs.Name.{IsName, is_name}
-use Rattle.dbc_words.specs.Named.{AreNamedApart}
-use Rattle.std.specs.Prelude.{pos}
 use Rattle.dbc_sheet.specs.Form.{IsMessage, IsNode, IsSheet, IsSignal, IsTable, IsValueText}
 use Rattle.dbc_sheet.specs.Messages.{message_name}
 use Rattle.dbc_grammar.specs.Saying.{Says, last_in, messages_of, passed_by, version_in, comment_in, whole_message}
@@ -36,7 +31,6 @@ use Rattle.dbc_grammar.specs.Statement.{
   SignalLine,
   Statement,
 }
-use Rattle.dbc_words.specs.declared.keyword.Keyword.{Keyword}
 use Rattle.dbc_words.specs.declared.keyword.Keyword.TheVariants.{
   Version,
   NewSymbols,
@@ -48,12 +42,8 @@ use Rattle.dbc_words.specs.declared.keyword.Keyword.TheVariants.{
   AttributeValue,
   AttributeDefinition,
 }
-use Rattle.dbc_words.specs.declared.value_type.ValueType.TheVariants.{Integer, Double}
 use Rattle.dbc_words.specs.Text.{IsText}
-use Rattle.dbc_words.proofs.Naming.{bytes_eq-flip}
-use Rattle.dbc_words.proofs.Texts.{text-Decides}
 use Rattle.dbc_sheet.specs.declared.message.Message.{Message as WholeMessage}
-use Rattle.dbc_sheet.specs.declared.sheet.Sheet.{Sheet}
 use Rattle.dbc_sheet.specs.declared.signal.Signal.{Signal}
 
 -- The statements of a file with two messages: 500 with the signals Speed and Torque, and 100 with Speed alone.

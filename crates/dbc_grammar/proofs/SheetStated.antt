@@ -1,19 +1,13 @@
 -- Entries, one for each node, each message or each signal of a well-formed sheet, in order and without empty ones, say
 -- of each its own value.
-use Rattle.std.proofs.Common.{◌≡◌, ◌&&◌, ◌++◌, ◌∙◌, ℕ, Bool, true, false, nat_eq, List, [], ◌∷◌, map, refl, sym, ap}
-use Rattle.std.proofs.Common.{subst, arith}
-use Rattle.std.specs.List.{AllByRecursion, IsDistinct, flat_map}
-use Rattle.std.specs.Str.{bytes_eq}
-use Rattle.std.proofs.lemmas.Bool.Decides.{nat_tests}
-use Rattle.std.proofs.lemmas.Slice.Eq.{bytes_eq-Decides}
-use Rattle.dbc_words.proofs.Naming.{bytes_eq-flip}
-use Rattle.dbc_sheet.specs.Messages.{number_of}
+use Rattle.dbc_grammar.proofs.Common.{◌≡◌, ◌&&◌, ◌++◌, ◌∙◌, ℕ, Bool, true, false, List, [], ◌∷◌, map, refl, sym, ap}
+use Rattle.dbc_grammar.proofs.Common.{subst, arith, AllByRecursion, flat_map, bytes_eq, nat_tests, bytes_eq-Decides}
+use Rattle.dbc_grammar.proofs.Common.{bytes_eq-flip, number_of, IsWellFormed, Message, Sheet}
+use Rattle.std.proofs.Common.{nat_eq}
+use Rattle.std.specs.List.{IsDistinct}
 use Rattle.dbc_grammar.specs.Saying.{SignalKey, same_signal}
 use Rattle.dbc_sheet.specs.Sheet.{node_name}
-use Rattle.dbc_sheet.specs.WellFormed.{IsWellFormed}
-use Rattle.dbc_sheet.specs.declared.message.Message.{Message}
 use Rattle.dbc_sheet.specs.declared.node.Node.{Node}
-use Rattle.dbc_sheet.specs.declared.sheet.Sheet.{Sheet}
 use Rattle.dbc_sheet.specs.declared.signal.Signal.{Signal}
 use Rattle.dbc_grammar.proofs.EachStated.{each_stated, kept_entries, keys, last_value}
 use Rattle.dbc_grammar.proofs.AscendingUnique.{distinct_if_ascending}

@@ -1,14 +1,11 @@
 -- The signals of messages have distinct keys where the messages have distinct numbers and each message's signals names.
-use Rattle.std.proofs.Common.{◌≡◌, ◌==◌, ◌&&◌, ◌++◌, ◌∙◌, ℕ, Bool, true, false, List, [], ◌∷◌, map, refl, ap}
-use Rattle.std.specs.List.{AllByRecursion, IsDistinct, flat_map}
-use Rattle.std.specs.Str.{bytes_eq}
-use Rattle.dbc_words.specs.Named.{AreNamedApart}
-use Rattle.dbc_sheet.specs.Messages.{number_of}
+use Rattle.dbc_grammar.proofs.Common.{◌≡◌, ◌==◌, ◌&&◌, ◌++◌, ◌∙◌, ℕ, Bool, true, false, List, [], ◌∷◌, map, refl, ap}
+use Rattle.dbc_grammar.proofs.Common.{AllByRecursion, flat_map, bytes_eq, AreNamedApart, number_of, IsWellFormed}
+use Rattle.dbc_grammar.proofs.Common.{Message, Sheet}
+use Rattle.std.specs.List.{IsDistinct}
 use Rattle.dbc_grammar.specs.Saying.{SignalKey, same_signal}
 use Rattle.dbc_sheet.specs.Signals.{signal_name}
-use Rattle.dbc_sheet.specs.WellFormed.{IsWellFormed, IsWellFormedMessage}
-use Rattle.dbc_sheet.specs.declared.message.Message.{Message}
-use Rattle.dbc_sheet.specs.declared.sheet.Sheet.{Sheet}
+use Rattle.dbc_sheet.specs.WellFormed.{IsWellFormedMessage}
 use Rattle.dbc_sheet.specs.declared.signal.Signal.{Signal}
 use Rattle.dbc_grammar.proofs.AscendingUnique.{distinct_if_ascending}
 

@@ -1,25 +1,17 @@
 -- Examples of what is a statement, and of what is none.
-use Rattle.std.proofs.Common.{◌≡◌, ℕ, ◌+◌, Bool, true, false, List, [], ◌∷◌, ◌++◌, map, replicate, Option, Some, None}
-use Rattle.std.proofs.Common.{is_none, refl}
-use Rattle.std.specs.Prelude.{ℤ, pos, negsuc, neg_ℤ, nat_le, ◌==◌, ◌&&◌, if◌then◌else◌, codes}
-use Rattle.std.specs.List.{AllByRecursion, list_all}
-use Rattle.std.proofs.lemmas.Bool.{and_parts}
+use Rattle.dbc_grammar.proofs.Common.{◌≡◌, ℕ, ◌+◌, Bool, true, false, List, [], ◌∷◌, ◌++◌, map, Option, Some, None}
+use Rattle.dbc_grammar.proofs.Common.{refl, pos, negsuc, if◌then◌else◌, codes, AllByRecursion, list_all, and_parts}
+use Rattle.dbc_grammar.proofs.Common.{Intel, Motorola, Always, Multiplexor, Under, Ident, Std, Ext, Number}
+use Rattle.dbc_grammar.proofs.Common.{starts_identifier, Keyword, Version, NewSymbols, BitTiming, Nodes, ValueTable}
+use Rattle.dbc_grammar.proofs.Common.{Comment, ValueTexts, SignalValueType, AttributeValue, Float, Double, ValueText}
+use Rattle.std.proofs.Common.{replicate, is_none}
+use Rattle.std.specs.Prelude.{ℤ, neg_ℤ, nat_le, ◌==◌, ◌&&◌}
 use Rattle.bitlayout.specs.declared.layout.Order.{Order}
-use Rattle.bitlayout.specs.declared.layout.Order.TheVariants.{Intel, Motorola}
 use Rattle.bitlayout.specs.declared.place.Mux.{Mux}
-use Rattle.bitlayout.specs.declared.place.Mux.TheVariants.{Always, Multiplexor, Under}
-use Rattle.can_id.specs.declared.ident.Ident.{Ident}
-use Rattle.can_id.specs.declared.ident.Ident.TheVariants.{Std, Ext}
 use Rattle.decimal.specs.Cutting.{cut}
-use Rattle.decimal.specs.Number.{Number}
 use Rattle.decimal.specs.Reading.{reading}
-use Rattle.dbc_words.specs.Name.{starts_identifier, is_name}
-use Rattle.dbc_words.specs.declared.keyword.Keyword.{Keyword}
-use Rattle.dbc_words.specs.declared.keyword.Keyword.TheVariants.{Version, NewSymbols, BitTiming, Nodes, ValueTable}
-use Rattle.dbc_words.specs.declared.keyword.Keyword.TheVariants.{Message, Comment, ValueTexts, SignalValueType}
-use Rattle.dbc_words.specs.declared.keyword.Keyword.TheVariants.{AttributeValue, AttributeDefinition, SignalGroup}
-use Rattle.dbc_words.specs.declared.keyword.Keyword.TheVariants.{Filter}
-use Rattle.dbc_words.specs.declared.value_type.ValueType.TheVariants.{Float, Double}
+use Rattle.dbc_words.specs.Name.{is_name}
+use Rattle.dbc_words.specs.declared.keyword.Keyword.TheVariants.{Message, AttributeDefinition, SignalGroup, Filter}
 use Rattle.dbc_grammar.specs.Division.{Divides}
 use Rattle.dbc_grammar.specs.Fields.{ident_of}
 use Rattle.dbc_grammar.specs.Parsing.{decimal_at, pair_at, entry_at, entries_at, further_at, some_names_at, no_names_at}
@@ -28,13 +20,12 @@ use Rattle.dbc_grammar.specs.Parsing.{timing_line_at, nodes_line_at, table_at, s
 use Rattle.dbc_grammar.specs.Parsing.{node_comment_at, message_comment_at, signal_comment_at, passed_comment_at}
 use Rattle.dbc_grammar.specs.Parsing.{comment_at, value_texts_at, passed_value_texts_at, value_type_at, spn_at}
 use Rattle.dbc_grammar.specs.Parsing.{skipped_at, independent_at, line_at, statement_at, statements_at}
-use Rattle.dbc_grammar.specs.Statement.{SignalLine, MessageLine, Statement, Content, Dropped, PassedOver}
-use Rattle.dbc_grammar.specs.Statement.{VersionIs, NodesAre, TableIs, MessageIs, CommentIs, NodeCommentIs}
-use Rattle.dbc_grammar.specs.Statement.{MessageCommentIs, SignalCommentIs, ValueTextsAre, ValueTypeIs, SpnIs}
+use Rattle.dbc_grammar.specs.Statement.{SignalLine, MessageLine, Statement, Content, Dropped, PassedOver, VersionIs}
+use Rattle.dbc_grammar.specs.Statement.{NodesAre, TableIs, MessageIs, CommentIs, NodeCommentIs, MessageCommentIs}
+use Rattle.dbc_grammar.specs.Statement.{SignalCommentIs, ValueTextsAre, ValueTypeIs, SpnIs}
 use Rattle.dbc_grammar.specs.Token.{Token}
 use Rattle.dbc_grammar.specs.declared.token.TokenKind.{TokenKind}
 use Rattle.dbc_grammar.specs.declared.token.TokenKind.TheVariants.{Name, Number as NumberKind, Text, Mark}
-use Rattle.dbc_sheet.specs.declared.value_texts.ValueText.{ValueText}
 use Rattle.dbc_grammar.proofs.Divisions.{statements_are_runs, reading_is_exact}
 
 -- The tokens of an example are its words, with a blank between two; the n-th of them has the offset n.

@@ -1,10 +1,7 @@
 -- The byte with which a token begins determines its kind, and is no gap.
-use Rattle.std.proofs.Common.{◌≡◌, ℕ, Bool, true, false, List, [], ◌∷◌, ◌++◌, Some, None, refl, sym, ap, ◌∙◌, arith}
-use Rattle.std.specs.Char.{is_ascii_digit}
-use Rattle.std.proofs.lemmas.Bool.{and_parts}
-use Rattle.std.proofs.lemmas.Bool.Decides.{nat_tests}
-use Rattle.decimal.specs.Spelling.{are_digits, is_numeral}
-use Rattle.dbc_words.specs.Name.{starts_identifier}
+use Rattle.dbc_grammar.proofs.Common.{◌≡◌, ℕ, Bool, true, false, List, [], ◌∷◌, ◌++◌, Some, None, refl, sym, ap, ◌∙◌}
+use Rattle.dbc_grammar.proofs.Common.{arith, is_ascii_digit, and_parts, nat_tests, are_digits, is_numeral}
+use Rattle.dbc_grammar.proofs.Common.{starts_identifier}
 use Rattle.dbc_grammar.specs.declared.token.TokenKind.{TokenKind}
 use Rattle.dbc_grammar.specs.declared.token.TokenKind.TheVariants.{Name, Number, Text, Mark}
 use Rattle.dbc_grammar.specs.Lexing.{kind_of}

@@ -1,7 +1,7 @@
 -- The tokens of a text are what is read of it, and reading ends with a fault where no token begins.
-use Rattle.std.proofs.Common.{◌≡◌, ℕ, zero, suc, ◌+◌, ◌-◌, ◌<◌, ◌↔◌, List, [], ◌∷◌, ◌++◌, length, drop, Option, Some}
-use Rattle.std.proofs.Common.{None, Result, Ok, Err, refl, sym, ap, subst, ◌∙◌, arith, append_assoc}
-use Rattle.std.proofs.lemmas.List.{length-append, drop_at}
+use Rattle.dbc_grammar.proofs.Common.{◌≡◌, ℕ, zero, suc, ◌+◌, ◌-◌, ◌<◌, ◌↔◌, List, [], ◌∷◌, ◌++◌, length, drop, Option}
+use Rattle.dbc_grammar.proofs.Common.{Some, None, Result, Ok, Err, refl, sym, ap, subst, ◌∙◌, arith, append_assoc}
+use Rattle.dbc_grammar.proofs.Common.{length-append, drop_at}
 use Rattle.dbc_grammar.specs.Lexing.{LexFault, Lexed, first_token, lexed, lexed_in, with_first}
 use Rattle.dbc_grammar.specs.Token.{Token}
 use Rattle.dbc_grammar.specs.TokenLaw.{StopsWith, tokens_then_fault, tokens_without_fault}

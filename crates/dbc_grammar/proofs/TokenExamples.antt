@@ -1,6 +1,6 @@
 -- Examples of what is read of a text, and of texts that have no tokens. `"` is byte 34, and `\` is byte 92.
-use Rattle.std.proofs.Common.{◌≡◌, ℕ, ◌+◌, List, [], ◌∷◌, length, map, Some, None, refl, sym, ap, ◌∙◌}
-use Rattle.std.specs.Prelude.{codes, drop, min}
+use Rattle.dbc_grammar.proofs.Common.{◌≡◌, ℕ, ◌+◌, List, [], ◌∷◌, length, map, Some, None, refl, sym, ap, ◌∙◌, codes}
+use Rattle.std.specs.Prelude.{drop, min}
 use Rattle.dbc_grammar.specs.declared.token.TokenKind.{TokenKind}
 use Rattle.dbc_grammar.specs.declared.token.TokenKind.TheVariants.{Name, Number, Text, Mark}
 use Rattle.dbc_grammar.specs.Lexing.{LexFault, StrayByte, UnclosedText, Lexed, exponent_len, first_token, inside_len}

@@ -1,18 +1,14 @@
 -- The longest number at an offset is found part by part: digits, a point with digits, an exponent.
-use Rattle.std.proofs.Common.{◌≡◌, ℕ, zero, suc, ◌+◌, ◌≤◌, ◌<◌, Bool, true, false, cond, eqb, List, [], ◌∷◌, ◌++◌}
-use Rattle.std.proofs.Common.{length, take, drop, refl, ap, subst, ◌∙◌, arith, append_assoc}
-use Rattle.std.specs.Char.{is_ascii_digit}
-use Rattle.std.specs.List.{prefix_len}
-use Rattle.std.proofs.lemmas.Bool.{and_parts, and_from, cond_both, ne_eqb}
-use Rattle.std.proofs.lemmas.Bool.Decides.{nat_tests}
-use Rattle.std.proofs.lemmas.List.{length-append, length-drop, drop_at}
-use Rattle.std.proofs.lemmas.List.Folds.{length-prefix_len}
-use Rattle.std.proofs.lemmas.List.Sums.{prefix_len-le-length}
+use Rattle.dbc_grammar.proofs.Common.{◌≡◌, ℕ, zero, suc, ◌+◌, ◌≤◌, ◌<◌, Bool, true, false, cond, eqb, List, [], ◌∷◌}
+use Rattle.dbc_grammar.proofs.Common.{◌++◌, length, take, drop, refl, ap, subst, ◌∙◌, arith, append_assoc}
+use Rattle.dbc_grammar.proofs.Common.{is_ascii_digit, prefix_len, and_parts, and_from, nat_tests, length-append}
+use Rattle.dbc_grammar.proofs.Common.{drop_at, length-prefix_len, prefix_len-le-length, are_digits, is_numeral, Stops}
+use Rattle.dbc_grammar.proofs.Common.{prefix_all, prefix_exact}
+use Rattle.std.proofs.lemmas.Bool.{cond_both, ne_eqb}
+use Rattle.std.proofs.lemmas.List.{length-drop}
 use Rattle.std.proofs.Math.Seq.{take-add}
 use Rattle.decimal.specs.Cutting.{fraction_len}
-use Rattle.decimal.specs.Spelling.{Spelling, IsNumberToken, are_digits, is_exponent, is_fraction, is_letter_e}
-use Rattle.decimal.specs.Spelling.{is_numeral, is_power, is_sign}
-use Rattle.decimal.proofs.Tokens.{Stops, prefix_all, prefix_exact}
+use Rattle.decimal.specs.Spelling.{Spelling, IsNumberToken, is_exponent, is_fraction, is_letter_e, is_power, is_sign}
 use Rattle.dbc_grammar.specs.Lexing.{exponent_len, number_len, power_len, tail_len, with_front}
 use Rattle.dbc_grammar.proofs.TokenRuns.{prefix_le}
 

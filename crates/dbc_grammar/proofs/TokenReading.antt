@@ -1,12 +1,11 @@
 -- What is read first is the first token, and where none is read none is there.
-use Rattle.std.proofs.Common.{◌≡◌, ℕ, ◌+◌, Bool, true, false, List, [], ◌∷◌, ◌++◌, length, take, drop, Option, Some}
-use Rattle.std.proofs.Common.{None, Result, Ok, Err, refl, sym, ap, subst, ◌∙◌, arith, append_assoc, add-zero}
-use Rattle.std.proofs.Common.{if◌then◌else◌}
-use Rattle.std.specs.List.{prefix_len}
-use Rattle.std.proofs.lemmas.Bool.{and_from, eqb-true}
-use Rattle.std.proofs.lemmas.List.{append-nil, length-append, length-take-le, take-append-drop, drop_at}
-use Rattle.std.proofs.lemmas.List.Folds.{length-prefix_len, list_all-append}
-use Rattle.decimal.proofs.Tokens.{Stops, prefix_all, prefix_exact}
+use Rattle.dbc_grammar.proofs.Common.{◌≡◌, ℕ, ◌+◌, Bool, true, false, List, [], ◌∷◌, ◌++◌, length, take, drop, Option}
+use Rattle.dbc_grammar.proofs.Common.{Some, None, Result, Ok, Err, refl, sym, ap, subst, ◌∙◌, arith, append_assoc}
+use Rattle.dbc_grammar.proofs.Common.{prefix_len, and_from, eqb-true, append-nil, length-append, drop_at}
+use Rattle.dbc_grammar.proofs.Common.{length-prefix_len, Stops, prefix_all, prefix_exact}
+use Rattle.std.proofs.Common.{add-zero, if◌then◌else◌}
+use Rattle.std.proofs.lemmas.List.{length-take-le, take-append-drop}
+use Rattle.std.proofs.lemmas.List.Folds.{list_all-append}
 use Rattle.dbc_grammar.specs.declared.token.TokenKind.{TokenKind}
 use Rattle.dbc_grammar.specs.declared.token.TokenKind.TheVariants.{Text}
 use Rattle.dbc_grammar.specs.Lexing.{LexFault, StrayByte, UnclosedText, first_token, kind_of, of_kind, token_at}

@@ -1,9 +1,6 @@
 -- Runs of bytes that pass a test.
-use Rattle.std.proofs.Common.{◌≡◌, ◌+◌, ◌≤◌, ℕ, suc, Bool, true, false, cond, List, [], ◌∷◌, ◌++◌, length, drop, refl}
-use Rattle.std.proofs.Common.{arith}
-use Rattle.std.specs.List.{prefix_len, list_all}
-use Rattle.std.proofs.lemmas.Bool.{and_parts}
-use Rattle.decimal.proofs.Tokens.{Stops}
+use Rattle.dbc_grammar.proofs.Common.{◌≡◌, ◌+◌, ◌≤◌, ℕ, suc, Bool, true, false, cond, List, [], ◌∷◌, ◌++◌, length, drop}
+use Rattle.dbc_grammar.proofs.Common.{refl, arith, prefix_len, list_all, and_parts, Stops}
 
 -- bytes that pass the test, before any others
 pub prefix_le : (p : ℕ → Bool) (ds more : List ℕ) → list_all p ds ≡ true → length ds ≤ prefix_len p (ds ++ more)

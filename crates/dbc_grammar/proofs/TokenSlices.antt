@@ -1,7 +1,6 @@
 -- Tokens are slices of the source that they are read of.
-use Rattle.std.proofs.Common.{◌≡◌, ℕ, ◌+◌, ◌-◌, List, [], ◌∷◌, ◌++◌, length, take, drop, Option, refl, sym, ap, ◌∙◌}
-use Rattle.std.proofs.Common.{arith, append_assoc}
-use Rattle.std.proofs.lemmas.List.{length-append, drop_at, take_at}
+use Rattle.dbc_grammar.proofs.Common.{◌≡◌, ℕ, ◌+◌, ◌-◌, List, [], ◌∷◌, ◌++◌, length, take, drop, Option, refl, sym, ap}
+use Rattle.dbc_grammar.proofs.Common.{◌∙◌, arith, append_assoc, length-append, drop_at, take_at}
 use Rattle.dbc_grammar.specs.Lexing.{LexFault, lexed}
 use Rattle.dbc_grammar.specs.Token.{Token}
 use Rattle.dbc_grammar.specs.TokenLaw.{AreSlices}

@@ -1,6 +1,6 @@
 -- What is read of a text, token by token.
-use Rattle.std.proofs.Common.{◌≡◌, ℕ, zero, suc, ◌+◌, ◌-◌, ◌<◌, List, length, drop, Option, Some, None, Result, Ok, Err}
-use Rattle.std.proofs.Common.{refl, subst, ap, arith}
+use Rattle.dbc_grammar.proofs.Common.{◌≡◌, ℕ, zero, suc, ◌+◌, ◌-◌, ◌<◌, List, length, drop, Option, Some, None, Result}
+use Rattle.dbc_grammar.proofs.Common.{Ok, Err, refl, subst, ap, arith}
 use Rattle.dbc_grammar.specs.Lexing.{LexFault, Lexed, first_token, lexed, lexed_in, with_first}
 use Rattle.dbc_grammar.specs.Token.{Token}
 use Rattle.dbc_grammar.proofs.TokenExact.{after_first, rest_is_shorter}

@@ -1,9 +1,7 @@
 -- The quote that ends a text is the first that no backslash takes.
-use Rattle.std.proofs.Common.{◌≡◌, ℕ, suc, ◌<◌, ◌-◌, Bool, true, false, eqb, List, [], ◌∷◌, ◌++◌, length, take, Option}
-use Rattle.std.proofs.Common.{Some, None, refl, ap, subst, arith}
+use Rattle.dbc_grammar.proofs.Common.{◌≡◌, ℕ, suc, ◌<◌, ◌-◌, Bool, true, false, eqb, List, [], ◌∷◌, ◌++◌, length, take}
+use Rattle.dbc_grammar.proofs.Common.{Option, Some, None, refl, ap, subst, arith, eqb-true, length-append, take_at}
 use Rattle.std.specs.Option.{option_map}
-use Rattle.std.proofs.lemmas.Bool.{eqb-true}
-use Rattle.std.proofs.lemmas.List.{length-append, take_at}
 use Rattle.dbc_words.specs.Text.{is_text_after}
 use Rattle.dbc_grammar.specs.Lexing.{inside_len}
 use Rattle.dbc_grammar.specs.Inside.{inside_of}

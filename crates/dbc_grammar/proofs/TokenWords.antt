@@ -1,15 +1,10 @@
 -- The longest spelling with which the bytes begin is found from their first byte.
-use Rattle.std.proofs.Common.{◌≡◌, ℕ, suc, ◌+◌, ◌≤◌, Bool, true, false, cond, List, [], ◌∷◌, ◌++◌, length, take, Option}
-use Rattle.std.proofs.Common.{Some, None, refl, sym, ap, subst, ◌∙◌, arith, append_assoc}
-use Rattle.std.specs.Char.{is_ascii_digit}
-use Rattle.std.specs.List.{prefix_len, list_all}
+use Rattle.dbc_grammar.proofs.Common.{◌≡◌, ℕ, suc, ◌+◌, ◌≤◌, Bool, true, false, cond, List, [], ◌∷◌, ◌++◌, length, take}
+use Rattle.dbc_grammar.proofs.Common.{Option, Some, None, refl, sym, ap, subst, ◌∙◌, arith, append_assoc}
+use Rattle.dbc_grammar.proofs.Common.{is_ascii_digit, prefix_len, list_all, and_parts, and_from, eqb-true}
+use Rattle.dbc_grammar.proofs.Common.{length-append, prefix_len-le-length, prefix_all, starts_identifier, text-Decides}
 use Rattle.std.specs.Option.{option_map}
-use Rattle.std.proofs.lemmas.Bool.{and_parts, and_from, eqb-true}
-use Rattle.std.proofs.lemmas.List.{length-append}
-use Rattle.std.proofs.lemmas.List.Sums.{prefix_len-le-length}
-use Rattle.decimal.proofs.Tokens.{prefix_all}
-use Rattle.dbc_words.specs.Name.{starts_identifier, continues_identifier, is_c_identifier}
-use Rattle.dbc_words.proofs.Texts.{text-Decides}
+use Rattle.dbc_words.specs.Name.{continues_identifier, is_c_identifier}
 use Rattle.dbc_grammar.specs.declared.token.TokenKind.{TokenKind}
 use Rattle.dbc_grammar.specs.declared.token.TokenKind.TheVariants.{Name, Number, Text, Mark}
 use Rattle.dbc_grammar.specs.Lexing.{inside_len, kind_of, number_len, word_len}

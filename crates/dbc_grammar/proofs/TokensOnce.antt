@@ -1,9 +1,7 @@
 -- A text has at most one first token, and so at most one list of tokens.
-use Rattle.std.proofs.Common.{◌≡◌, ℕ, ◌+◌, ◌<◌, List, [], ◌∷◌, ◌++◌, length, take, drop, refl, sym, ap, subst, ◌∙◌}
-use Rattle.std.proofs.Common.{arith}
-use Rattle.std.specs.List.{prefix_len}
-use Rattle.std.proofs.lemmas.List.{append-nil, length-append, take_at, drop_at}
-use Rattle.decimal.proofs.Tokens.{Stops, prefix_exact}
+use Rattle.dbc_grammar.proofs.Common.{◌≡◌, ℕ, ◌+◌, ◌<◌, List, [], ◌∷◌, ◌++◌, length, take, drop, refl, sym, ap, subst}
+use Rattle.dbc_grammar.proofs.Common.{◌∙◌, arith, prefix_len, append-nil, length-append, take_at, drop_at, Stops}
+use Rattle.dbc_grammar.proofs.Common.{prefix_exact}
 use Rattle.dbc_grammar.specs.declared.token.TokenKind.{TokenKind}
 use Rattle.dbc_grammar.specs.Spelling.{Spells, is_gap}
 use Rattle.dbc_grammar.specs.Token.{Token}

@@ -1,8 +1,7 @@
 -- What the statements of a canonical text say, one after the other: as `Canon` of `dbc_grammar` lists its lines, where
 -- the lines of a message and of its signals are one statement.
-use Rattle.std.proofs.Common.{◌==◌, ℕ, List, [], ◌∷◌, ◌++◌, map, Some, if◌then◌else◌}
-use Rattle.std.specs.List.{flat_map}
-use Rattle.dbc_sheet.specs.Messages.{number_of}
+use Rattle.dbc_law.proofs.Common.{◌==◌, ℕ, List, [], ◌∷◌, ◌++◌, map, Some, if◌then◌else◌, flat_map, number_of}
+use Rattle.dbc_law.proofs.Common.{value_type_number, Message, Node, Sheet, Signal, ValueTable, ValueText}
 use Rattle.dbc_grammar.specs.Statement.{
   Content,
   VersionIs,
@@ -22,13 +21,6 @@ use Rattle.dbc_grammar.specs.Statement.{
   SignalLine,
   Statement,
 }
-use Rattle.dbc_words.specs.ValueType.{value_type_number}
-use Rattle.dbc_sheet.specs.declared.message.Message.{Message}
-use Rattle.dbc_sheet.specs.declared.node.Node.{Node}
-use Rattle.dbc_sheet.specs.declared.sheet.Sheet.{Sheet}
-use Rattle.dbc_sheet.specs.declared.signal.Signal.{Signal}
-use Rattle.dbc_sheet.specs.declared.value_table.ValueTable.{ValueTable}
-use Rattle.dbc_sheet.specs.declared.value_texts.ValueText.{ValueText}
 
 abbrev pub contents_of : List Statement → List Content
 contents_of statements = map (λ (s : Statement). s.content) statements

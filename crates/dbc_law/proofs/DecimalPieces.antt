@@ -1,8 +1,7 @@
 -- The pieces of a decimal, by its sign.
-use Rattle.std.specs.Prelude.{codes, Bool, List, [], ◌∷◌, ℕ, unsigned_abs, if◌then◌else◌}
-use Rattle.decimal.specs.Number.{Number}
+use Rattle.dbc_law.proofs.Common.{codes, Number, Piece, mark, tight}
+use Rattle.std.specs.Prelude.{Bool, List, [], ◌∷◌, ℕ, unsigned_abs, if◌then◌else◌}
 use Rattle.decimal.specs.Printing.{unsigned_text}
-use Rattle.dbc_grammar.specs.Canon.{Piece, mark, tight}
 use Rattle.dbc_grammar.specs.declared.token.TokenKind.TheVariants as kind
 
 abbrev pub digits : Number → List ℕ

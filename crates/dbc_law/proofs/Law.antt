@@ -1,10 +1,7 @@
 -- The canonical text of a sheet has tokens, these divide into statements, and the statements say the sheet.
-use Rattle.std.proofs.Common.{refl}
-use Rattle.dbc_grammar.specs.Canon.{canonical_text}
-use Rattle.dbc_sheet.specs.Form.{IsSheet}
+use Rattle.dbc_law.proofs.Common.{refl, canonical_text, IsSheet, Sheet}
 use Rattle.dbc_grammar.specs.Reads.{Reads, ReadsAsOneAtMost}
 use Rattle.dbc_grammar.specs.Saying.{passed_by}
-use Rattle.dbc_sheet.specs.declared.sheet.Sheet.{Sheet}
 use Rattle.dbc_grammar.proofs.OneReading.{reads_only}
 use Rattle.dbc_law.specs.Law.{GrammarLaw}
 use Rattle.dbc_law.proofs.Saying.{contents_say}

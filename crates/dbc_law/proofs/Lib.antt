@@ -1,3 +1,4 @@
+pub mod Common
 pub mod PieceTokens
 pub mod Contents
 pub mod DecimalPieces

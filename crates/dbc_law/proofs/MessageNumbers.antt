@@ -1,12 +1,9 @@
 -- The numbers of messages are those that statements may have, and are those of the messages' identifiers.
-use Rattle.std.proofs.Common.{◌≡◌, ◌<◌, ◌^◌, Some, refl, arith}
+use Rattle.dbc_law.proofs.Common.{◌≡◌, ◌<◌, ◌^◌, Some, refl, arith, IsMessage, number_of, Message}
 use Rattle.can_id.specs.Ident.{IsIdentifier, dbc_number}
 use Rattle.can_id.specs.declared.ident.Ident.{Ident}
 use Rattle.can_id.specs.declared.ident.Ident.TheVariants.{Std, Ext}
 use Rattle.dbc_grammar.specs.Fields.{ident_of}
-use Rattle.dbc_sheet.specs.Form.{IsMessage}
-use Rattle.dbc_sheet.specs.Messages.{number_of}
-use Rattle.dbc_sheet.specs.declared.message.Message.{Message}
 use Rattle.dbc_grammar.proofs.Identifiers.{numbers_are_identifiers}
 
 pub number_ident : (m : Message) → IsMessage m → ident_of (number_of m) ≡ Some m.ident

@@ -1,8 +1,5 @@
 -- Which tokens belong to the pieces of canonical lines.
-use Rattle.std.proofs.Common.{◌≡◌, ℕ, List, [], ◌∷◌, ◌++◌, refl}
-use Rattle.dbc_grammar.specs.Canon.{Line, Piece}
-use Rattle.dbc_grammar.specs.Rules.{Rule, many}
-use Rattle.dbc_grammar.specs.Token.{Token}
+use Rattle.dbc_law.proofs.Common.{◌≡◌, ℕ, List, [], ◌∷◌, ◌++◌, refl, Line, Piece, Rule, many, Token}
 
 -- the token of a piece whose text is between these offsets
 abbrev pub token_of : Piece → ℕ → ℕ → Token

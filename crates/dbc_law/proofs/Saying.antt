@@ -1,11 +1,11 @@
 -- Statements whose contents are a sheet's canonical ones say the sheet.
-use Rattle.std.proofs.Common.{◌≡◌, ◌∙◌, ℕ, nat_eq, Bool, false, List, [], ◌∷◌, map, Option, None, unwrap_or}
-use Rattle.std.proofs.Common.{IsPermutation, refl, sym, ap, subst, append-nil}
-use Rattle.std.specs.List.{AllByRecursion, filter_map, flat_map, last_or}
-use Rattle.std.specs.Str.{bytes_eq}
+use Rattle.dbc_law.proofs.Common.{◌≡◌, ◌∙◌, ℕ, Bool, false, List, [], ◌∷◌, map, Option, None, unwrap_or, refl, sym, ap}
+use Rattle.dbc_law.proofs.Common.{subst, append-nil, AllByRecursion, filter_map, flat_map, bytes_eq, IsSheet, number_of}
+use Rattle.dbc_law.proofs.Common.{Integer, node_name, Content, CommentIs, Statement, Message, Node, Sheet, Signal}
+use Rattle.dbc_law.proofs.Common.{kept_entries, message_signals, part_entries, signal_key}
+use Rattle.std.proofs.Common.{nat_eq, IsPermutation}
+use Rattle.std.specs.List.{last_or}
 use Rattle.std.proofs.lemmas.List.Sorted.{IsPermutation-refl}
-use Rattle.dbc_sheet.specs.Form.{IsSheet}
-use Rattle.dbc_sheet.specs.Messages.{number_of}
 use Rattle.dbc_grammar.specs.Saying.{
   SignalKey,
   same_signal,
@@ -29,16 +29,8 @@ use Rattle.dbc_grammar.specs.Saying.{
   whole_signal,
   Says,
 }
-use Rattle.dbc_words.specs.declared.value_type.ValueType.TheVariants.{Integer}
-use Rattle.dbc_sheet.specs.Sheet.{node_name}
-use Rattle.dbc_grammar.specs.Statement.{Content, CommentIs, Statement}
-use Rattle.dbc_sheet.specs.declared.message.Message.{Message}
-use Rattle.dbc_sheet.specs.declared.node.Node.{Node}
-use Rattle.dbc_sheet.specs.declared.sheet.Sheet.{Sheet}
-use Rattle.dbc_sheet.specs.declared.signal.Signal.{Signal}
-use Rattle.dbc_grammar.proofs.EachStated.{kept_entries, last_value}
-use Rattle.dbc_grammar.proofs.SheetStated.{message_signals, messages_stated, nodes_stated, part_entries, signal_key}
-use Rattle.dbc_grammar.proofs.SheetStated.{signals_stated}
+use Rattle.dbc_grammar.proofs.EachStated.{last_value}
+use Rattle.dbc_grammar.proofs.SheetStated.{messages_stated, nodes_stated, signals_stated}
 use Rattle.dbc_law.proofs.Contents.{comments, contents, contents_of, message_line, node_names, signal_line}
 use Rattle.dbc_law.proofs.SayingContents.{each_in-contents}
 use Rattle.dbc_law.proofs.SayingEntries.{empty_list, empty_number, empty_type, some_number, some_of, some_type}

@@ -1,9 +1,9 @@
 -- What contents say of one kind, one after the other.
-use Rattle.std.proofs.Common.{◌≡◌, ◌∙◌, List, [], ◌∷◌, ◌++◌, Option, None, Some, refl, ap}
-use Rattle.std.specs.List.{cons_option, filter_map}
+use Rattle.dbc_law.proofs.Common.{◌≡◌, ◌∙◌, List, [], ◌∷◌, ◌++◌, Option, None, Some, refl, ap, filter_map, Content}
+use Rattle.dbc_law.proofs.Common.{Statement}
+use Rattle.std.specs.List.{cons_option}
 use Rattle.std.proofs.lemmas.List.Elements.{filter_map-append}
 use Rattle.dbc_grammar.specs.Saying.{each_in}
-use Rattle.dbc_grammar.specs.Statement.{Content, Statement}
 use Rattle.dbc_law.proofs.Contents.{contents_of}
 
 -- of this kind the contents say these

@@ -1,16 +1,10 @@
 -- What sections say that have one statement for each thing that is not empty: the entries that are kept.
-use Rattle.std.proofs.Common.{◌≡◌, ◌==◌, ◌++◌, ℕ, Bool, true, false, not, cond, List, [], ◌∷◌, Option, Some}
-use Rattle.std.proofs.Common.{if◌then◌else◌, true≢false, refl, sym, arith}
-use Rattle.std.specs.List.{flat_map}
-use Rattle.std.proofs.lemmas.Bool.Decides.{nat_tests}
+use Rattle.dbc_law.proofs.Common.{◌≡◌, ◌==◌, ◌++◌, ℕ, Bool, true, false, not, cond, List, [], ◌∷◌, Option, Some}
+use Rattle.dbc_law.proofs.Common.{if◌then◌else◌, refl, sym, arith, flat_map, nat_tests, value_type_number, ValueType}
+use Rattle.dbc_law.proofs.Common.{Integer, Float, Double, Content, ValueTextsAre, ValueText, kept_entries, entries}
+use Rattle.dbc_law.proofs.Common.{part_entries}
+use Rattle.std.proofs.Common.{true≢false}
 use Rattle.std.proofs.lemmas.List.Elements.{filter-append}
-use Rattle.dbc_words.specs.ValueType.{value_type_number}
-use Rattle.dbc_words.specs.declared.value_type.ValueType.{ValueType}
-use Rattle.dbc_words.specs.declared.value_type.ValueType.TheVariants.{Integer, Float, Double}
-use Rattle.dbc_grammar.specs.Statement.{Content, ValueTextsAre}
-use Rattle.dbc_sheet.specs.declared.value_texts.ValueText.{ValueText}
-use Rattle.dbc_grammar.proofs.EachStated.{kept_entries}
-use Rattle.dbc_grammar.proofs.SheetStated.{entries, part_entries}
 use Rattle.dbc_law.proofs.Contents.{comments, texts}
 use Rattle.dbc_law.proofs.SayingContents.{States, ◌also◌, no_contents, speaks, states_same}
 

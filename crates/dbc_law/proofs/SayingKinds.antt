@@ -1,17 +1,10 @@
 -- What the contents of a sheet say, by kind: each kind occurs in one section only, and the others say nothing of it.
-use Rattle.std.proofs.Common.{◌≡◌, ◌∙◌, ◌++◌, List, [], ◌∷◌, map, Option, refl, ap, append-nil}
-use Rattle.std.specs.List.{filter_map, flat_map}
-use Rattle.dbc_sheet.specs.Messages.{number_of}
-use Rattle.dbc_grammar.specs.Saying.{version_in, comment_in, nodes_in, table_in, message_in, node_comment_in}
-use Rattle.dbc_grammar.specs.Saying.{message_comment_in, signal_comment_in, value_texts_in, value_type_in, spn_in}
-use Rattle.dbc_sheet.specs.Sheet.{node_name}
-use Rattle.dbc_grammar.specs.Statement.{Content, CommentIs}
-use Rattle.dbc_sheet.specs.declared.message.Message.{Message}
-use Rattle.dbc_sheet.specs.declared.node.Node.{Node}
-use Rattle.dbc_sheet.specs.declared.sheet.Sheet.{Sheet}
-use Rattle.dbc_sheet.specs.declared.signal.Signal.{Signal}
-use Rattle.dbc_grammar.proofs.EachStated.{kept_entries}
-use Rattle.dbc_grammar.proofs.SheetStated.{entries, message_signals, part_entries, signal_key}
+use Rattle.dbc_law.proofs.Common.{◌≡◌, ◌∙◌, ◌++◌, List, [], ◌∷◌, map, Option, refl, ap, append-nil, filter_map}
+use Rattle.dbc_law.proofs.Common.{flat_map, number_of, table_in, message_in, node_comment_in, message_comment_in}
+use Rattle.dbc_law.proofs.Common.{signal_comment_in, value_texts_in, value_type_in, spn_in, node_name, Content}
+use Rattle.dbc_law.proofs.Common.{CommentIs, Message, Node, Sheet, Signal, kept_entries, entries, message_signals}
+use Rattle.dbc_law.proofs.Common.{part_entries, signal_key}
+use Rattle.dbc_grammar.specs.Saying.{version_in, comment_in, nodes_in}
 use Rattle.dbc_law.proofs.Contents.{comments, contents, each_signal, message, message_comments, message_line}
 use Rattle.dbc_law.proofs.Contents.{node_comments, node_names, sections, spns, table, value_texts, value_types}
 use Rattle.dbc_law.proofs.Contents.{with_spn_definitions}

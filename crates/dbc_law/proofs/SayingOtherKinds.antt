@@ -1,7 +1,7 @@
 -- The sections of a sheet's contents that say nothing of a kind.
-use Rattle.std.proofs.Common.{◌≡◌, ◌==◌, ℕ, Bool, true, false, List, [], ◌∷◌, map, Option, None, Some, if◌then◌else◌}
-use Rattle.std.specs.List.{flat_map}
-use Rattle.dbc_sheet.specs.Messages.{number_of}
+use Rattle.dbc_law.proofs.Common.{◌≡◌, ◌==◌, ℕ, Bool, true, false, List, [], ◌∷◌, map, Option, None, Some}
+use Rattle.dbc_law.proofs.Common.{if◌then◌else◌, flat_map, number_of, value_type_number, ValueType, Message, Sheet}
+use Rattle.dbc_law.proofs.Common.{Signal, ValueText}
 use Rattle.dbc_grammar.specs.Statement.{
   Cited,
   Content,
@@ -17,12 +17,6 @@ use Rattle.dbc_grammar.specs.Statement.{
   PassedOver,
   MessageLine,
 }
-use Rattle.dbc_words.specs.ValueType.{value_type_number}
-use Rattle.dbc_words.specs.declared.value_type.ValueType.{ValueType}
-use Rattle.dbc_sheet.specs.declared.message.Message.{Message}
-use Rattle.dbc_sheet.specs.declared.sheet.Sheet.{Sheet}
-use Rattle.dbc_sheet.specs.declared.signal.Signal.{Signal}
-use Rattle.dbc_sheet.specs.declared.value_texts.ValueText.{ValueText}
 use Rattle.dbc_law.proofs.Contents.{
   comments,
   each_signal,

@@ -1,19 +1,11 @@
 -- What the sections of a sheet's contents say that are about one kind.
-use Rattle.std.proofs.Common.{◌==◌, Bool, List, [], ◌∷◌, map, Option, Some, refl, append-nil}
-use Rattle.std.specs.List.{flat_map}
-use Rattle.dbc_words.specs.ValueType.{value_type_number}
-use Rattle.dbc_sheet.specs.Messages.{number_of}
-use Rattle.dbc_grammar.specs.Saying.{SignalKey, table_in, message_in, node_comment_in, message_comment_in}
-use Rattle.dbc_grammar.specs.Saying.{signal_comment_in, value_texts_in, value_type_in, spn_in}
-use Rattle.dbc_sheet.specs.Sheet.{node_name}
-use Rattle.dbc_grammar.specs.Statement.{Content, NodeCommentIs, MessageCommentIs, SignalCommentIs, ValueTypeIs, SpnIs}
-use Rattle.dbc_sheet.specs.declared.message.Message.{Message}
-use Rattle.dbc_sheet.specs.declared.node.Node.{Node}
-use Rattle.dbc_sheet.specs.declared.sheet.Sheet.{Sheet}
-use Rattle.dbc_sheet.specs.declared.signal.Signal.{Signal}
-use Rattle.dbc_sheet.specs.declared.value_table.ValueTable.{ValueTable}
-use Rattle.dbc_grammar.proofs.EachStated.{kept_entries}
-use Rattle.dbc_grammar.proofs.SheetStated.{entries, message_signals, part_entries, signal_key}
+use Rattle.dbc_law.proofs.Common.{◌==◌, Bool, List, [], ◌∷◌, map, Option, Some, refl, append-nil, flat_map}
+use Rattle.dbc_law.proofs.Common.{value_type_number, number_of, table_in, message_in, node_comment_in}
+use Rattle.dbc_law.proofs.Common.{message_comment_in, signal_comment_in, value_texts_in, value_type_in, spn_in}
+use Rattle.dbc_law.proofs.Common.{node_name, Content, NodeCommentIs, MessageCommentIs, SignalCommentIs, ValueTypeIs}
+use Rattle.dbc_law.proofs.Common.{SpnIs, Message, Node, Sheet, Signal, ValueTable, kept_entries, entries}
+use Rattle.dbc_law.proofs.Common.{message_signals, part_entries, signal_key}
+use Rattle.dbc_grammar.specs.Saying.{SignalKey}
 use Rattle.dbc_law.proofs.Contents.{each_signal, message, message_comments, message_line, node_comments}
 use Rattle.dbc_law.proofs.Contents.{signal_comments, spns, table, value_texts, value_types, with_spn_definitions}
 use Rattle.dbc_law.proofs.SayingContents.{States, ◌also◌, no_contents, speaks, states_same}

@@ -1,25 +1,14 @@
 -- The lines that attach suspect parameter numbers, texts for values and value types to signals are statements.
-use Rattle.std.proofs.Common.{◌≡◌, ◌++◌, ◌==◌, ℕ, Bool, true, false, List, [], ◌∷◌, length, Some, if◌then◌else◌, refl}
-use Rattle.std.proofs.Common.{inl, arith}
-use Rattle.std.specs.Prelude.{codes}
-use Rattle.std.specs.List.{All, flat_map}
-use Rattle.std.proofs.lemmas.List.{length-append}
-use Rattle.dbc_words.specs.Limits.{spn_limit}
-use Rattle.dbc_words.specs.ValueType.{value_type_number}
+use Rattle.dbc_law.proofs.Common.{◌≡◌, ◌++◌, ◌==◌, ℕ, Bool, true, false, List, [], ◌∷◌, length, Some, if◌then◌else◌}
+use Rattle.dbc_law.proofs.Common.{refl, inl, arith, codes, All, flat_map, length-append, spn_limit, value_type_number}
+use Rattle.dbc_law.proofs.Common.{ValueType, Integer, Float, Double, IsMessage, IsSheet, IsSignal, IsValueText}
+use Rattle.dbc_law.proofs.Common.{number_of, Content, SpnIs, ValueTextsAre, ValueTypeIs, Token, Message, Sheet, Signal}
+use Rattle.dbc_law.proofs.Common.{ValueText}
 use Rattle.dbc_words.specs.declared.keyword.Keyword.TheVariants as keyword
-use Rattle.dbc_words.specs.declared.value_type.ValueType.{ValueType}
-use Rattle.dbc_words.specs.declared.value_type.ValueType.TheVariants.{Integer, Float, Double}
 use Rattle.dbc_grammar.specs.Canon as canon
 use Rattle.dbc_grammar.specs.Fields.{type_of}
-use Rattle.dbc_sheet.specs.Form.{IsMessage, IsSheet, IsSignal, IsValueText}
 use Rattle.dbc_grammar.specs.Grammar as grammar
-use Rattle.dbc_sheet.specs.Messages.{number_of}
-use Rattle.dbc_grammar.specs.Statement.{Content, PassedOver, SpnIs, ValueTextsAre, ValueTypeIs}
-use Rattle.dbc_grammar.specs.Token.{Token}
-use Rattle.dbc_sheet.specs.declared.message.Message.{Message}
-use Rattle.dbc_sheet.specs.declared.sheet.Sheet.{Sheet}
-use Rattle.dbc_sheet.specs.declared.signal.Signal.{Signal}
-use Rattle.dbc_sheet.specs.declared.value_texts.ValueText.{ValueText}
+use Rattle.dbc_grammar.specs.Statement.{PassedOver}
 use Rattle.dbc_law.proofs.Contents as sheet_contents
 use Rattle.dbc_law.proofs.PieceTokens.{line, token_of}
 use Rattle.dbc_law.proofs.StatementLines.{Writes, ◌also◌, writes_each, writes_line, writes_none, writes_unless}

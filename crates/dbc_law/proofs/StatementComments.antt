@@ -1,16 +1,10 @@
 -- The lines of comments are statements.
-use Rattle.std.proofs.Common.{◌++◌, ℕ, List, [], ◌∷◌, Some, refl, inl, inr}
-use Rattle.std.specs.Prelude.{codes}
+use Rattle.dbc_law.proofs.Common.{◌++◌, ℕ, List, [], ◌∷◌, Some, refl, inl, inr, codes, IsMessage, IsSignal, number_of}
+use Rattle.dbc_law.proofs.Common.{CommentIs, Content, MessageCommentIs, NodeCommentIs, SignalCommentIs, Token, Message}
+use Rattle.dbc_law.proofs.Common.{Node, Signal}
 use Rattle.dbc_words.specs.declared.keyword.Keyword.TheVariants as keyword
 use Rattle.dbc_grammar.specs.Canon as canon
-use Rattle.dbc_sheet.specs.Form.{IsMessage, IsSignal}
 use Rattle.dbc_grammar.specs.Grammar as grammar
-use Rattle.dbc_sheet.specs.Messages.{number_of}
-use Rattle.dbc_grammar.specs.Statement.{CommentIs, Content, MessageCommentIs, NodeCommentIs, SignalCommentIs}
-use Rattle.dbc_grammar.specs.Token.{Token}
-use Rattle.dbc_sheet.specs.declared.message.Message.{Message}
-use Rattle.dbc_sheet.specs.declared.node.Node.{Node}
-use Rattle.dbc_sheet.specs.declared.signal.Signal.{Signal}
 use Rattle.dbc_law.proofs.Contents.{comments, message_comments, node_comments, signal_comments}
 use Rattle.dbc_law.proofs.PieceTokens.{line}
 use Rattle.dbc_law.proofs.StatementLines.{Writes, ◌also◌, writes_each, writes_line, writes_none}

@@ -1,19 +1,13 @@
 -- What follows a statement or a signal is a keyword, at which no list of nodes goes on.
-use Rattle.std.proofs.Common.{◌≡◌, ◌&&◌, ◌∙◌, ℕ, true, false, not, List, [], ◌∷◌, length, is_some, nat_le, refl, sym}
-use Rattle.std.proofs.Common.{ap}
-use Rattle.std.specs.Prelude.{codes}
-use Rattle.std.specs.Str.{bytes_eq}
-use Rattle.std.proofs.lemmas.Bool.{and_left, and_parts, and_right, false_from_ne_true, false≢true, not_from_true}
+use Rattle.dbc_law.proofs.Common.{◌≡◌, ◌&&◌, ◌∙◌, ℕ, true, false, not, List, [], ◌∷◌, length, is_some, nat_le, refl}
+use Rattle.dbc_law.proofs.Common.{sym, ap, codes, bytes_eq, and_parts, is_keyword, name_limit, is_c_identifier, no_node}
+use Rattle.dbc_law.proofs.Common.{space, word, Token, Name}
+use Rattle.std.proofs.lemmas.Bool.{and_left, and_right, false_from_ne_true, false≢true, not_from_true}
 use Rattle.std.proofs.lemmas.Slice.Eq.{bytes_eq-Decides}
-use Rattle.dbc_words.specs.Keyword.{is_keyword}
-use Rattle.dbc_words.specs.Limits.{name_limit}
-use Rattle.dbc_words.specs.Name.{is_c_identifier, is_name, no_node}
+use Rattle.dbc_words.specs.Name.{is_name}
 use Rattle.dbc_words.specs.declared.keyword.Keyword.TheVariants.{Signal}
-use Rattle.dbc_grammar.specs.Canon.{space, word}
 use Rattle.dbc_grammar.specs.Fields.{is_key, key_of}
 use Rattle.dbc_grammar.specs.Grammar.{next}
-use Rattle.dbc_grammar.specs.Token.{Token}
-use Rattle.dbc_grammar.specs.declared.token.TokenKind.TheVariants.{Name}
 use Rattle.dbc_grammar.proofs.ExactFields.{kind_is}
 use Rattle.dbc_grammar.proofs.ExactLines.{next_name}
 use Rattle.dbc_law.proofs.PieceTokens.{token_of}

@@ -1,18 +1,12 @@
 -- The lines before the messages are statements: version, `NS_`, `BS_`, nodes and value tables.
-use Rattle.std.proofs.Common.{◌≡◌, ◌∙◌, ℕ, true, List, [], ◌∷◌, map, None, refl, sym, ap}
-use Rattle.std.specs.Prelude.{codes}
-use Rattle.std.specs.List.{All, flat_map}
-use Rattle.std.proofs.lemmas.List.Elements.{All-head, All-tail, All-weaker}
+use Rattle.dbc_law.proofs.Common.{◌≡◌, ◌∙◌, ℕ, true, List, [], ◌∷◌, map, None, refl, sym, ap, codes, All, flat_map}
+use Rattle.dbc_law.proofs.Common.{All-head, All-tail, IsNode, IsSheet, IsTable, node_name, Token, Node, Sheet}
+use Rattle.dbc_law.proofs.Common.{ValueTable}
+use Rattle.std.proofs.lemmas.List.Elements.{All-weaker}
 use Rattle.dbc_words.specs.declared.keyword.Keyword.TheVariants as keyword
 use Rattle.dbc_grammar.specs.Canon as canon
-use Rattle.dbc_sheet.specs.Form.{IsNode, IsSheet, IsTable}
 use Rattle.dbc_grammar.specs.Grammar as grammar
-use Rattle.dbc_sheet.specs.Sheet.{node_name}
 use Rattle.dbc_grammar.specs.Statement.{Dropped, NodesAre, VersionIs}
-use Rattle.dbc_grammar.specs.Token.{Token}
-use Rattle.dbc_sheet.specs.declared.node.Node.{Node}
-use Rattle.dbc_sheet.specs.declared.sheet.Sheet.{Sheet}
-use Rattle.dbc_sheet.specs.declared.value_table.ValueTable.{ValueTable}
 use Rattle.dbc_law.proofs.Contents.{node_names, table}
 use Rattle.dbc_law.proofs.PieceTokens.{line}
 use Rattle.dbc_law.proofs.StatementEnds.{next_ends}

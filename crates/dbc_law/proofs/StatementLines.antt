@@ -1,15 +1,8 @@
 -- Lines, and the contents of the statements that their tokens form.
-use Rattle.std.proofs.Common.{◌≡◌, ◌++◌, ◌∙◌, Bool, true, false, List, [], ◌∷◌, if◌then◌else◌, refl, sym, ap}
-use Rattle.std.specs.List.{All, flat_map}
-use Rattle.std.specs.Option.{option_map}
-use Rattle.std.proofs.lemmas.List.Elements.{All-head, All-tail}
-use Rattle.dbc_words.specs.Keyword.{keyword_text}
-use Rattle.dbc_words.specs.declared.keyword.Keyword.{Keyword}
-use Rattle.dbc_grammar.specs.Canon.{Line, Piece, tight, word}
+use Rattle.dbc_law.proofs.Common.{◌≡◌, ◌++◌, ◌∙◌, Bool, true, false, List, [], ◌∷◌, if◌then◌else◌, refl, sym, ap, All}
+use Rattle.dbc_law.proofs.Common.{flat_map, option_map, All-head, All-tail, keyword_text, Keyword, Line, Piece, tight}
+use Rattle.dbc_law.proofs.Common.{word, Rule, many, Content, Statement, Token}
 use Rattle.dbc_grammar.specs.Grammar as grammar
-use Rattle.dbc_grammar.specs.Rules.{Rule, many}
-use Rattle.dbc_grammar.specs.Statement.{Content, Statement}
-use Rattle.dbc_grammar.specs.Token.{Token}
 use Rattle.dbc_grammar.proofs.ExactStatements.{keyword_back}
 use Rattle.dbc_law.proofs.PieceTokens.{Front, line, lines, many_append, many_parts, token_of}
 use Rattle.dbc_law.proofs.StatementRules.{chain, finish}

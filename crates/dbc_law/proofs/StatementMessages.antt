@@ -1,20 +1,12 @@
 -- Messages with their signals are statements.
-use Rattle.std.proofs.Common.{◌≡◌, ◌∙◌, ℕ, true, List, [], ◌∷◌, map, Option, Some, None, IfSome, unwrap_or, refl, sym}
-use Rattle.std.proofs.Common.{ap, inl, arith}
-use Rattle.std.specs.List.{All, flat_map}
-use Rattle.std.proofs.lemmas.List.Elements.{All-head, All-tail}
+use Rattle.dbc_law.proofs.Common.{◌≡◌, ◌∙◌, ℕ, true, List, [], ◌∷◌, map, Option, Some, None, IfSome, unwrap_or, refl}
+use Rattle.dbc_law.proofs.Common.{sym, ap, inl, arith, All, flat_map, All-head, All-tail, IsName, no_node, goes_on}
+use Rattle.dbc_law.proofs.Common.{node_of, IsMessage, IsSignal, number_of, many, Token, Message, Signal}
 use Rattle.dbc_words.specs.Limits.{length_limit}
-use Rattle.dbc_words.specs.Name.{IsName, no_node}
 use Rattle.dbc_words.specs.declared.keyword.Keyword.TheVariants as keyword
 use Rattle.dbc_grammar.specs.Canon as canon
-use Rattle.dbc_grammar.specs.Fields.{goes_on, message_ident, node_of, signal}
-use Rattle.dbc_sheet.specs.Form.{IsMessage, IsSignal}
+use Rattle.dbc_grammar.specs.Fields.{message_ident, signal}
 use Rattle.dbc_grammar.specs.Grammar as grammar
-use Rattle.dbc_sheet.specs.Messages.{number_of}
-use Rattle.dbc_grammar.specs.Rules.{many}
-use Rattle.dbc_grammar.specs.Token.{Token}
-use Rattle.dbc_sheet.specs.declared.message.Message.{Message}
-use Rattle.dbc_sheet.specs.declared.signal.Signal.{Signal}
 use Rattle.dbc_law.proofs.Contents.{message, signal_line}
 use Rattle.dbc_law.proofs.MessageNumbers.{number_ident, number_small}
 use Rattle.dbc_law.proofs.PieceTokens.{line, lines, token_of}

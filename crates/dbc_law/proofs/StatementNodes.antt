@@ -1,16 +1,12 @@
 -- Lists of nodes, read from the tokens of their pieces.
-use Rattle.std.proofs.Common.{◌≡◌, ◌∙◌, ℕ, false, not, List, [], ◌∷◌, map, Option, Some, None, is_some, filter_map}
-use Rattle.std.proofs.Common.{refl, sym, ap, inl, inr}
-use Rattle.std.specs.Prelude.{codes}
-use Rattle.std.specs.List.{All, flat_map}
-use Rattle.std.proofs.lemmas.Bool.{or_parts}
+use Rattle.dbc_law.proofs.Common.{◌≡◌, ◌∙◌, ℕ, false, not, List, [], ◌∷◌, map, Option, Some, None, is_some, refl, sym}
+use Rattle.dbc_law.proofs.Common.{ap, inl, inr, codes, All, flat_map, or_parts, All-head, All-tail, IsName, goes_on}
+use Rattle.dbc_law.proofs.Common.{node_of, many, Token}
+use Rattle.std.proofs.Common.{filter_map}
 use Rattle.std.proofs.lemmas.List.{map-id}
-use Rattle.std.proofs.lemmas.List.Elements.{All-head, All-tail}
-use Rattle.dbc_words.specs.Name.{IsName}
 use Rattle.dbc_grammar.specs.Canon as canon
-use Rattle.dbc_grammar.specs.Fields.{further, goes_on, no_names, node_of, nodes, some_names}
-use Rattle.dbc_grammar.specs.Rules.{begins, many}
-use Rattle.dbc_grammar.specs.Token.{Token}
+use Rattle.dbc_grammar.specs.Fields.{further, no_names, nodes, some_names}
+use Rattle.dbc_grammar.specs.Rules.{begins}
 use Rattle.dbc_law.proofs.PieceTokens.{line}
 use Rattle.dbc_law.proofs.StatementRules.{chain, finish, past, read, then_followed}
 use Rattle.dbc_law.proofs.StatementWords.{says_node}

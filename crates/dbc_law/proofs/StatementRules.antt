@@ -1,8 +1,6 @@
 -- Rules, applied to the tokens of pieces.
-use Rattle.std.proofs.Common.{◌≡◌, ◌++◌, ℕ, Bool, true, List, Option, Some, refl}
-use Rattle.dbc_grammar.specs.Canon.{Piece}
-use Rattle.dbc_grammar.specs.Rules.{Rule, ◌>>=◌, done, followed, token}
-use Rattle.dbc_grammar.specs.Token.{Token}
+use Rattle.dbc_law.proofs.Common.{◌≡◌, ◌++◌, ℕ, Bool, true, List, Option, Some, refl, Piece, Rule, token, Token}
+use Rattle.dbc_grammar.specs.Rules.{◌>>=◌, done, followed}
 use Rattle.dbc_law.proofs.PieceTokens.{Front, line, many_parts, piece, token_of}
 
 -- the token of the piece means x; `λ _ _. refl` shows it if that follows from the piece alone

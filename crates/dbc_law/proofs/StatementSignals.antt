@@ -1,21 +1,13 @@
 -- Signals, read from the tokens of their pieces.
-use Rattle.std.proofs.Common.{◌≡◌, ◌^◌, ◌<◌, ◌≤◌, ◌&&◌, ◌++◌, ℕ, Bool, true, false, nat_le, List, ◌∷◌, Option, Some}
-use Rattle.std.proofs.Common.{None, unwrap_or, if◌then◌else◌, refl, sym, arith}
-use Rattle.std.specs.Prelude.{codes}
-use Rattle.std.specs.Fmt.{decimal}
-use Rattle.std.proofs.lemmas.Bool.Decides.{nat_tests}
-use Rattle.bitlayout.specs.declared.layout.Order.{Order}
-use Rattle.bitlayout.specs.declared.layout.Order.TheVariants.{Intel, Motorola}
-use Rattle.bitlayout.specs.Order.{order_number}
-use Rattle.bitlayout.specs.declared.place.Mux.{Mux}
-use Rattle.bitlayout.specs.declared.place.Mux.TheVariants.{Always, Multiplexor, Under}
+use Rattle.dbc_law.proofs.Common.{◌≡◌, ◌^◌, ◌<◌, ◌≤◌, ◌&&◌, ◌++◌, ℕ, Bool, true, false, nat_le, List, ◌∷◌, Option, Some}
+use Rattle.dbc_law.proofs.Common.{None, unwrap_or, if◌then◌else◌, refl, sym, arith, codes, decimal, nat_tests, Order}
+use Rattle.dbc_law.proofs.Common.{Intel, Motorola, order_number, Mux, Always, Multiplexor, Under, IsMux, IsSignal}
+use Rattle.dbc_law.proofs.Common.{token, Token, Signal}
 use Rattle.dbc_words.specs.Limits.{size_limit, start_limit}
 use Rattle.dbc_grammar.specs.Canon as canon
 use Rattle.dbc_grammar.specs.Fields.{layout, mux_of, order_of, sign_of, signal, size_of}
-use Rattle.dbc_sheet.specs.Form.{IsLayout, IsMux, IsSignal}
-use Rattle.dbc_grammar.specs.Rules.{optional, token}
-use Rattle.dbc_grammar.specs.Token.{Token}
-use Rattle.dbc_sheet.specs.declared.signal.Signal.{Signal}
+use Rattle.dbc_sheet.specs.Form.{IsLayout}
+use Rattle.dbc_grammar.specs.Rules.{optional}
 use Rattle.dbc_law.proofs.Contents.{signal_line}
 use Rattle.dbc_law.proofs.PieceTokens.{line, token_of}
 use Rattle.dbc_law.proofs.StatementNodes.{EndsList, receivers_read}

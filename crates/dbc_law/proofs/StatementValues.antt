@@ -1,15 +1,8 @@
 -- Decimals, and values with their texts, read from the tokens of their pieces.
-use Rattle.std.proofs.Common.{◌≡◌, ◌++◌, ℕ, Bool, true, false, List, [], ◌∷◌, Some, None, refl}
-use Rattle.std.specs.Int.{is_negative}
-use Rattle.std.specs.List.{All, flat_map}
-use Rattle.std.proofs.lemmas.List.Elements.{All-head, All-tail}
-use Rattle.decimal.specs.Number.{IsDecimal, Number}
+use Rattle.dbc_law.proofs.Common.{◌≡◌, ◌++◌, ℕ, Bool, true, false, List, [], ◌∷◌, Some, None, refl, is_negative, All}
+use Rattle.dbc_law.proofs.Common.{flat_map, All-head, All-tail, IsDecimal, Number, IsValueText, many, Token, ValueText}
 use Rattle.dbc_grammar.specs.Canon as canon
 use Rattle.dbc_grammar.specs.Fields.{decimal, entry, pair}
-use Rattle.dbc_sheet.specs.Form.{IsValueText}
-use Rattle.dbc_grammar.specs.Rules.{many}
-use Rattle.dbc_grammar.specs.Token.{Token}
-use Rattle.dbc_sheet.specs.declared.value_texts.ValueText.{ValueText}
 use Rattle.dbc_law.proofs.DecimalPieces.{signed_pieces}
 use Rattle.dbc_law.proofs.PieceTokens.{line}
 use Rattle.dbc_law.proofs.StatementRules.{chain, finish, past, read, split_pieces}

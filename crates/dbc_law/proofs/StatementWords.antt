@@ -1,31 +1,21 @@
 -- What the tokens of pieces say.
-use Rattle.std.proofs.Common.{◌≡◌, ◌^◌, ◌<◌, ◌≤◌, ◌&&◌, ℕ, Bool, true, false, not, List, [], ◌∷◌, length, Some, Ok}
-use Rattle.std.proofs.Common.{refl, sym, ap, ◌∙◌, arith}
+use Rattle.dbc_law.proofs.Common.{◌≡◌, ◌^◌, ◌<◌, ◌≤◌, ◌&&◌, ℕ, Bool, true, false, not, List, [], ◌∷◌, length, Some}
+use Rattle.dbc_law.proofs.Common.{refl, sym, ap, ◌∙◌, arith, decimal, is_negative, bytes_eq, and_parts, nat_tests}
+use Rattle.dbc_law.proofs.Common.{IsDecimal, Number, text_reads, is_keyword, name_limit, IsName, is_c_identifier}
+use Rattle.dbc_law.proofs.Common.{no_node, mark, number, quoted, space, word, node_of, IsMessage, number_of, Message}
+use Rattle.std.proofs.Common.{Ok}
 use Rattle.std.specs.Prelude.{nat_le}
-use Rattle.std.specs.Fmt.{decimal}
-use Rattle.std.specs.Int.{is_negative}
 use Rattle.std.specs.Result.{result_ok}
-use Rattle.std.specs.Str.{bytes_eq}
 use Rattle.std.specs.Str.Parse.{IsNumeral, digits_value}
-use Rattle.std.proofs.lemmas.Bool.{and_parts, not-true}
-use Rattle.std.proofs.lemmas.Bool.Decides.{nat_tests}
+use Rattle.std.proofs.lemmas.Bool.{not-true}
 use Rattle.std.proofs.lemmas.Fmt.{decimal_is_IsNumeral}
 use Rattle.base.specs.WholeNumber.{is_numeral, whole_of}
 use Rattle.base.proofs.WholeNumbers.{numeral, whole_of-is}
-use Rattle.decimal.specs.Number.{IsDecimal, Number}
 use Rattle.decimal.specs.Reading.{reading}
-use Rattle.decimal.proofs.ReadsBack.{text_reads}
 use Rattle.decimal.proofs.Computed.{read_is_reading}
-use Rattle.dbc_words.specs.Keyword.{is_keyword}
-use Rattle.dbc_words.specs.Limits.{name_limit}
-use Rattle.dbc_words.specs.Name.{IsName, is_c_identifier, is_name, no_node}
-use Rattle.dbc_grammar.specs.Canon.{mark, number, quoted, space, word}
-use Rattle.dbc_grammar.specs.Fields.{cited_number, is_mark, made_name, node_of, number_of as decimal_of, text_of}
-use Rattle.dbc_grammar.specs.Fields.{whole_where}
-use Rattle.dbc_sheet.specs.Form.{IsMessage}
-use Rattle.dbc_sheet.specs.Messages.{number_of}
+use Rattle.dbc_words.specs.Name.{is_name}
+use Rattle.dbc_grammar.specs.Fields.{cited_number, is_mark, made_name, number_of as decimal_of, text_of, whole_where}
 use Rattle.dbc_grammar.specs.Rules.{only}
-use Rattle.dbc_sheet.specs.declared.message.Message.{Message}
 use Rattle.dbc_grammar.proofs.SheetStated.{bytes_itself}
 use Rattle.dbc_grammar.proofs.TokenTexts.{inside_kept}
 use Rattle.dbc_law.proofs.DecimalPieces.{digits, digits_piece}

@@ -1,13 +1,9 @@
 -- The tokens of the lines of a sheet's canonical text divide into statements with its contents.
-use Rattle.std.proofs.Common.{◌≡◌, List, [], ◌∷◌, refl}
+use Rattle.dbc_law.proofs.Common.{◌≡◌, List, [], ◌∷◌, refl, IsMessage, IsNode, IsSheet, many, Content, Statement, Token}
+use Rattle.dbc_law.proofs.Common.{Sheet}
 use Rattle.dbc_grammar.specs.Canon as canon
 use Rattle.dbc_grammar.specs.Division.{Divides}
-use Rattle.dbc_sheet.specs.Form.{IsMessage, IsNode, IsSheet}
 use Rattle.dbc_grammar.specs.Grammar as grammar
-use Rattle.dbc_grammar.specs.Rules.{many}
-use Rattle.dbc_grammar.specs.Statement.{Content, Statement}
-use Rattle.dbc_grammar.specs.Token.{Token}
-use Rattle.dbc_sheet.specs.declared.sheet.Sheet.{Sheet}
 use Rattle.dbc_law.proofs.Contents as sheet_contents
 use Rattle.dbc_law.proofs.PieceTokens.{lines}
 use Rattle.dbc_law.proofs.StatementAttached.{spns_write, value_texts_write, value_types_write}

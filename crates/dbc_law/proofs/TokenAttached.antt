@@ -1,21 +1,10 @@
 -- The lines that attach suspect parameter numbers, texts for values and value types to signals are legible.
-use Rattle.std.proofs.Common.{◌<◌, ◌^◌, ◌==◌, List, [], ◌∷◌, refl, arith}
-use Rattle.std.specs.List.{All, flat_map}
-use Rattle.std.specs.Prelude.{codes}
-use Rattle.dbc_words.specs.Limits.{spn_limit}
-use Rattle.dbc_words.specs.Text.{IsText}
-use Rattle.dbc_words.specs.ValueType.{value_type_number}
+use Rattle.dbc_law.proofs.Common.{◌<◌, ◌^◌, ◌==◌, List, [], ◌∷◌, refl, arith, All, flat_map, codes, spn_limit, IsText}
+use Rattle.dbc_law.proofs.Common.{value_type_number, ValueType, Integer, text-Decides, Line, mark, number, space, tight}
+use Rattle.dbc_law.proofs.Common.{IsMessage, IsSheet, IsSignal, IsValueText, Message, Sheet, Signal, ValueText}
 use Rattle.dbc_words.specs.declared.keyword.Keyword.TheVariants as keyword
-use Rattle.dbc_words.specs.declared.value_type.ValueType.{ValueType}
-use Rattle.dbc_words.specs.declared.value_type.ValueType.TheVariants.{Integer}
-use Rattle.dbc_words.proofs.Texts.{text-Decides}
-use Rattle.dbc_grammar.specs.Canon.{Line, each_signal, mark, number, space, spn_definitions, spn_lines, tight}
-use Rattle.dbc_grammar.specs.Canon.{type_lines, value_lines, with_spn_definitions}
-use Rattle.dbc_sheet.specs.Form.{IsMessage, IsSheet, IsSignal, IsValueText}
-use Rattle.dbc_sheet.specs.declared.message.Message.{Message}
-use Rattle.dbc_sheet.specs.declared.sheet.Sheet.{Sheet}
-use Rattle.dbc_sheet.specs.declared.signal.Signal.{Signal}
-use Rattle.dbc_sheet.specs.declared.value_texts.ValueText.{ValueText}
+use Rattle.dbc_grammar.specs.Canon.{each_signal, spn_definitions, spn_lines, type_lines, value_lines}
+use Rattle.dbc_grammar.specs.Canon.{with_spn_definitions}
 use Rattle.dbc_law.proofs.TokenHeading.{entries_follow}
 use Rattle.dbc_law.proofs.TokenLegible.{follow_append}
 use Rattle.dbc_law.proofs.TokenLines.{AreLegibleLines, ◌also◌, line_unless, lines_of_each, no_lines, one_line}

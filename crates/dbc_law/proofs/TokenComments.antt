@@ -1,13 +1,8 @@
 -- The lines of comments are legible.
-use Rattle.std.proofs.Common.{ℕ, List, [], ◌∷◌}
-use Rattle.dbc_words.specs.Text.{IsText}
+use Rattle.dbc_law.proofs.Common.{ℕ, List, [], ◌∷◌, IsText, Piece, message_comments, node_comment, IsMessage, IsNode}
+use Rattle.dbc_law.proofs.Common.{IsSignal, number_of, Message, Node, Signal}
 use Rattle.dbc_words.specs.declared.keyword.Keyword.TheVariants as keyword
-use Rattle.dbc_grammar.specs.Canon.{Piece, comment_lines, message_comments, node_comment, signal_pieces}
-use Rattle.dbc_sheet.specs.Form.{IsMessage, IsNode, IsSignal}
-use Rattle.dbc_sheet.specs.Messages.{number_of}
-use Rattle.dbc_sheet.specs.declared.message.Message.{Message}
-use Rattle.dbc_sheet.specs.declared.node.Node.{Node}
-use Rattle.dbc_sheet.specs.declared.signal.Signal.{Signal}
+use Rattle.dbc_grammar.specs.Canon.{comment_lines, signal_pieces}
 use Rattle.dbc_law.proofs.MessageNumbers.{number_small}
 use Rattle.dbc_law.proofs.TokenLegible.{CanFollow, follow_append, no_pieces}
 use Rattle.dbc_law.proofs.TokenLines.{AreLegibleLines, ◌also◌, lines_of_each, no_lines, one_line}

@@ -1,14 +1,11 @@
 -- A spelling is the longest at its offset, if what follows does not continue it.
-use Rattle.std.proofs.Common.{◌≡◌, ℕ, ◌+◌, false, List, [], ◌∷◌, ◌++◌, length, drop, Some, sym, ap, subst, ◌∙◌}
-use Rattle.std.proofs.Common.{append_assoc, arith}
-use Rattle.std.specs.Option.{option_map}
-use Rattle.std.proofs.lemmas.List.{length-append}
-use Rattle.dbc_words.proofs.Texts.{text-Decides}
+use Rattle.dbc_law.proofs.Common.{◌≡◌, ℕ, ◌+◌, false, List, [], ◌∷◌, ◌++◌, length, Some, sym, ap, subst, ◌∙◌}
+use Rattle.dbc_law.proofs.Common.{append_assoc, arith, option_map, length-append, text-Decides, Spells, TokenKind, Name}
+use Rattle.dbc_law.proofs.Common.{Text, Mark}
+use Rattle.std.proofs.Common.{drop}
 use Rattle.dbc_grammar.specs.Lexing.{inside_len, word_len}
-use Rattle.dbc_grammar.specs.Spelling.{Spells}
 use Rattle.dbc_grammar.specs.Tokens.{IsLongest}
-use Rattle.dbc_grammar.specs.declared.token.TokenKind.{TokenKind}
-use Rattle.dbc_grammar.specs.declared.token.TokenKind.TheVariants.{Name, Number, Text, Mark}
+use Rattle.dbc_grammar.specs.declared.token.TokenKind.TheVariants.{Number}
 use Rattle.dbc_grammar.proofs.TokenBytes.{spelling_begins}
 use Rattle.dbc_grammar.proofs.TokenTexts.{inside_exact}
 use Rattle.dbc_grammar.proofs.TokenWords.{IsFound, longest_of_all, word_found}

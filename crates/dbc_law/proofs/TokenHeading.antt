@@ -1,15 +1,8 @@
 -- The lines before the messages are legible: version, `NS_`, `BS_`, nodes and value tables.
-use Rattle.std.proofs.Common.{List, [], ◌∷◌, map, refl}
-use Rattle.std.specs.List.{All}
-use Rattle.std.proofs.lemmas.List.Elements.{All-head, All-tail}
+use Rattle.dbc_law.proofs.Common.{List, [], ◌∷◌, map, refl, All, All-head, All-tail, space, word, IsNode, IsSheet}
+use Rattle.dbc_law.proofs.Common.{IsTable, IsValueText, Node, Sheet, ValueTable, ValueText}
 use Rattle.dbc_words.specs.declared.keyword.Keyword.TheVariants as keyword
-use Rattle.dbc_grammar.specs.Canon.{entries, entry, nodes_line, space, symbols_line, table_line, timing_line}
-use Rattle.dbc_grammar.specs.Canon.{version_line, word}
-use Rattle.dbc_sheet.specs.Form.{IsNode, IsSheet, IsTable, IsValueText}
-use Rattle.dbc_sheet.specs.declared.node.Node.{Node}
-use Rattle.dbc_sheet.specs.declared.sheet.Sheet.{Sheet}
-use Rattle.dbc_sheet.specs.declared.value_table.ValueTable.{ValueTable}
-use Rattle.dbc_sheet.specs.declared.value_texts.ValueText.{ValueText}
+use Rattle.dbc_grammar.specs.Canon.{entries, entry, nodes_line, symbols_line, table_line, timing_line, version_line}
 use Rattle.dbc_law.proofs.TokenLegible.{AreLegible, CanFollow, each_follows, follow_append, no_pieces}
 use Rattle.dbc_law.proofs.TokenLines.{AreLegibleLines, line_of_each}
 use Rattle.dbc_law.proofs.TokenPieces.{keyword_line, mark_follows, name_follows, spaced_mark_follows, text_follows}

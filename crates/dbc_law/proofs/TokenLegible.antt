@@ -1,13 +1,8 @@
 -- Legible pieces: each is spelled as its kind requires, and no word goes on where the next begins.
-use Rattle.std.proofs.Common.{◌≡◌, ℕ, List, [], ◌∷◌, ◌++◌, refl, sym, subst, append_assoc}
-use Rattle.std.specs.List.{All, flat_map}
+use Rattle.dbc_law.proofs.Common.{◌≡◌, ℕ, List, [], ◌∷◌, ◌++◌, refl, sym, subst, append_assoc, All, flat_map, All-head}
+use Rattle.dbc_law.proofs.Common.{All-tail, Piece, line_text, Spells, IsGap, TokenKind, Name, Text, Mark}
 use Rattle.std.proofs.lemmas.Grind.{flat_map-append}
-use Rattle.std.proofs.lemmas.List.Elements.{All-head, All-tail}
-use Rattle.dbc_grammar.specs.Canon.{Piece, line_text}
-use Rattle.dbc_grammar.specs.Spelling.{Spells}
-use Rattle.dbc_grammar.specs.Tokens.{IsGap}
-use Rattle.dbc_grammar.specs.declared.token.TokenKind.{TokenKind}
-use Rattle.dbc_grammar.specs.declared.token.TokenKind.TheVariants.{Name, Number, Text, Mark}
+use Rattle.dbc_grammar.specs.declared.token.TokenKind.TheVariants.{Number}
 use Rattle.dbc_law.proofs.TokenEnds.{Ends}
 use Rattle.dbc_law.proofs.TokenLengths.{Breaks}
 

@@ -1,16 +1,14 @@
 -- How long a word is, read from its first byte, where a byte follows it that continues no word.
-use Rattle.std.proofs.Common.{◌≡◌, ◌==◌, ◌||◌, ℕ, ◌+◌, ◌<◌, Bool, true, false, cond, eqb, List, [], ◌∷◌, ◌++◌, length}
-use Rattle.std.proofs.Common.{refl, ap, ◌∙◌, arith, append_assoc}
-use Rattle.std.specs.Char.{is_ascii_digit}
+use Rattle.dbc_law.proofs.Common.{◌≡◌, ◌==◌, ℕ, ◌+◌, ◌<◌, Bool, true, false, cond, List, [], ◌∷◌, ◌++◌, length, refl}
+use Rattle.dbc_law.proofs.Common.{ap, ◌∙◌, arith, append_assoc, is_ascii_digit, and_parts, or_parts, nat_tests}
+use Rattle.dbc_law.proofs.Common.{length-append, are_digits, continues_identifier, is_c_identifier}
+use Rattle.std.proofs.Common.{◌||◌, eqb}
 use Rattle.std.specs.List.{prefix_len}
-use Rattle.std.proofs.lemmas.Bool.{and_parts, or_parts}
-use Rattle.std.proofs.lemmas.Bool.Decides.{nat_tests}
-use Rattle.std.proofs.lemmas.List.{length-append, drop_at}
+use Rattle.std.proofs.lemmas.List.{drop_at}
 use Rattle.decimal.specs.Cutting.{fraction_len}
-use Rattle.decimal.specs.Spelling.{Spelling, IsNumberToken, are_digits, is_exponent, is_fraction, is_letter_e}
-use Rattle.decimal.specs.Spelling.{is_numeral, is_power, is_sign}
+use Rattle.decimal.specs.Spelling.{Spelling, IsNumberToken, is_exponent, is_fraction, is_letter_e, is_numeral, is_power}
+use Rattle.decimal.specs.Spelling.{is_sign}
 use Rattle.decimal.proofs.Tokens.{Stops, e_digit, e_point, point_digit, prefix_exact}
-use Rattle.dbc_words.specs.Name.{continues_identifier, is_c_identifier}
 use Rattle.dbc_grammar.specs.Lexing.{exponent_len, number_len, power_len, tail_len}
 use Rattle.dbc_grammar.proofs.TokenNumbers.{numeral_parts, with_front-is}
 use Rattle.dbc_grammar.proofs.TokenWords.{name_continues}

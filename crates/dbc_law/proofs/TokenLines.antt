@@ -1,8 +1,6 @@
 -- Lists of legible lines.
-use Rattle.std.proofs.Common.{Bool, true, false, List, [], ◌∷◌, ◌++◌, map, if◌then◌else◌}
-use Rattle.std.specs.List.{All, AllByRecursion, flat_map}
-use Rattle.std.proofs.lemmas.List.Elements.{All-head, All-tail}
-use Rattle.dbc_grammar.specs.Canon.{Line}
+use Rattle.dbc_law.proofs.Common.{Bool, true, false, List, [], ◌∷◌, ◌++◌, map, if◌then◌else◌, All, AllByRecursion}
+use Rattle.dbc_law.proofs.Common.{flat_map, All-head, All-tail, Line}
 use Rattle.dbc_law.proofs.TokenLegible.{AreLegible}
 
 pub record AreLegibleLines (ls : List Line) : Type 0 where

@@ -1,15 +1,8 @@
 -- The lines of messages and of their signals are legible.
-use Rattle.std.proofs.Common.{◌≡◌, ◌<◌, ◌^◌, ℕ, Bool, true, false, List, [], ◌∷◌, Option, Some, None, IfSome, unwrap_or}
-use Rattle.std.proofs.Common.{if◌then◌else◌, refl, arith}
-use Rattle.std.specs.List.{All}
-use Rattle.std.specs.Prelude.{codes}
-use Rattle.std.proofs.lemmas.List.Elements.{All-head, All-tail}
-use Rattle.bitlayout.specs.Order.{order_number}
-use Rattle.bitlayout.specs.declared.layout.Order.{Order}
-use Rattle.bitlayout.specs.declared.layout.Order.TheVariants.{Intel, Motorola}
-use Rattle.bitlayout.specs.declared.place.Mux.{Mux}
-use Rattle.bitlayout.specs.declared.place.Mux.TheVariants.{Always, Multiplexor, Under}
-use Rattle.decimal.specs.Number.{IsDecimal, Number}
+use Rattle.dbc_law.proofs.Common.{◌≡◌, ◌<◌, ◌^◌, ℕ, Bool, true, false, List, [], ◌∷◌, Option, Some, None, IfSome}
+use Rattle.dbc_law.proofs.Common.{unwrap_or, if◌then◌else◌, refl, arith, All, codes, All-head, All-tail, order_number}
+use Rattle.dbc_law.proofs.Common.{Order, Intel, Motorola, Mux, Always, Multiplexor, Under, IsDecimal, Number, IsName}
+use Rattle.dbc_law.proofs.Common.{no_node, IsMessage, IsMux, IsSignal, number_of, is_mark, Message, Signal}
 use Rattle.dbc_grammar.specs.Canon.{
   citation_pieces,
   layout_pieces,
@@ -25,13 +18,7 @@ use Rattle.dbc_grammar.specs.Canon.{
   tight,
   word,
 }
-use Rattle.dbc_words.specs.Name.{IsName, no_node}
 use Rattle.dbc_words.specs.declared.keyword.Keyword.TheVariants as keyword
-use Rattle.dbc_sheet.specs.Form.{IsMessage, IsMux, IsSignal}
-use Rattle.dbc_sheet.specs.Messages.{number_of}
-use Rattle.dbc_grammar.specs.Spelling.{is_mark}
-use Rattle.dbc_sheet.specs.declared.message.Message.{Message}
-use Rattle.dbc_sheet.specs.declared.signal.Signal.{Signal}
 use Rattle.dbc_law.proofs.MessageNumbers.{number_small}
 use Rattle.dbc_law.proofs.TokenLegible.{AreLegible, CanFollow, each_follows, follow_append, no_pieces}
 use Rattle.dbc_law.proofs.TokenLines.{AreLegibleLines, line_of_each, with_line}

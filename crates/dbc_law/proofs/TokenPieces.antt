@@ -1,24 +1,14 @@
 -- Each kind of piece is legible where the pieces after it are and can follow it.
-use Rattle.std.proofs.Common.{◌≡◌, ◌<◌, ◌^◌, ℕ, Bool, true, false, List, [], ◌∷◌, refl, sym, arith}
-use Rattle.std.specs.Prelude.{codes}
-use Rattle.std.specs.Char.{is_ascii_digit}
-use Rattle.std.specs.Fmt.{decimal}
-use Rattle.std.specs.Int.{is_negative}
-use Rattle.std.specs.List.{list_all}
-use Rattle.std.proofs.lemmas.Bool.{and_from, and_parts}
-use Rattle.std.proofs.lemmas.Bool.Decides.{nat_tests}
+use Rattle.dbc_law.proofs.Common.{◌≡◌, ◌<◌, ◌^◌, ℕ, Bool, true, false, List, [], ◌∷◌, refl, sym, arith, codes}
+use Rattle.dbc_law.proofs.Common.{is_ascii_digit, decimal, is_negative, list_all, and_from, and_parts, nat_tests}
+use Rattle.dbc_law.proofs.Common.{IsDecimal, Number, are_digits, text_reads, keyword_text, IsName, continues_identifier}
+use Rattle.dbc_law.proofs.Common.{is_c_identifier, IsText, Keyword, Piece, line_text, mark, number, quoted, space}
+use Rattle.dbc_law.proofs.Common.{tight, word, Spells, is_mark, IsGap}
 use Rattle.std.proofs.lemmas.List.{append-nil}
-use Rattle.decimal.specs.Number.{IsDecimal, Number}
-use Rattle.decimal.specs.Spelling.{are_digits}
-use Rattle.decimal.proofs.ReadsBack.{IsSmall, decimal_digits, decimal_numeral, text_reads}
-use Rattle.dbc_words.specs.Keyword.{keyword_text}
-use Rattle.dbc_words.specs.Name.{IsName, continues_identifier, is_c_identifier, is_name}
-use Rattle.dbc_words.specs.Text.{IsText}
-use Rattle.dbc_words.specs.declared.keyword.Keyword.{Keyword}
+use Rattle.decimal.proofs.ReadsBack.{IsSmall, decimal_digits, decimal_numeral}
+use Rattle.dbc_words.specs.Name.{is_name}
 use Rattle.dbc_words.specs.declared.keyword.Keyword.TheVariants.{Version}
-use Rattle.dbc_grammar.specs.Canon.{Piece, line_text, mark, number, quoted, space, tight, value, word}
-use Rattle.dbc_grammar.specs.Spelling.{Spells, is_mark}
-use Rattle.dbc_grammar.specs.Tokens.{IsGap}
+use Rattle.dbc_grammar.specs.Canon.{value}
 use Rattle.dbc_grammar.specs.declared.token.TokenKind.TheVariants.{Number as NumberKind}
 use Rattle.dbc_law.proofs.DecimalPieces.{digits, signed_pieces}
 use Rattle.dbc_law.proofs.TokenLegible.{AreLegible, CanFollow}

@@ -1,10 +1,7 @@
 -- The canonical text of a sheet has the tokens that its lines list.
-use Rattle.std.proofs.Common.{List, []}
-use Rattle.dbc_grammar.specs.Canon.{canonical_lines, canonical_text, message_comments, message_lines, node_comment}
-use Rattle.dbc_sheet.specs.Form.{IsMessage, IsNode, IsSheet}
-use Rattle.dbc_grammar.specs.Token.{Token}
-use Rattle.dbc_grammar.specs.Tokens.{HasTokens}
-use Rattle.dbc_sheet.specs.declared.sheet.Sheet.{Sheet}
+use Rattle.dbc_law.proofs.Common.{List, [], canonical_text, message_comments, node_comment, IsMessage, IsNode, IsSheet}
+use Rattle.dbc_law.proofs.Common.{Token, HasTokens, Sheet}
+use Rattle.dbc_grammar.specs.Canon.{canonical_lines, message_lines}
 use Rattle.dbc_law.proofs.PieceTokens.{lines}
 use Rattle.dbc_law.proofs.TokenAttached.{spns_legible, value_texts_legible, value_types_legible}
 use Rattle.dbc_law.proofs.TokenComments.{comment_legible, message_comments_legible, node_comment_legible}

@@ -1,13 +1,9 @@
 -- Legible lines, one after the other, have the tokens that belong to their pieces.
-use Rattle.std.proofs.Common.{◌≡◌, ◌+◌, ℕ, List, [], ◌∷◌, ◌++◌, length, refl, sym, ap, subst, ◌∙◌, append_assoc, arith}
-use Rattle.std.specs.List.{AllByRecursion, flat_map, list_all}
-use Rattle.std.proofs.lemmas.Bool.{and_from}
-use Rattle.std.proofs.lemmas.List.{length-append}
+use Rattle.dbc_law.proofs.Common.{◌≡◌, ◌+◌, ℕ, List, [], ◌∷◌, ◌++◌, length, refl, sym, ap, subst, ◌∙◌, append_assoc}
+use Rattle.dbc_law.proofs.Common.{arith, AllByRecursion, flat_map, list_all, and_from, length-append, Line, Piece}
+use Rattle.dbc_law.proofs.Common.{line_text, Token, HasTokens, IsGap}
 use Rattle.std.proofs.lemmas.List.Folds.{list_all-append}
-use Rattle.dbc_grammar.specs.Canon.{Line, Piece, line_text}
 use Rattle.dbc_grammar.specs.Spelling.{is_gap}
-use Rattle.dbc_grammar.specs.Token.{Token}
-use Rattle.dbc_grammar.specs.Tokens.{HasTokens, IsGap}
 use Rattle.dbc_law.proofs.PieceTokens.{line, lines, token_of}
 use Rattle.dbc_law.proofs.TokenEnds.{word_longest}
 use Rattle.dbc_law.proofs.TokenLegible.{AreLegible, ends_before, pieces_text}

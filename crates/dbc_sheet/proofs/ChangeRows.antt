@@ -1,13 +1,8 @@
 -- Rows of changed lists and messages, computed.
-use Rattle.std.proofs.Common.{◌≡◌, true, false, ℕ, List, [], ◌∷◌, Some, None, refl}
-use Rattle.std.specs.Prelude.{codes, pos, negsuc}
+use Rattle.dbc_sheet.proofs.Common.{◌≡◌, true, false, ℕ, List, [], ◌∷◌, Some, None, refl, codes, pos, put, Intel}
+use Rattle.dbc_sheet.proofs.Common.{Always, Under, Std, Number, Integer}
+use Rattle.std.specs.Prelude.{negsuc}
 use Rattle.std.specs.Ordering.{nat_cmp}
-use Rattle.base.specs.Keyed.{put}
-use Rattle.bitlayout.specs.declared.layout.Order.TheVariants.{Intel}
-use Rattle.bitlayout.specs.declared.place.Mux.TheVariants.{Always, Under}
-use Rattle.can_id.specs.declared.ident.Ident.TheVariants.{Std}
-use Rattle.decimal.specs.Number.{Number}
-use Rattle.dbc_words.specs.declared.value_type.ValueType.TheVariants.{Integer}
 use Rattle.dbc_sheet.specs.Same.{same_message}
 use Rattle.dbc_sheet.specs.Signals.{at_signal, signal_named, without_signal}
 use Rattle.dbc_sheet.specs.declared.message.Message.{Message}

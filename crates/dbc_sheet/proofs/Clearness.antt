@@ -1,13 +1,12 @@
 -- Sheets whose messages are clear.
-use Rattle.std.proofs.Common.{◌≡◌, ◌<◌, ◌≤◌, ◌+◌, ◌∙◌, ℕ, List, length, take, get_or, All, Option, Some, None, IsNone}
-use Rattle.std.proofs.Common.{is_some, sym, ap, subst}
-use Rattle.std.proofs.lemmas.Bool.{false≢true}
+use Rattle.dbc_sheet.proofs.Common.{◌≡◌, ◌<◌, ◌≤◌, ◌+◌, ◌∙◌, ℕ, List, length, take, get_or, All, Option, Some, None}
+use Rattle.dbc_sheet.proofs.Common.{sym, ap, subst, false≢true, DoubleNumber, DoubleName, TwoMultiplexors, TooMany}
+use Rattle.std.proofs.Common.{IsNone, is_some}
 use Rattle.std.proofs.lemmas.List.{take_more, take_all}
 use Rattle.std.proofs.lemmas.List.Elements.{All-push}
 use Rattle.dbc_words.specs.Fault.{IsMemoryOr}
 use Rattle.dbc_words.specs.declared.fault.SheetCode.{SheetCode}
-use Rattle.dbc_words.specs.declared.fault.SheetCode.TheVariants.{DoubleNumber, DoubleName, OutsidePayload, Clash}
-use Rattle.dbc_words.specs.declared.fault.SheetCode.TheVariants.{NoMultiplexor, TwoMultiplexors, TooMany, Memory}
+use Rattle.dbc_words.specs.declared.fault.SheetCode.TheVariants.{OutsidePayload, Clash, NoMultiplexor, Memory}
 
 pub says : (code : SheetCode) (P : Type 0) → P → IsMemoryOr code P
 says DoubleNumber P p = p

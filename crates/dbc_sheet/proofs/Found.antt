@@ -1,7 +1,6 @@
 -- A search finds something exactly where one passes the test.
-use Rattle.std.proofs.Common.{◌≡◌, Bool, true, false, List, [], ◌∷◌, Option, Some, None, refl}
-use Rattle.std.specs.Prelude.{find, is_some, ◌||◌, cond}
-use Rattle.std.specs.List.{list_any}
+use Rattle.dbc_sheet.proofs.Common.{◌≡◌, Bool, true, false, List, [], ◌∷◌, Some, refl, is_some, list_any}
+use Rattle.std.specs.Prelude.{find, ◌||◌, cond}
 
 pub found_if_any : {X : Type 0} (p : X → Bool) (xs : List X) → is_some (find p xs) ≡ list_any p xs
 found_if_any p [] = refl

@@ -1,6 +1,5 @@
 -- Rows of receivers that are seen as a list, computed.
-use Rattle.std.proofs.Common.{◌≡◌, [], ◌∷◌, map, refl}
-use Rattle.std.specs.Prelude.{codes}
+use Rattle.dbc_sheet.proofs.Common.{◌≡◌, [], ◌∷◌, map, refl, codes}
 use Rattle.dbc_sheet.specs.Receivers.{names_in}
 use Rattle.dbc_sheet.specs.declared.receivers.Listed.TheVariants.{Nothing, One}
 

@@ -1,3 +1,4 @@
+pub mod Common
 mod SameMessages
 pub mod Multiplexors
 mod Clearness

@@ -1,22 +1,18 @@
 -- What the messages of a sheet keep.
-use Rattle.std.proofs.Common.{◌≡◌, ◌==◌, ◌<◌, ◌≤◌, ◌∙◌, ◌||◌, ◌&&◌, not, true, false, ℕ, zero, suc, List, [], ◌∷◌}
-use Rattle.std.proofs.Common.{length, rules, get_or, Some, None, refl, sym, ap, subst, arith, nat_le}
-use Rattle.std.specs.List.{IsDistinct, insert, remove}
+use Rattle.dbc_sheet.proofs.Common.{◌≡◌, ◌==◌, ◌<◌, ◌≤◌, ◌∙◌, ◌||◌, ◌&&◌, not, true, false, ℕ, List, [], ◌∷◌, length}
+use Rattle.dbc_sheet.proofs.Common.{rules, get_or, Some, None, refl, sym, ap, subst, arith, nat_le, insert, remove}
+use Rattle.dbc_sheet.proofs.Common.{bytes_eq, put, IsGap, first_refusal, put_gap, remove_at, none_holds, message_limit}
+use Rattle.dbc_sheet.proofs.Common.{AreNamedApart, has_name, holds_name, DoubleNumber, DoubleName}
+use Rattle.std.proofs.Common.{zero, suc}
+use Rattle.std.specs.List.{IsDistinct}
 use Rattle.std.specs.List.Sorted.{IsStrictlySortedBy}
-use Rattle.std.specs.Str.{bytes_eq}
 use Rattle.std.proofs.lemmas.Bool.Decides.{nat_tests}
 use Rattle.std.proofs.lemmas.List.Edits.{length-insert, length-remove}
 use Rattle.std.proofs.lemmas.List.Kept.{IsStrictlySortedBy-filter}
 use Rattle.std.specs.Cmp.Rules.{comparing}
-use Rattle.base.specs.Keyed.{put}
-use Rattle.base.specs.Ascending.{IsAt, IsGap}
-use Rattle.base.specs.Refusing.{first_refusal}
-use Rattle.base.proofs.AscendingLists.{put_gap, remove_at, any_at, any_gap}
+use Rattle.base.specs.Ascending.{IsAt}
+use Rattle.base.proofs.AscendingLists.{any_at, any_gap}
 use Rattle.base.proofs.PutKeeps.{IsStrictlySortedBy-put}
-use Rattle.base.proofs.Refusals.{none_holds}
-use Rattle.dbc_words.specs.Limits.{message_limit}
-use Rattle.dbc_words.specs.Named.{AreNamedApart, has_name, holds_name}
-use Rattle.dbc_words.specs.declared.fault.SheetCode.TheVariants.{DoubleNumber, DoubleName}
 use Rattle.dbc_words.specs.declared.name_set.NameSet.{NameSet}
 use Rattle.dbc_words.proofs.Naming.{any-insert, apart-insert, apart-filter, names-remove}
 use Rattle.dbc_sheet.specs.Messages.{AreIndexed, by_number, message_name, message_tests, number_of}

@@ -1,18 +1,15 @@
 -- The multiplexor among the signals of a message.
-use Rattle.std.proofs.Common.{◌≡◌, ◌<◌, ◌+◌, ◌∙◌, ◌&&◌, ◌||◌, Bool, true, false, cond, not, ℕ, List, [], ◌∷◌, ◌++◌}
-use Rattle.std.proofs.Common.{length, take, get_or, map, None, Some, refl, sym, ap}
-use Rattle.std.specs.List.{AllByRecursion, IsDistinct, list_any}
-use Rattle.std.specs.Str.{bytes_eq}
-use Rattle.base.specs.Refusing.{first_refusal}
-use Rattle.base.proofs.Refusals.{none_holds}
+use Rattle.dbc_sheet.proofs.Common.{◌≡◌, ◌<◌, ◌+◌, ◌∙◌, ◌&&◌, ◌||◌, Bool, true, false, not, ℕ, List, [], ◌∷◌, length}
+use Rattle.dbc_sheet.proofs.Common.{take, get_or, map, None, Some, refl, sym, ap, list_any, bytes_eq, first_refusal}
+use Rattle.dbc_sheet.proofs.Common.{none_holds, AreNamedApart, false≢true}
+use Rattle.std.proofs.Common.{cond, ◌++◌}
+use Rattle.std.specs.List.{AllByRecursion, IsDistinct}
 use Rattle.bitlayout.specs.Mux.{is_multiplexor}
-use Rattle.dbc_words.specs.Named.{AreNamedApart}
 use Rattle.dbc_words.proofs.Gathering.{apart_more, next_taken, not_apart}
 use Rattle.dbc_words.proofs.NamedThings.{all_without, found_is, none_found, others_have_not, some_none, some_same}
 use Rattle.dbc_words.proofs.Naming.{distinct-filter}
 use Rattle.dbc_words.proofs.Rosters.{any_and_last, any_by, apart_and_last, apart_by}
 use Rattle.std.proofs.Math.Bool.{or_comm}
-use Rattle.std.proofs.lemmas.Bool.{false≢true}
 use Rattle.dbc_sheet.specs.Signals.{HaveOneMultiplexor, IsMultiplexorKnown, at_signal, has_multiplexor}
 use Rattle.dbc_sheet.specs.Signals.{signal_is_multiplexor, signal_name, signal_named, signal_tests, without_signal}
 use Rattle.dbc_sheet.specs.declared.signal.Signal.{Signal}

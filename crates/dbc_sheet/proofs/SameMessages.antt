@@ -1,10 +1,9 @@
 -- `==` of messages, of signals and of their parts answers whether they are equal.
-use Rattle.std.proofs.Common.{◌≡◌, ◌==◌, Bool, false, ℕ, List, Option, Some, None, refl, sym, ap, ◌∙◌}
+use Rattle.dbc_sheet.proofs.Common.{◌≡◌, ◌==◌, Bool, false, ℕ, List, Option, Some, None, refl, sym, ap, ◌∙◌, bytes_eq}
+use Rattle.dbc_sheet.proofs.Common.{false≢true, Intel, Mux, Always, Multiplexor, Under, Std, Ext, Number, Integer}
 use Rattle.std.specs.Bool.{Decides}
 use Rattle.std.specs.Cmp.{booleans_Decides}
 use Rattle.std.specs.Option.{option_eq}
-use Rattle.std.specs.Str.{bytes_eq}
-use Rattle.std.proofs.lemmas.Bool.{false≢true}
 use Rattle.std.proofs.lemmas.Bool.Decides.{Decides-and, Decides-eqb, Decides-int_eq}
 use Rattle.std.proofs.lemmas.Slice.Eq.{bytes_eq-Decides, slice_eq-Decides}
 use Rattle.bitlayout.specs.contracts.layout.LayoutPartialEq.TheImpl as layout_eq
@@ -12,17 +11,13 @@ use Rattle.bitlayout.specs.contracts.layout.OrderPartialEq.TheImpl as order_eq
 use Rattle.bitlayout.specs.contracts.place.MuxPartialEq.TheImpl as mux_eq
 use Rattle.bitlayout.specs.declared.layout.Layout.{Layout}
 use Rattle.bitlayout.specs.declared.layout.Order.{Order}
-use Rattle.bitlayout.specs.declared.layout.Order.TheVariants.{Intel, Motorola}
-use Rattle.bitlayout.specs.declared.place.Mux.{Mux}
-use Rattle.bitlayout.specs.declared.place.Mux.TheVariants.{Always, Multiplexor, Under}
+use Rattle.bitlayout.specs.declared.layout.Order.TheVariants.{Motorola}
 use Rattle.can_id.specs.contracts.ident.IdentPartialEq.TheImpl as ident_eq
 use Rattle.can_id.specs.declared.ident.Ident.{Ident}
-use Rattle.can_id.specs.declared.ident.Ident.TheVariants.{Std, Ext}
-use Rattle.decimal.specs.Number.{Number}
 use Rattle.decimal.specs.contracts.number.DecimalPartialEq.TheImpl as decimal_eq
 use Rattle.dbc_words.specs.contracts.value_type.ValueTypePartialEq.TheImpl as value_type_eq
 use Rattle.dbc_words.specs.declared.value_type.ValueType.{ValueType}
-use Rattle.dbc_words.specs.declared.value_type.ValueType.TheVariants.{Integer, Float, Double}
+use Rattle.dbc_words.specs.declared.value_type.ValueType.TheVariants.{Float, Double}
 use Rattle.dbc_sheet.specs.Same.{SameIsEqual, same_message}
 use Rattle.dbc_sheet.specs.contracts.signal.SignalPartialEq.TheImpl as signal_eq
 use Rattle.dbc_sheet.specs.contracts.value_texts.ValueTextPartialEq.TheImpl as value_text_eq

@@ -1,16 +1,9 @@
 -- Rows of sheets, computed.
-use Rattle.std.proofs.Common.{◌≡◌, false, ℕ, List, [], ◌∷◌, Some, None, refl}
-use Rattle.std.specs.Prelude.{codes, pos, replicate}
-use Rattle.base.specs.Keyed.{put}
-use Rattle.base.specs.Refusing.{first_refusal}
-use Rattle.bitlayout.specs.declared.layout.Order.TheVariants.{Intel}
-use Rattle.bitlayout.specs.declared.place.Mux.{Mux}
-use Rattle.bitlayout.specs.declared.place.Mux.TheVariants.{Multiplexor, Under}
-use Rattle.can_id.specs.declared.ident.Ident.TheVariants.{Std, Ext}
-use Rattle.decimal.specs.Number.{Number}
+use Rattle.dbc_sheet.proofs.Common.{◌≡◌, false, ℕ, List, [], ◌∷◌, Some, None, refl, codes, pos, put, first_refusal}
+use Rattle.dbc_sheet.proofs.Common.{Intel, Mux, Multiplexor, Under, Std, Ext, Number, DoubleNumber, DoubleName}
+use Rattle.dbc_sheet.proofs.Common.{TwoMultiplexors, TooMany, Integer}
+use Rattle.std.specs.Prelude.{replicate}
 use Rattle.dbc_words.specs.Named.{roster_tests}
-use Rattle.dbc_words.specs.declared.fault.SheetCode.TheVariants.{DoubleNumber, DoubleName, TwoMultiplexors, TooMany}
-use Rattle.dbc_words.specs.declared.value_type.ValueType.TheVariants.{Integer}
 use Rattle.dbc_sheet.specs.Messages.{by_number, message_at, message_tests, without_number}
 use Rattle.dbc_sheet.specs.Sheet.{node_name, table_name}
 use Rattle.dbc_sheet.specs.Signals.{signal_tests}

@@ -1,12 +1,10 @@
 -- The first token that is read from an offset of a text on, and what is read after it.
-use Rattle.std.proofs.Common.{◌≡◌, ◌≤◌, ℕ, ◌-◌, List, [], ◌∷◌, ◌++◌, length, take, drop, min, slice_range, Option, Some}
-use Rattle.std.proofs.Common.{None, refl, sym, ap, subst, ◌∙◌, arith, append_assoc}
-use Rattle.std.proofs.lemmas.List.{length-append, length-take, take-append-drop, take_at, drop_at, at_drop_all}
-use Rattle.dbc_grammar.specs.Lexing.{LexFault, Lexed, lexed}
-use Rattle.dbc_grammar.specs.Token.{Token}
+use Rattle.dbc_statements.proofs.Common.{◌≡◌, ◌≤◌, ℕ, List, [], ◌∷◌, ◌++◌, length, drop, min, Option, Some, None, refl}
+use Rattle.dbc_statements.proofs.Common.{sym, ap, subst, ◌∙◌, arith, append_assoc, length-append, drop_at, LexFault}
+use Rattle.dbc_statements.proofs.Common.{Lexed, lexed, Token, TokenKind, IsRead, first_of, read_is_there, there_is_read}
+use Rattle.std.proofs.Common.{◌-◌, take, slice_range}
+use Rattle.std.proofs.lemmas.List.{length-take, take-append-drop, take_at, at_drop_all}
 use Rattle.dbc_grammar.specs.Tokens.{IsFirst}
-use Rattle.dbc_grammar.specs.declared.token.TokenKind.{TokenKind}
-use Rattle.dbc_grammar.proofs.TokenExact.{IsRead, first_of, read_is_there, there_is_read}
 use Rattle.dbc_statements.specs.Tokens.{AreTokens, EndsThere, AreSpelled, tokens_from}
 use Rattle.dbc_statements.proofs.Spelled.{read_are_spelled}
 

@@ -1,11 +1,9 @@
 -- Computed rows of the tokens that are left, and of offsets that aren't kept.
-use Rattle.std.proofs.Common.{◌≡◌, Box, Global, List, [], ◌∷◌, refl, arith}
-use Rattle.std.specs.Prelude.{codes}
+use Rattle.dbc_statements.proofs.Common.{◌≡◌, List, [], ◌∷◌, refl, arith, codes, Statement, Token, Name, Text}
+use Rattle.std.proofs.Common.{Box, Global}
 use Rattle.dbc_words.specs.declared.keyword.Keyword.TheVariants.{Version}
 use Rattle.dbc_grammar.specs.Parsing.{line_at, statement_at, statements_at, version_at}
-use Rattle.dbc_grammar.specs.Statement.{Statement, VersionIs}
-use Rattle.dbc_grammar.specs.Token.{Token}
-use Rattle.dbc_grammar.specs.declared.token.TokenKind.TheVariants.{Name, Text}
+use Rattle.dbc_grammar.specs.Statement.{VersionIs}
 use Rattle.dbc_statements.specs.Left.{BeginsWith}
 use Rattle.dbc_statements.specs.Statement.{HasNoOffsets}
 use Rattle.dbc_statements.specs.declared.statement.Content.TheVariants as content

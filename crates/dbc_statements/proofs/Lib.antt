@@ -1,3 +1,4 @@
+pub mod Common
 pub mod Spelled
 pub mod FirstToken
 pub mod LoopRounds

@@ -1,8 +1,7 @@
 -- Loops that read one thing after the other.
-use Rattle.std.proofs.Common.{◌≡◌, ◌<◌, Bool, true, List, [], ◌∷◌, ◌++◌, length, Some, None, refl, ap, subst, unwrap_or}
-use Rattle.dbc_grammar.specs.Parsing.{Parsed, many_at, with_front}
-use Rattle.dbc_grammar.specs.Token.{Token}
-use Rattle.dbc_grammar.proofs.Repeating.{Takes, goes_round}
+use Rattle.dbc_statements.proofs.Common.{◌≡◌, ◌<◌, Bool, true, List, [], ◌∷◌, ◌++◌, length, Some, None, refl, ap, subst}
+use Rattle.dbc_statements.proofs.Common.{Parsed, many_at, with_front, Token, Takes, goes_round}
+use Rattle.std.proofs.Common.{unwrap_or}
 use Rattle.dbc_statements.specs.Reading.{with_one}
 
 -- before the first round

@@ -1,12 +1,11 @@
 -- Fields that are read together with the mark after them.
-use Rattle.std.proofs.Common.{◌≡◌, ◌∙◌, ℕ, List, Bool, Some, None, refl, ap}
-use Rattle.std.specs.Prelude.{codes, option_and_then}
+use Rattle.dbc_statements.proofs.Common.{◌≡◌, ◌∙◌, ℕ, List, Bool, Some, None, refl, ap, codes, Parsed, Token}
+use Rattle.std.specs.Prelude.{option_and_then}
 use Rattle.bitlayout.specs.declared.layout.Layout.{Layout}
 use Rattle.bitlayout.specs.declared.layout.Order.{Order}
 use Rattle.decimal.specs.Number.{Number}
 use Rattle.dbc_grammar.specs.Fields.{order_of, sign_of, size_of, start_of}
-use Rattle.dbc_grammar.specs.Parsing.{Parsed, decimal_at, layout_at, mark_at, pair_at, token_at}
-use Rattle.dbc_grammar.specs.Token.{Token}
+use Rattle.dbc_grammar.specs.Parsing.{decimal_at, layout_at, mark_at, pair_at, token_at}
 use Rattle.dbc_statements.specs.Reading.{with_mark}
 
 -- a field, its mark, and what is read after these

@@ -1,10 +1,8 @@
 -- Lists of names, as a loop reads them: those that mean no node are left out immediately.
-use Rattle.std.proofs.Common.{◌≡◌, ℕ, true, List, [], ◌∷◌, ◌++◌, Option, Some, None, refl, sym, ap, ◌∙◌, append_assoc}
+use Rattle.dbc_statements.proofs.Common.{◌≡◌, ℕ, true, List, [], ◌∷◌, ◌++◌, Option, Some, None, refl, sym, ap, ◌∙◌}
+use Rattle.dbc_statements.proofs.Common.{append_assoc, goes_on, Parsed, many_at, further_at, with_front, Token}
+use Rattle.dbc_statements.proofs.Common.{further_take, goes_round}
 use Rattle.std.proofs.lemmas.List.Elements.{filter_map-append}
-use Rattle.dbc_grammar.specs.Fields.{goes_on}
-use Rattle.dbc_grammar.specs.Parsing.{Parsed, many_at, further_at, with_front}
-use Rattle.dbc_grammar.specs.Token.{Token}
-use Rattle.dbc_grammar.proofs.Repeating.{further_take, goes_round}
 use Rattle.dbc_statements.specs.Names.{names_in, with_names}
 use Rattle.dbc_statements.proofs.LoopRounds.{at_start}
 

@@ -1,14 +1,11 @@
 -- Offsets that the tokens of a text reach, and what is read after them.
-use Rattle.std.proofs.Common.{◌≡◌, ◌≤◌, ℕ, ◌+◌, List, [], ◌∷◌, ◌++◌, length, min, drop, Option, Some, inl, inr, refl}
-use Rattle.std.proofs.Common.{sym, ap, subst, ◌∙◌, arith, append_assoc}
-use Rattle.std.proofs.lemmas.List.{length-append, drop_at}
-use Rattle.dbc_grammar.specs.Lexing.{LexFault, Lexed, lexed}
-use Rattle.dbc_grammar.specs.Parsing.{statement_at}
-use Rattle.dbc_grammar.specs.Statement.{Statement}
-use Rattle.dbc_grammar.specs.Token.{Token}
+use Rattle.dbc_statements.proofs.Common.{◌≡◌, ◌≤◌, ℕ, List, [], ◌∷◌, ◌++◌, length, min, drop, Option, Some, inl, refl}
+use Rattle.dbc_statements.proofs.Common.{sym, ap, subst, ◌∙◌, arith, append_assoc, length-append, drop_at, LexFault}
+use Rattle.dbc_statements.proofs.Common.{Lexed, lexed, statement_at, Statement, Token, Within, IsRead, first_of}
+use Rattle.dbc_statements.proofs.Common.{read_is_there, there_is_read}
+use Rattle.std.proofs.Common.{◌+◌, inr}
 use Rattle.dbc_grammar.proofs.Divisions.{statements_repeat}
-use Rattle.dbc_grammar.proofs.Exactness.{Within, within_trans}
-use Rattle.dbc_grammar.proofs.TokenExact.{IsRead, first_of, read_is_there, there_is_read}
+use Rattle.dbc_grammar.proofs.Exactness.{within_trans}
 use Rattle.dbc_statements.specs.Tokens.{IsReached}
 
 -- the bytes after an offset, and what is read of them

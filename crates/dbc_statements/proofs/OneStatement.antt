@@ -1,11 +1,9 @@
 -- The first statement of the tokens that are left, and the others.
-use Rattle.std.proofs.Common.{◌≡◌, ◌∙◌, ℕ, true, false, List, [], ◌∷◌, drop, Some, None, refl, sym, ap}
+use Rattle.dbc_statements.proofs.Common.{◌≡◌, ◌∙◌, ℕ, true, false, List, [], ◌∷◌, drop, Some, None, refl, sym, ap}
+use Rattle.dbc_statements.proofs.Common.{lexed, Parsed, is_more, many_at, statement_at, with_front, Statement, Token}
+use Rattle.dbc_statements.proofs.Common.{goes_round, statements_take}
 use Rattle.std.specs.Option.{option_and_then, option_map}
-use Rattle.dbc_grammar.specs.Lexing.{lexed}
-use Rattle.dbc_grammar.specs.Parsing.{Parsed, all_of, is_more, many_at, statement_at, statements_at, with_front}
-use Rattle.dbc_grammar.specs.Statement.{Statement}
-use Rattle.dbc_grammar.specs.Token.{Token}
-use Rattle.dbc_grammar.proofs.Repeating.{goes_round, statements_take}
+use Rattle.dbc_grammar.specs.Parsing.{all_of, statements_at}
 use Rattle.dbc_statements.specs.Left.{BeginsWith, IsLeft}
 use Rattle.dbc_statements.proofs.LoopRounds.{at_start}
 use Rattle.dbc_statements.proofs.Offsets.{first_reached, statement_within}

@@ -1,8 +1,5 @@
 -- Computed rows of what is read from the front of the tokens.
-use Rattle.std.proofs.Common.{◌≡◌, ℕ, [], ◌∷◌, None, Some, Ok, Err, refl}
-use Rattle.std.specs.Prelude.{codes}
-use Rattle.dbc_grammar.specs.Token.{Token}
-use Rattle.dbc_grammar.specs.declared.token.TokenKind.TheVariants.{Mark}
+use Rattle.dbc_statements.proofs.Common.{◌≡◌, ℕ, [], ◌∷◌, None, Some, Ok, Err, refl, codes, Token, Mark}
 use Rattle.dbc_lex.specs.declared.fault.ReadCode.TheVariants.{Memory, Unexpected}
 use Rattle.dbc_statements.specs.Reading.{ReadsTokens, itself, with_mark, with_one}
 

@@ -1,11 +1,11 @@
 -- Loops that pass over tokens one by one.
-use Rattle.std.proofs.Common.{◌≡◌, ◌<◌, Bool, true, false, not, List, [], ◌∷◌, ◌++◌, length, drop, Some, refl}
+use Rattle.dbc_statements.proofs.Common.{◌≡◌, ◌<◌, Bool, true, false, List, [], ◌∷◌, ◌++◌, length, drop, Some, refl}
+use Rattle.dbc_statements.proofs.Common.{many_at, starts, Token, Takes, goes_round, is_over}
+use Rattle.std.proofs.Common.{not}
 use Rattle.dbc_grammar.specs.Grammar.{begins_next, next}
-use Rattle.dbc_grammar.specs.Parsing.{many_at, one_at}
-use Rattle.dbc_grammar.specs.Rules.{starts}
-use Rattle.dbc_grammar.specs.Token.{Token}
+use Rattle.dbc_grammar.specs.Parsing.{one_at}
 use Rattle.dbc_grammar.proofs.Exactness.{tokens_repeat}
-use Rattle.dbc_grammar.proofs.Repeating.{Takes, repeats_take, goes_round, is_over}
+use Rattle.dbc_grammar.proofs.Repeating.{repeats_take}
 use Rattle.dbc_statements.specs.Skipping.{IsSkipping, Skips, begins_no_next}
 use Rattle.dbc_statements.proofs.LoopRounds.{at_start}
 

@@ -1,16 +1,12 @@
 -- The tokens that are read of a text are spelled as their kinds are.
-use Rattle.std.proofs.Common.{◌≡◌, ℕ, true, List, [], ◌∷◌, Option, sym, ap, subst, ◌∙◌}
+use Rattle.dbc_statements.proofs.Common.{◌≡◌, ℕ, true, List, [], ◌∷◌, Option, sym, ap, subst, ◌∙◌, inside_of, LexFault}
+use Rattle.dbc_statements.proofs.Common.{lexed, Token, TokenKind, Name, Text, Mark, IsRead, first_of, read_is_there}
 use Rattle.std.proofs.lemmas.Bool.{false≢true}
 use Rattle.dbc_words.specs.Text.{IsText}
 use Rattle.dbc_grammar.specs.Fields.{same_kind}
-use Rattle.dbc_grammar.specs.Inside.{inside_of}
-use Rattle.dbc_grammar.specs.Lexing.{LexFault, lexed}
 use Rattle.dbc_grammar.specs.Spelling.{Spells}
-use Rattle.dbc_grammar.specs.Token.{Token}
-use Rattle.dbc_grammar.specs.declared.token.TokenKind.{TokenKind}
-use Rattle.dbc_grammar.specs.declared.token.TokenKind.TheVariants.{Name, Number, Text, Mark}
+use Rattle.dbc_grammar.specs.declared.token.TokenKind.TheVariants.{Number}
 use Rattle.dbc_grammar.proofs.TokenTexts.{inside_kept}
-use Rattle.dbc_grammar.proofs.TokenExact.{IsRead, first_of, read_is_there}
 use Rattle.dbc_statements.specs.Tokens.{AreSpelled}
 
 are_spelled : (offset : ℕ) (bytes : List ℕ) (tokens : List Token) (o : Option LexFault) → IsRead offset bytes tokens o

@@ -1,12 +1,10 @@
 -- The statements of a whole text.
-use Rattle.std.proofs.Common.{◌≡◌, ℕ, true, false, List, [], ◌∷◌, Some, None, refl, sym, ap, ◌∙◌}
-use Rattle.dbc_grammar.specs.Lexing.{Lexed, lexed}
-use Rattle.dbc_grammar.specs.Parsing.{many_at, with_front, is_more, statement_at, statements_at}
-use Rattle.dbc_grammar.specs.Statement.{Statement}
-use Rattle.dbc_grammar.specs.Token.{Token}
-use Rattle.dbc_grammar.specs.TokenLaw.{tokens_without_fault}
+use Rattle.dbc_statements.proofs.Common.{◌≡◌, ℕ, true, false, List, [], ◌∷◌, Some, None, refl, sym, ap, ◌∙◌, Lexed}
+use Rattle.dbc_statements.proofs.Common.{lexed, many_at, with_front, is_more, statement_at, Statement, Token}
+use Rattle.dbc_statements.proofs.Common.{tokens_without_fault, statements_take, is_over}
+use Rattle.dbc_grammar.specs.Parsing.{statements_at}
 use Rattle.dbc_grammar.proofs.Divisions.{reading_is_exact}
-use Rattle.dbc_grammar.proofs.Repeating.{statements_take, breaks_off, is_over}
+use Rattle.dbc_grammar.proofs.Repeating.{breaks_off}
 use Rattle.dbc_grammar.proofs.TokenExact.{exact}
 use Rattle.dbc_statements.specs.Division.{HasNoDivision, IsDivided}
 use Rattle.dbc_lex.specs.declared.fault.ReadFault.{ReadFault}

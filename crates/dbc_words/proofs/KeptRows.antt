@@ -1,6 +1,5 @@
 -- Rows of the index of names, computed.
-use Rattle.std.proofs.Common.{◌≡◌, true, false, ℕ, List, [], ◌∷◌, map, None, refl}
-use Rattle.std.specs.Prelude.{codes}
+use Rattle.dbc_words.proofs.Common.{◌≡◌, true, false, ℕ, List, [], ◌∷◌, map, None, refl, codes}
 use Rattle.dbc_words.specs.Named.{IsIndexBy, IsNameIndex, holds_name}
 use Rattle.dbc_words.specs.declared.name_set.NameSet.{NameSet}
 

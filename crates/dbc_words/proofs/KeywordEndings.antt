@@ -1,9 +1,8 @@
 -- Words that are keywords, and words that are none by their last byte.
-use Rattle.std.proofs.Common.{◌≡◌, ◌∙◌, ℕ, true, false, List, [], ◌∷◌, None, refl, sym, ap}
-use Rattle.std.specs.List.{find, list_all}
-use Rattle.std.specs.Str.{bytes_eq}
-use Rattle.std.proofs.lemmas.Bool.{and_parts, false≢true, false_from_ne_true}
-use Rattle.std.proofs.lemmas.Slice.Eq.{bytes_eq-Decides}
+use Rattle.dbc_words.proofs.Common.{◌≡◌, ◌∙◌, ℕ, true, false, List, [], ◌∷◌, None, refl, sym, ap, find, bytes_eq}
+use Rattle.dbc_words.proofs.Common.{false≢true, bytes_eq-Decides}
+use Rattle.std.specs.List.{list_all}
+use Rattle.std.proofs.lemmas.Bool.{and_parts, false_from_ne_true}
 use Rattle.dbc_words.specs.Keyword.{ends_keyword, keyword_of, keyword_text, keywords}
 use Rattle.dbc_words.specs.declared.keyword.Keyword.{Keyword}
 

@@ -1,3 +1,4 @@
+pub mod Common
 pub mod Texts
 mod KeywordEndings
 pub mod NameSets

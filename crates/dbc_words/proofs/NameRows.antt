@@ -1,6 +1,6 @@
 -- Rows of keywords and names, computed.
-use Rattle.std.proofs.Common.{◌≡◌, true, false, List, [], ◌∷◌, map, replicate, Some, None, refl}
-use Rattle.std.specs.Prelude.{codes}
+use Rattle.dbc_words.proofs.Common.{◌≡◌, true, false, [], ◌∷◌, map, Some, None, refl, codes}
+use Rattle.std.proofs.Common.{replicate}
 use Rattle.dbc_words.specs.Keyword.{keyword_of}
 use Rattle.dbc_words.specs.Name.{is_c_identifier, is_name}
 use Rattle.dbc_words.specs.declared.keyword.Keyword.TheVariants.{Message, ValueTable, RelationAttributeDefault}

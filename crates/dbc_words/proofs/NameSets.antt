@@ -1,9 +1,8 @@
 -- What a set of names has after a change.
-use Rattle.std.proofs.Common.{◌≡◌, ◌∙◌, ◌&&◌, ◌||◌, Bool, true, false, cond, not, ℕ, List, refl, sym, ap}
+use Rattle.dbc_words.proofs.Common.{◌≡◌, ◌∙◌, ◌&&◌, ◌||◌, Bool, true, false, cond, not, ℕ, List, refl, sym, ap}
+use Rattle.dbc_words.proofs.Common.{bytes_eq, bytes_eq-Decides}
 use Rattle.std.specs.Ordering.{is_eq}
-use Rattle.std.specs.Str.{bytes_eq}
 use Rattle.std.specs.Cmp.Lexicographic.{texts_ties}
-use Rattle.std.proofs.lemmas.Slice.Eq.{bytes_eq-Decides}
 use Rattle.base.specs.Keyed.{text_cmp}
 use Rattle.dbc_words.specs.Named.{HasNamesOf, has_name, holds_name}
 use Rattle.dbc_words.specs.declared.name_set.NameSet.{NameSet}

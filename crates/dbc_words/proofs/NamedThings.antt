@@ -1,12 +1,11 @@
 -- The thing of a name among things whose names are apart: it is found, taken out, or changed.
-use Rattle.std.proofs.Common.{◌≡◌, ◌<◌, ◌∙◌, ◌||◌, Bool, true, false, cond, not, ℕ, zero, suc, List, [], ◌∷◌, ◌+◌}
-use Rattle.std.proofs.Common.{length, get_or, set, Option, Some, None, refl, sym, ap, subst, arith}
-use Rattle.std.specs.List.{AllByRecursion, IsDistinct, find, list_any, position, position_from, remove}
-use Rattle.std.specs.Str.{bytes_eq}
-use Rattle.std.proofs.lemmas.Bool.{or_parts}
+use Rattle.dbc_words.proofs.Common.{◌≡◌, ◌<◌, ◌∙◌, ◌||◌, Bool, true, false, cond, not, ℕ, zero, suc, List, [], ◌∷◌, ◌+◌}
+use Rattle.dbc_words.proofs.Common.{length, get_or, set, Option, Some, None, refl, sym, ap, subst, arith}
+use Rattle.dbc_words.proofs.Common.{AllByRecursion, find, list_any, position, remove, bytes_eq, or_parts}
+use Rattle.dbc_words.proofs.Common.{bytes_eq-Decides}
+use Rattle.std.specs.List.{IsDistinct, position_from}
 use Rattle.std.proofs.lemmas.Iterator.Adapters.{position_from-zero}
 use Rattle.std.proofs.lemmas.List.Folds.{list_any_at}
-use Rattle.std.proofs.lemmas.Slice.Eq.{bytes_eq-Decides}
 use Rattle.dbc_words.specs.Named.{AreNamedApart, at_named, has_name, thing_named, without_named}
 use Rattle.dbc_words.proofs.Naming.{each_at, no_other}
 

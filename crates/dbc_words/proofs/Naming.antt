@@ -1,10 +1,8 @@
 -- Names of the things in a list, where one is inserted or taken out.
-use Rattle.std.proofs.Common.{◌≡◌, ◌<◌, ◌∙◌, ◌||◌, ◌&&◌, Bool, true, false, cond, not, ℕ, zero, suc, List, [], ◌∷◌}
-use Rattle.std.proofs.Common.{length, get_or, refl, sym, ap, arith}
-use Rattle.std.specs.List.{AllByRecursion, IsDistinct, insert, remove, filter, list_any}
-use Rattle.std.specs.Str.{bytes_eq}
-use Rattle.std.proofs.lemmas.Bool.{or_parts}
-use Rattle.std.proofs.lemmas.Slice.Eq.{bytes_eq-Decides}
+use Rattle.dbc_words.proofs.Common.{◌≡◌, ◌<◌, ◌∙◌, ◌||◌, ◌&&◌, Bool, true, false, cond, not, ℕ, zero, suc, List, []}
+use Rattle.dbc_words.proofs.Common.{◌∷◌, length, get_or, refl, sym, ap, arith, AllByRecursion, remove, list_any}
+use Rattle.dbc_words.proofs.Common.{bytes_eq, or_parts, bytes_eq-Decides}
+use Rattle.std.specs.List.{IsDistinct, insert, filter}
 use Rattle.dbc_words.specs.Named.{AreNamedApart, has_name}
 
 swap_or : (a b c : Bool) → (a || (b || c)) ≡ (b || (a || c))

@@ -1,13 +1,11 @@
 -- What a roster keeps.
-use Rattle.std.proofs.Common.{◌≡◌, ◌<◌, ◌≤◌, ◌∙◌, ◌&&◌, ◌||◌, Bool, true, false, not, ℕ, List, [], ◌∷◌, ◌++◌, length}
-use Rattle.std.proofs.Common.{map, get_or, Option, Some, None, refl, sym, ap, subst, arith, nat_le}
-use Rattle.std.specs.List.{AllByRecursion, IsDistinct, list_any, remove}
-use Rattle.std.specs.Str.{bytes_eq}
+use Rattle.dbc_words.proofs.Common.{◌≡◌, ◌<◌, ◌≤◌, ◌∙◌, ◌&&◌, ◌||◌, Bool, true, false, not, ℕ, List, [], ◌∷◌, ◌++◌}
+use Rattle.dbc_words.proofs.Common.{length, map, get_or, Option, Some, None, refl, sym, ap, subst, arith, nat_le}
+use Rattle.dbc_words.proofs.Common.{AllByRecursion, list_any, remove, bytes_eq, or_parts, bytes_eq-Decides}
+use Rattle.std.specs.List.{IsDistinct}
 use Rattle.std.proofs.Math.Bool.{or_comm}
-use Rattle.std.proofs.lemmas.Bool.{or_parts}
 use Rattle.std.proofs.lemmas.List.{length-append}
 use Rattle.std.proofs.lemmas.List.Edits.{length-remove}
-use Rattle.std.proofs.lemmas.Slice.Eq.{bytes_eq-Decides}
 use Rattle.std.proofs.lemmas.Bool.Decides.{nat_tests}
 use Rattle.std.proofs.lemmas.List.Folds.{list_any-append}
 use Rattle.dbc_words.specs.Limits.{roster_limit}

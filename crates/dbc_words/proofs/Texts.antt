@@ -1,8 +1,8 @@
 -- Texts by their pieces, and by the test that computes them.
-use Rattle.std.proofs.Common.{◌≡◌, ◌≢◌, ◌==◌, ◌<◌, ◌+◌, ℕ, suc, Bool, true, false, List, [], ◌∷◌, ◌++◌, length, drop}
-use Rattle.std.proofs.Common.{get_or, drop-cons, add-one, refl, sym, ap, ◌∙◌, Decides, if◌then◌else◌}
-use Rattle.std.specs.List.{AllByRecursion, flat_map}
-use Rattle.std.proofs.lemmas.Bool.{false≢true}
+use Rattle.dbc_words.proofs.Common.{◌≡◌, ◌<◌, ◌+◌, ℕ, suc, Bool, true, false, List, [], ◌∷◌, ◌++◌, length, drop, get_or}
+use Rattle.dbc_words.proofs.Common.{refl, sym, ap, ◌∙◌, AllByRecursion, false≢true}
+use Rattle.std.proofs.Common.{◌≢◌, ◌==◌, drop-cons, add-one, Decides, if◌then◌else◌}
+use Rattle.std.specs.List.{flat_map}
 use Rattle.std.proofs.lemmas.Bool.Decides.{Decides-eqb}
 use Rattle.dbc_words.specs.Text.{IsPiece, IsText, is_text, is_text_after}
 

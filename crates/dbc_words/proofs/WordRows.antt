@@ -1,7 +1,6 @@
 -- Rows of faults in words, and of texts, computed.
-use Rattle.std.proofs.Common.{◌≡◌, true, false, ℕ, List, [], ◌∷◌, ◌++◌, refl}
+use Rattle.dbc_words.proofs.Common.{◌≡◌, true, false, ℕ, List, [], ◌∷◌, ◌++◌, refl, codes}
 use Rattle.std.specs.Fmt.{decimal, digits}
-use Rattle.std.specs.Prelude.{codes}
 use Rattle.bitlayout.specs.declared.clash.Clash.TheVariants as clash
 use Rattle.dbc_words.specs.Fault.{about_text, code_name, code_number}
 use Rattle.dbc_words.specs.Text.{is_text}

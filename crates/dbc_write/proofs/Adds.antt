@@ -1,15 +1,15 @@
 -- A text that is written piece by piece and line by line.
-use Rattle.std.proofs.Common.{◌≡◌, ◌+◌, ◌<◌, ◌++◌, ℕ, List, [], ◌∷◌, length, take, map, get_or, Bool, true, false}
-use Rattle.std.proofs.Common.{if◌then◌else◌, sym, ap, ◌∙◌, append-nil, append_assoc}
-use Rattle.std.specs.List.{flat_map}
+use Rattle.dbc_write.proofs.Common.{◌≡◌, ◌++◌, ℕ, List, [], ◌∷◌, take, map, Bool, true, false, if◌then◌else◌, sym, ap}
+use Rattle.dbc_write.proofs.Common.{◌∙◌, append_assoc, flat_map, Line, line_text, mark, tight, text_of, codes}
+use Rattle.std.proofs.Common.{◌+◌, ◌<◌, length, get_or, append-nil}
 use Rattle.std.proofs.lemmas.List.{take_more, map-append}
 use Rattle.std.proofs.lemmas.List.Concat.{flat_map-append}
-use Rattle.dbc_grammar.specs.Canon.{Line, line_text, mark, tight, value}
+use Rattle.dbc_grammar.specs.Canon.{value}
 use Rattle.dbc_grammar.specs.declared.token.TokenKind.TheVariants as kind
 use Rattle.decimal.specs.Number.{Number}
-use Rattle.decimal.specs.Printing.{text_of, unsigned_text}
+use Rattle.decimal.specs.Printing.{unsigned_text}
 use Rattle.std.specs.Int.{is_negative}
-use Rattle.std.specs.Prelude.{codes, unsigned_abs}
+use Rattle.std.specs.Prelude.{unsigned_abs}
 use Rattle.dbc_write.specs.Adding.{Adds, piece_text}
 
 pub none : {X : Type 0} (f : X → List ℕ) (a : List ℕ) → Adds f a a []

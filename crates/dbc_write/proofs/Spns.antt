@@ -1,10 +1,10 @@
 -- The definitions of the attribute SPN are written if some signal has a number.
-use Rattle.std.proofs.Common.{◌≡◌, ◌==◌, ◌||◌, ◌++◌, Bool, true, false, not, if◌then◌else◌, List, [], ◌∷◌, refl, ◌∙◌}
-use Rattle.std.specs.List.{flat_map, list_any}
-use Rattle.dbc_grammar.specs.Canon.{Line, each_signal, spn_definitions, spn_lines, with_spn_definitions}
-use Rattle.dbc_sheet.specs.declared.message.Message.{Message}
+use Rattle.dbc_write.proofs.Common.{◌≡◌, ◌==◌, ◌++◌, Bool, true, false, if◌then◌else◌, List, [], ◌∷◌, ◌∙◌, flat_map}
+use Rattle.dbc_write.proofs.Common.{Line, Message, Signal}
+use Rattle.std.proofs.Common.{◌||◌, not, refl}
+use Rattle.std.specs.List.{list_any}
+use Rattle.dbc_grammar.specs.Canon.{each_signal, spn_definitions, spn_lines, with_spn_definitions}
 use Rattle.dbc_sheet.specs.declared.sheet.Sheet.{Sheet}
-use Rattle.dbc_sheet.specs.declared.signal.Signal.{Signal}
 use Rattle.dbc_write.specs.Sections.{has_spn, message_has_spn}
 
 abbrev has_any : {X : Type 0} → List X → Bool

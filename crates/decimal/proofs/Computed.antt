@@ -1,13 +1,11 @@
 -- The computed answer of reading is the one that the bytes have.
-use Rattle.std.proofs.Common.{◌≡◌, ◌≢◌, ◌↔◌, ℕ, zero, suc, ◌+◌, ◌-◌, ◌*◌, ◌/◌, ◌%◌, ◌^◌, Bool, true, false, not, eqb}
-use Rattle.std.proofs.Common.{leb, ◌&&◌, List, length, refl, sym, ap, subst, ◌∙◌, arith, ℤ, pos, negsuc, int_le, Result}
-use Rattle.std.proofs.Common.{Err, mul-div_cancel, zero-mul, ◌≤ℤ◌}
+use Rattle.decimal.proofs.Common.{◌≡◌, ◌≢◌, ◌↔◌, ℕ, zero, suc, ◌+◌, ◌-◌, ◌*◌, ◌/◌, ◌%◌, ◌^◌, Bool, true, false, not}
+use Rattle.decimal.proofs.Common.{eqb, ◌&&◌, List, length, refl, sym, ap, subst, ◌∙◌, arith, ℤ, pos, negsuc, int_le}
+use Rattle.decimal.proofs.Common.{Result, Err, zero-mul, ◌≤ℤ◌, suffix_len, digits_value, and_parts, and_from, both_ways}
+use Rattle.decimal.proofs.Common.{eqb-true, leb-true, ints}
+use Rattle.std.proofs.Common.{leb, mul-div_cancel}
 use Rattle.std.proofs.Math.Nat.{zero-div}
-use Rattle.std.specs.List.{suffix_len}
-use Rattle.std.specs.Str.Parse.{digits_value}
-use Rattle.std.proofs.lemmas.Bool.{and_parts, and_from, cond_both, both_ways, eqb-true, leb-true, leb-false, not-true}
-use Rattle.std.proofs.lemmas.Bool.{not-false}
-use Rattle.std.proofs.lemmas.Int.{ints}
+use Rattle.std.proofs.lemmas.Bool.{cond_both, leb-false, not-true, not-false}
 use Rattle.std.proofs.lemmas.List.Sums.{suffix_len-le-length}
 use Rattle.decimal.specs.Number.{Number, IsInRange}
 use Rattle.decimal.specs.Spelling.{Spelling, IsNumberToken, is_numeral, is_exponent, digits_of, signed}

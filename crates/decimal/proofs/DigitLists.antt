@@ -1,13 +1,9 @@
 -- Lists of digits, and the numbers that they write.
-use Rattle.std.proofs.Common.{◌≡◌, ℕ, zero, suc, ◌+◌, ◌-◌, ◌*◌, ◌^◌, ◌<◌, ◌≤◌, min, true, List, [], ◌∷◌, length, take}
-use Rattle.std.proofs.Common.{drop, get_or, refl, sym, ap, ◌∙◌, arith, add-one, pow-suc}
-use Rattle.std.specs.Char.{is_ascii_digit, digit_value}
-use Rattle.std.specs.Str.Parse.{digits_value}
-use Rattle.std.proofs.lemmas.List.{get_or-drop, length-drop}
+use Rattle.decimal.proofs.Common.{◌≡◌, ℕ, zero, suc, ◌+◌, ◌-◌, ◌*◌, ◌^◌, ◌<◌, ◌≤◌, min, true, List, [], ◌∷◌, length}
+use Rattle.decimal.proofs.Common.{take, drop, get_or, refl, sym, ap, ◌∙◌, arith, add-one, pow-suc, is_ascii_digit}
+use Rattle.decimal.proofs.Common.{digit_value, digits_value, get_or-drop, length-drop, and_parts, nat_tests}
+use Rattle.decimal.proofs.Common.{digits_value_more}
 use Rattle.std.proofs.Math.Nat.{pow-le-pow_right}
-use Rattle.std.proofs.lemmas.Bool.{and_parts}
-use Rattle.std.proofs.lemmas.Bool.Decides.{nat_tests}
-use Rattle.std.proofs.lemmas.Int.Digits.{digits_value_more}
 use Rattle.decimal.specs.Spelling.{are_digits}
 
 pub digit_range : (c : ℕ) → is_ascii_digit c ≡ true → (48 ≤ c) × (c ≤ 57)

@@ -1,5 +1,5 @@
 -- Bytes are read in one way.
-use Rattle.std.proofs.Common.{◌≡◌, ℕ, Bool, List, inl, inr, refl, ap, subst, arith, unsigned_abs, Result, Ok, Err}
+use Rattle.decimal.proofs.Common.{◌≡◌, ℕ, Bool, List, inl, inr, refl, ap, subst, arith, unsigned_abs, Result, Ok, Err}
 use Rattle.decimal.specs.Number.{Number, SameValue, IsInRange, IsDecimal}
 use Rattle.decimal.specs.Spelling.{Writes, number_of}
 use Rattle.decimal.specs.Reading.{IsStripped, ReadsNumber}

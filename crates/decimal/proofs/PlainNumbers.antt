@@ -1,14 +1,11 @@
 -- Numbers of few digits, without an exponent.
-use Rattle.std.proofs.Common.{◌≡◌, ◌≢◌, ℕ, suc, ◌+◌, ◌-◌, ◌*◌, ◌/◌, ◌^◌, ◌%◌, ◌<◌, ◌≤◌, Bool, true, List, [], ◌∷◌, ◌++◌}
-use Rattle.std.proofs.Common.{length, take, drop, get_or, refl, sym, ap, subst, ◌∙◌, arith, add-one, pow-suc, mul-one}
-use Rattle.std.proofs.Common.{pos, neg_ℤ, mul-le-mul_right}
-use Rattle.std.specs.Char.{is_ascii_digit, digit_value}
-use Rattle.std.specs.List.{prefix_len}
-use Rattle.std.specs.Str.Parse.{digits_value, digits_value_after}
+use Rattle.decimal.proofs.Common.{◌≡◌, ◌≢◌, ℕ, suc, ◌+◌, ◌-◌, ◌*◌, ◌/◌, ◌^◌, ◌%◌, ◌<◌, ◌≤◌, Bool, true, List, [], ◌∷◌}
+use Rattle.decimal.proofs.Common.{◌++◌, length, take, drop, get_or, refl, sym, ap, subst, ◌∙◌, arith, add-one, pow-suc}
+use Rattle.decimal.proofs.Common.{mul-one, pos, neg_ℤ, mul-le-mul_right, is_ascii_digit, digit_value, prefix_len}
+use Rattle.decimal.proofs.Common.{digits_value, digits_value_after, ints, append-nil, length-take-le, take-append-drop}
+use Rattle.decimal.proofs.Common.{prefix_len-le-length}
 use Rattle.std.proofs.Math.Nat.{le-mul_of_pos_right}
-use Rattle.std.proofs.lemmas.Int.{ints}
-use Rattle.std.proofs.lemmas.List.{append-nil, length-take-le, take-append-drop, take_all, take_more}
-use Rattle.std.proofs.lemmas.List.Sums.{prefix_len-le-length}
+use Rattle.std.proofs.lemmas.List.{take_all, take_more}
 use Rattle.decimal.specs.Spelling.{IsNumberToken, Writes, are_digits, is_fraction, signed}
 use Rattle.decimal.proofs.DigitLists.{digit_value_is}
 use Rattle.decimal.proofs.Readings.{writes}

@@ -1,12 +1,8 @@
 -- What each answer of reading says of the bytes.
-use Rattle.std.proofs.Common.{◌≡◌, ◌≢◌, ℕ, zero, suc, ◌+◌, ◌-◌, ◌*◌, ◌^◌, ◌%◌, ◌<◌, ◌≤◌, Bool, true, false, not, eqb}
-use Rattle.std.proofs.Common.{List, [], ◌∷◌, ◌++◌, length, take, drop, refl, sym, ap, subst, ◌∙◌, arith, ℤ, pos, ◌+ℤ◌}
-use Rattle.std.proofs.Common.{◌-ℤ◌, ◌*ℤ◌, unsigned_abs, mul-one, zero-mul, Ok, Err}
-use Rattle.std.specs.Char.{is_ascii_digit}
-use Rattle.std.specs.List.{prefix_len, suffix_len}
-use Rattle.std.proofs.lemmas.Bool.{and_parts, and_from}
-use Rattle.std.specs.Str.Parse.{digits_value}
-use Rattle.std.proofs.lemmas.Int.{ints}
+use Rattle.decimal.proofs.Common.{◌≡◌, ◌≢◌, ℕ, zero, suc, ◌+◌, ◌-◌, ◌*◌, ◌^◌, ◌%◌, ◌<◌, ◌≤◌, Bool, true, false, not}
+use Rattle.decimal.proofs.Common.{eqb, List, [], ◌∷◌, ◌++◌, length, take, drop, refl, sym, ap, subst, ◌∙◌, arith, ℤ}
+use Rattle.decimal.proofs.Common.{pos, ◌+ℤ◌, ◌-ℤ◌, ◌*ℤ◌, unsigned_abs, mul-one, zero-mul, Ok, Err, is_ascii_digit}
+use Rattle.decimal.proofs.Common.{prefix_len, suffix_len, and_parts, and_from, digits_value, ints}
 use Rattle.decimal.specs.Number.{Number, IsInRange, IsDecimal}
 use Rattle.decimal.specs.Spelling.{Spelling, IsNumberToken, Writes, are_digits, is_fraction, digits_of, number_of}
 use Rattle.decimal.specs.Spelling.{power_of, signed}

@@ -1,16 +1,15 @@
 -- The text of a decimal reads as that decimal.
-use Rattle.std.proofs.Common.{◌≡◌, ℕ, zero, suc, ◌+◌, ◌-◌, ◌*◌, ◌/◌, ◌%◌, ◌^◌, ◌<◌, ◌≤◌, inl, inr, true, false, not}
-use Rattle.std.proofs.Common.{eqb, List, [], ◌∷◌, ◌++◌, length, replicate, refl, sym, ap, subst, ◌∙◌, arith, ℤ, pos}
-use Rattle.std.proofs.Common.{negsuc, neg_ℤ, unsigned_abs, Ok, mul-one, div-add-mod', int_le, pow-suc, zero-mul}
-use Rattle.std.specs.Char.{is_ascii_digit, digit_value}
+use Rattle.decimal.proofs.Common.{◌≡◌, ℕ, zero, suc, ◌+◌, ◌-◌, ◌*◌, ◌/◌, ◌%◌, ◌^◌, ◌<◌, ◌≤◌, inl, inr, true, false, not}
+use Rattle.decimal.proofs.Common.{eqb, List, [], ◌∷◌, ◌++◌, length, replicate, refl, sym, ap, subst, ◌∙◌, arith, ℤ, pos}
+use Rattle.decimal.proofs.Common.{negsuc, neg_ℤ, unsigned_abs, Ok, mul-one, int_le, pow-suc, zero-mul, is_ascii_digit}
+use Rattle.decimal.proofs.Common.{digit_value, decimal, signed_decimal, digits_value, digits_value_after, and_from}
+use Rattle.decimal.proofs.Common.{and_parts, ne_eqb, leb-true, nat_tests, ints, append-nil}
+use Rattle.std.proofs.Common.{div-add-mod'}
 use Rattle.std.specs.Int.{is_negative}
-use Rattle.std.specs.Fmt.{decimal, signed_decimal}
-use Rattle.std.specs.Str.Parse.{digits_value, digits_value_after, AllDigits}
-use Rattle.std.proofs.lemmas.Bool.{and_from, and_parts, cases_Bool, ne_eqb, le-ltb, false≢true, leb-true}
-use Rattle.std.proofs.lemmas.Bool.Decides.{nat_tests}
+use Rattle.std.specs.Str.Parse.{AllDigits}
+use Rattle.std.proofs.lemmas.Bool.{cases_Bool, le-ltb, false≢true}
 use Rattle.std.proofs.lemmas.Fmt.{decimal_is_IsNumeral_wide}
-use Rattle.std.proofs.lemmas.Int.{ints}
-use Rattle.std.proofs.lemmas.List.{append-nil, length-append, length-replicate, get_or-replicate}
+use Rattle.std.proofs.lemmas.List.{length-append, length-replicate, get_or-replicate}
 use Rattle.std.proofs.lemmas.Str.Parse.{digit_from_value}
 use Rattle.decimal.specs.Number.{Number, IsDecimal, IsInRange}
 use Rattle.decimal.specs.Spelling.{Spelling, IsNumberToken, Writes, are_digits, is_numeral, is_power, digits_of}

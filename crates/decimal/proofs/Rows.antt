@@ -1,6 +1,7 @@
 -- Worked rows: what the definitions give for spellings of DBC files.
-use Rattle.std.proofs.Common.{◌≡◌, ℕ, ◌+◌, ◌-◌, ◌^◌, pos, negsuc, Bool, true, false, List, [], ◌∷◌, map, refl, Result}
-use Rattle.std.proofs.Common.{Ok, Err}
+use Rattle.decimal.proofs.Common.{◌≡◌, ℕ, ◌+◌, ◌-◌, ◌^◌, pos, negsuc, Bool, true, false, List, [], ◌∷◌, refl, Result}
+use Rattle.decimal.proofs.Common.{Ok, Err}
+use Rattle.std.proofs.Common.{map}
 use Rattle.std.specs.Fmt.{digits}
 use Rattle.std.specs.Prelude.{◌==◌, if◌then◌else◌, codes}
 use Rattle.decimal.specs.Number.{Number}

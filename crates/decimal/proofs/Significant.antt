@@ -1,15 +1,14 @@
 -- The digits of a number between the zeros at its ends.
-use Rattle.std.proofs.Common.{◌≡◌, ◌≢◌, ℕ, suc, ◌+◌, ◌-◌, ◌*◌, ◌^◌, ◌%◌, ◌<◌, ◌≤◌, true, List, [], ◌∷◌, ◌++◌, length}
-use Rattle.std.proofs.Common.{take, drop, get_or, reverse, refl, sym, ap, subst, ◌∙◌, arith, pow-suc, mul-le-mul_right}
-use Rattle.std.proofs.Common.{zero-mul, inl, inr}
-use Rattle.std.specs.Char.{is_ascii_digit, digit_value}
-use Rattle.std.specs.List.{prefix_len, suffix_len}
-use Rattle.std.specs.Str.Parse.{digits_value, digits_value_after}
-use Rattle.std.proofs.lemmas.Bool.{eqb-true, eqb-false, cases_lt}
-use Rattle.std.proofs.lemmas.List.{get_or-drop, get_or-take, get_or-reverse, length-drop, length-take-le}
-use Rattle.std.proofs.lemmas.List.{length-reverse, take-append-drop, drop-drop, drop_more}
-use Rattle.std.proofs.lemmas.List.Sums.{prefix_len_passes, prefix_len_stops, prefix_len-le-length}
-use Rattle.std.proofs.lemmas.Int.Digits.{digits_value_more}
+use Rattle.decimal.proofs.Common.{◌≡◌, ◌≢◌, ℕ, suc, ◌+◌, ◌-◌, ◌*◌, ◌^◌, ◌%◌, ◌<◌, ◌≤◌, true, List, [], ◌∷◌, ◌++◌}
+use Rattle.decimal.proofs.Common.{length, take, drop, get_or, refl, sym, ap, subst, ◌∙◌, arith, pow-suc}
+use Rattle.decimal.proofs.Common.{mul-le-mul_right, zero-mul, inl, inr, is_ascii_digit, digit_value, prefix_len}
+use Rattle.decimal.proofs.Common.{suffix_len, digits_value, digits_value_after, eqb-true, cases_lt, get_or-drop}
+use Rattle.decimal.proofs.Common.{length-drop, length-take-le, take-append-drop, prefix_len-le-length}
+use Rattle.decimal.proofs.Common.{digits_value_more}
+use Rattle.std.proofs.Common.{reverse}
+use Rattle.std.proofs.lemmas.Bool.{eqb-false}
+use Rattle.std.proofs.lemmas.List.{get_or-take, get_or-reverse, length-reverse, drop-drop, drop_more}
+use Rattle.std.proofs.lemmas.List.Sums.{prefix_len_passes, prefix_len_stops}
 use Rattle.decimal.specs.Spelling.{are_digits}
 use Rattle.decimal.specs.Cutting.{is_zero}
 use Rattle.decimal.proofs.DigitLists.{digit_at, digit_value_is, digit_range, ten_le}

@@ -1,10 +1,9 @@
 -- The texts of numbers.
-use Rattle.std.proofs.Common.{◌≡◌, ℕ, ◌/◌, ◌%◌, ◌^◌, ◌<◌, ◌≤◌, Bool, true, false, ◌∷◌, ◌++◌, length, replicate, refl}
-use Rattle.std.proofs.Common.{arith, ℤ, pos, negsuc, mod-lt, div-le_self}
-use Rattle.std.proofs.Common.{◌<ℤ◌, ◌≤ℤ◌, ◌⊎◌, inl, inr, unsigned_abs, int_le, ◌&&◌}
-use Rattle.std.proofs.lemmas.Bool.{and_from, and_left, and_right}
-use Rattle.std.proofs.lemmas.Int.{ints}
-use Rattle.std.specs.Fmt.{decimal, signed_decimal}
+use Rattle.decimal.proofs.Common.{◌≡◌, ℕ, ◌/◌, ◌%◌, ◌^◌, ◌<◌, ◌≤◌, Bool, true, false, ◌∷◌, ◌++◌, length, replicate}
+use Rattle.decimal.proofs.Common.{refl, arith, ℤ, pos, negsuc, ◌<ℤ◌, ◌≤ℤ◌, ◌⊎◌, inl, inr, unsigned_abs, int_le, ◌&&◌}
+use Rattle.decimal.proofs.Common.{and_from, ints, decimal, signed_decimal}
+use Rattle.std.proofs.Common.{mod-lt, div-le_self}
+use Rattle.std.proofs.lemmas.Bool.{and_left, and_right}
 use Rattle.decimal.specs.Printing.{unsigned_text, plain_text, with_point}
 use Rattle.std.proofs.lemmas.Fmt.{length-decimal-le_wide}
 use Rattle.decimal.proofs.DigitLists.{ten_le}

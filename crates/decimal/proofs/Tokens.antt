@@ -1,11 +1,10 @@
 -- A number token has one division into parts, and cutting its bytes finds it.
-use Rattle.std.proofs.Common.{◌≡◌, ℕ, suc, ◌+◌, ◌<◌, Bool, true, false, cond, not, eqb, List, [], ◌∷◌, ◌++◌, length}
-use Rattle.std.proofs.Common.{take, drop, refl, sym, ap, ◌∙◌, arith}
-use Rattle.std.specs.Char.{is_ascii_digit}
-use Rattle.std.specs.List.{prefix_len, list_all}
-use Rattle.std.proofs.lemmas.Bool.{and_parts, and_from, ne_eqb}
-use Rattle.std.proofs.lemmas.Bool.Decides.{nat_tests}
-use Rattle.std.proofs.lemmas.List.{take_at, drop_at, take-append-drop}
+use Rattle.decimal.proofs.Common.{◌≡◌, ℕ, suc, ◌+◌, ◌<◌, Bool, true, false, not, eqb, List, [], ◌∷◌, ◌++◌, length, take}
+use Rattle.decimal.proofs.Common.{drop, refl, sym, ap, ◌∙◌, arith, is_ascii_digit, prefix_len, and_parts, and_from}
+use Rattle.decimal.proofs.Common.{ne_eqb, nat_tests, take-append-drop}
+use Rattle.std.proofs.Common.{cond}
+use Rattle.std.specs.List.{list_all}
+use Rattle.std.proofs.lemmas.List.{take_at, drop_at}
 use Rattle.decimal.specs.Spelling.{Spelling, IsNumberToken, is_fraction, is_exponent, is_letter_e, is_numeral}
 use Rattle.decimal.specs.Spelling.{are_digits}
 use Rattle.decimal.specs.Cutting.{cut, fraction_len}

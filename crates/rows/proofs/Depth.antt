@@ -1,6 +1,7 @@
 -- The JSON of a list nests a few levels, and has no number with a fraction. So it reads back, and its text is computed.
-use Rattle.std.proofs.Common.{◌≡◌, ◌≤◌, ◌||◌, ◌∙◌, ℕ, suc, Bool, true, false, cond, List, [], ◌∷◌, Option, Some, None}
-use Rattle.std.proofs.Common.{◌++◌, map, nat_lt, refl, ap, arith}
+use Rattle.rows.proofs.Common.{◌≡◌, ◌≤◌, ◌∙◌, ℕ, true, false, List, [], ◌∷◌, Some, None, ◌++◌, map, refl, ap, Run}
+use Rattle.rows.proofs.Common.{Number, array, put, items_of, has_float}
+use Rattle.std.proofs.Common.{◌||◌, suc, Bool, cond, Option, nat_lt, arith}
 use Rattle.std.specs.Prelude.{max, decimal, codes, ◌^◌}
 use Rattle.std.specs.Option.{option_map}
 use Rattle.std.specs.Ordering.{match_ordering, nat_cmp}
@@ -13,8 +14,6 @@ use Rattle.can_id.specs.Ident.{dbc_number, ident_number}
 use Rattle.can_id.specs.declared.ident.Ident.{Ident}
 use Rattle.can_id.specs.declared.ident.Ident.TheVariants as id
 use Rattle.columns.specs.IdentColumns.{form_word}
-use Rattle.columns.specs.declared.run.Run.{Run}
-use Rattle.decimal.specs.Number.{Number}
 use Rattle.rows.specs.Fact.{Fact, of_change, of_decimal, of_digits, of_free, of_front, of_ident, of_layout, of_mark}
 use Rattle.rows.specs.Fact.{of_maybe, of_mux, of_name, of_number, of_path, of_position, of_range, of_rest, of_runs}
 use Rattle.rows.specs.Fact.{of_scale, of_share, of_word, of_words}
@@ -25,10 +24,9 @@ use Rattle.rows.specs.Json.{written_data}
 use Rattle.rows.specs.Lines.{mux_text, path_text, points}
 use Rattle.rows.specs.Table.{Listing, Kind}
 use Rattle.rows.specs.declared.cell.Column.{Column}
-use Rattle.serde_json.specs.Data.{Data, Members, array, depth, items_depth, member, members_depth, no_members, null}
-use Rattle.serde_json.specs.Data.{number, object, put, string, unsigned}
-use Rattle.serde_json.specs.View.{items_of}
-use Rattle.serde_json.specs.Written.{has_float, items_have_float, members_have_float}
+use Rattle.serde_json.specs.Data.{Data, Members, depth, items_depth, member, members_depth, no_members, null, number}
+use Rattle.serde_json.specs.Data.{object, string, unsigned}
+use Rattle.serde_json.specs.Written.{items_have_float, members_have_float}
 
 -- nests so many levels at most, and has no number with a fraction
 pub record IsLow (n : ℕ) (d : Data) : Type 0 where

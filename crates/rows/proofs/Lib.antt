@@ -1,3 +1,4 @@
+pub mod Common
 pub mod Pushing
 pub mod Depth
 mod Shown

@@ -1,5 +1,6 @@
 -- Rows that are added.
-use Rattle.std.proofs.Common.{◌≡◌, ◌+◌, ◌<◌, ◌++◌, ℕ, List, [], ◌∷◌, length, take, get_or, map, refl, sym, ap, ◌∙◌}
+use Rattle.rows.proofs.Common.{◌≡◌, ◌++◌, ℕ, List, [], ◌∷◌, length, take, map, refl, sym, ap, ◌∙◌}
+use Rattle.std.proofs.Common.{◌+◌, ◌<◌, get_or}
 use Rattle.std.proofs.lemmas.List.{map-append, take_more}
 
 -- the row of one item more

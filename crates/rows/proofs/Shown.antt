@@ -1,5 +1,5 @@
 -- A list computed, in both forms.
-use Rattle.std.proofs.Common.{List, None, Some, [], codes, false, refl, true, ℕ, ◌++◌, ◌∷◌, ◌≡◌}
+use Rattle.rows.proofs.Common.{List, None, Some, [], codes, false, refl, true, ℕ, ◌++◌, ◌∷◌, ◌≡◌, Run, Number}
 use Rattle.std.specs.Prelude.{pos, negsuc}
 use Rattle.std.specs.Fmt.{digits}
 use Rattle.std.specs.Str.{chars, is_utf8}
@@ -7,12 +7,10 @@ use Rattle.std.specs.Str.Lossy.{utf8_error_len, utf8_lossy, utf8_valid_len}
 use Rattle.bitlayout.specs.declared.layout.Order.TheVariants.{Intel, Motorola}
 use Rattle.bitlayout.specs.declared.place.Mux.TheVariants.{Always, Multiplexor, Under}
 use Rattle.can_id.specs.declared.ident.Ident.TheVariants.{Std, Ext}
-use Rattle.columns.specs.declared.run.Run.{Run}
-use Rattle.decimal.specs.Number.{Number}
 use Rattle.decimal.specs.Printing.{unsigned_text}
-use Rattle.rows.specs.Fact.{of_change, of_decimal, of_digits, of_free, of_front, of_ident, of_layout, of_mark}
-use Rattle.rows.specs.Fact.{of_maybe, of_mux, of_name, of_number, of_path, of_position, of_range, of_rest, of_runs}
-use Rattle.rows.specs.Fact.{of_scale, of_share, of_word, of_words}
+use Rattle.rows.specs.Fact.{of_change, of_decimal, of_digits, of_free, of_front, of_ident, of_layout, of_mark, of_maybe}
+use Rattle.rows.specs.Fact.{of_mux, of_name, of_number, of_path, of_position, of_range, of_rest, of_runs, of_scale}
+use Rattle.rows.specs.Fact.{of_share, of_word, of_words}
 use Rattle.rows.specs.Json.{table_json}
 use Rattle.rows.specs.Lines.{fact_text, table_text}
 use Rattle.rows.specs.Table.{Listing, headed, plain, totalled}

@@ -1,5 +1,4 @@
-use Rattle.std.proofs.Common.{◌↔◌, IsTrue, arith}
-use Rattle.std.proofs.lemmas.Bool.Decides.{same_from_decides}
+use Rattle.bitlayout.proofs.Common.{◌↔◌, IsTrue, arith, same_from_decides}
 use Rattle.bitlayout.specs.Bits.{IsBit}
 use Rattle.bitlayout.proofs.Walks.{bit_within, bit_from_within, is_bit_decides}
 use Rattle.bitlayout.proofs.bits.has_bit.Goals as goal

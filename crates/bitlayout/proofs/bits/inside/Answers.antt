@@ -1,6 +1,6 @@
-use Rattle.std.proofs.Common.{◌≡◌, ◌↔◌, ◌≤◌, ◌*◌, IsTrue, arith, leb}
-use Rattle.std.proofs.lemmas.Bool.{leb-true, le-leb}
-use Rattle.std.proofs.lemmas.Bool.Decides.{same_from_decides}
+use Rattle.bitlayout.proofs.Common.{◌≡◌, ◌↔◌, ◌≤◌, ◌*◌, IsTrue, arith, leb-true, same_from_decides}
+use Rattle.std.proofs.Common.{leb}
+use Rattle.std.proofs.lemmas.Bool.{le-leb}
 use Rattle.bitlayout.specs.Bits.{IsInside}
 use Rattle.bitlayout.proofs.Walks.{inside_from_end, end_from_inside, is_inside_decides}
 use Rattle.bitlayout.proofs.bits.inside.Goals as goal

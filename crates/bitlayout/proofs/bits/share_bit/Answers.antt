@@ -1,5 +1,4 @@
-use Rattle.std.proofs.Common.{◌≡◌, ◌↔◌, IsTrue, arith, rules, rules}
-use Rattle.std.proofs.lemmas.Bool.Decides.{same_from_decides}
+use Rattle.bitlayout.proofs.Common.{◌≡◌, ◌↔◌, IsTrue, arith, rules, same_from_decides}
 use Rattle.bitlayout.specs.Bits.{SharesBit}
 use Rattle.bitlayout.proofs.Walks.{shared_rank, share_from_rank, shares_bit_decides}
 use Rattle.bitlayout.proofs.bits.share_bit.Goals as goal

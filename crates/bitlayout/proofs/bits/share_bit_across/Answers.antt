@@ -1,5 +1,4 @@
-use Rattle.std.proofs.Common.{◌≡◌, ℕ, ◌/◌, ◌≤◌, false, refl, inl, inr, arith}
-use Rattle.std.proofs.lemmas.Bool.{cases_lt, both_ways, iff_false}
+use Rattle.bitlayout.proofs.Common.{◌≡◌, ℕ, ◌/◌, ◌≤◌, false, refl, inl, inr, arith, cases_lt, both_ways, iff_false}
 use Rattle.bitlayout.specs.Interval.{rank}
 use Rattle.bitlayout.proofs.Walks.{bit_within, bit_from_within, rank_byte, rank_of_rank, reversed_rank}
 use Rattle.bitlayout.proofs.bits.share_bit_across.Goals as goal

@@ -1,4 +1,4 @@
-use Rattle.std.proofs.Common.{ℕ, ◌≤◌, ◌/◌}
+use Rattle.bitlayout.proofs.Common.{ℕ, ◌≤◌, ◌/◌}
 use Rattle.bitlayout.specs.Bits.{IsBit}
 use Rattle.bitlayout.proofs.bits.share_bit_across.Given as goal
 

@@ -1,6 +1,5 @@
-use Rattle.std.proofs.Common.{◌≡◌, ◌+◌, ◌*◌, ◌≤◌, length, refl, sym, arith, rules, subst}
-use Rattle.std.proofs.lemmas.Bool.{leb-true}
-use Rattle.std.proofs.lemmas.Option.{slice_get_read, get_or_from_slice_get}
+use Rattle.bitlayout.proofs.Common.{◌≡◌, ◌+◌, ◌*◌, ◌≤◌, length, refl, sym, arith, rules, subst, leb-true}
+use Rattle.bitlayout.proofs.Common.{slice_get_read, get_or_from_slice_get}
 use Rattle.bitlayout.specs.declared.place.Mux.TheVariants.{Always}
 use Rattle.bitlayout.proofs.Turns.{InTurn, none_in_turn, next_in_turn, clear_in_turn}
 use Rattle.bitlayout.proofs.clash.are_in_turn.Goals as goal

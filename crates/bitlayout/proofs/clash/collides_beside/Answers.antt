@@ -1,4 +1,4 @@
-use Rattle.std.proofs.Common.{subst, sym, ◌↔◌, IsTrue}
+use Rattle.bitlayout.proofs.Common.{subst, sym, ◌↔◌, IsTrue}
 use Rattle.bitlayout.specs.Taken.{Collides}
 use Rattle.bitlayout.proofs.Collisions.{partner_tested}
 use Rattle.bitlayout.proofs.clash.collides_beside.Goals as goal

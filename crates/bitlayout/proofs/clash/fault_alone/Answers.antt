@@ -1,4 +1,4 @@
-use Rattle.std.proofs.Common.{arith}
+use Rattle.bitlayout.proofs.Common.{arith}
 use Rattle.std.proofs.lemmas.Grind.{common_steps}
 use Rattle.bitlayout.specs.Clash.{clash_after}
 use Rattle.bitlayout.proofs.Collisions.{no_partner}

@@ -1,4 +1,5 @@
-use Rattle.std.proofs.Common.{◌≡◌, ◌↔◌, IsNone, Option, ap, refl, subst, sym, ◌∙◌}
+use Rattle.bitlayout.proofs.Common.{◌≡◌, ◌↔◌, Option, ap, refl, subst, sym, ◌∙◌}
+use Rattle.std.proofs.Common.{IsNone}
 use Rattle.bitlayout.specs.declared.clash.Clash.{Clash}
 use Rattle.bitlayout.specs.Clash.{first_clash_among, first_clash_of}
 use Rattle.bitlayout.specs.Clear.{IsClear}

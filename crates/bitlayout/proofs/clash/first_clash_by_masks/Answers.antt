@@ -1,5 +1,5 @@
-use Rattle.std.proofs.Common.{◌≡◌, ◌∷◌, ◌++◌, [], None, get_or, take, refl, sym, subst, arith, ◌∙◌, below_more}
-use Rattle.std.proofs.lemmas.Option.{slice_get_read, get_or_from_slice_get}
+use Rattle.bitlayout.proofs.Common.{◌≡◌, ◌∷◌, ◌++◌, [], None, get_or, take, refl, sym, subst, arith, ◌∙◌, below_more}
+use Rattle.bitlayout.proofs.Common.{slice_get_read, get_or_from_slice_get}
 use Rattle.bitlayout.specs.Clash.{clash_at}
 use Rattle.bitlayout.specs.Taken.{IsTakenBy}
 use Rattle.bitlayout.proofs.Search.{some_at, none_at, none_if_none}

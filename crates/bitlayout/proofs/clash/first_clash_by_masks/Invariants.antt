@@ -1,4 +1,4 @@
-use Rattle.std.proofs.Common.{◌≡◌, ℕ, ◌<◌, None, take}
+use Rattle.bitlayout.proofs.Common.{◌≡◌, ℕ, ◌<◌, None, take}
 use Rattle.bitlayout.specs.Clash.{clash_at}
 use Rattle.bitlayout.specs.Taken.{IsTakenBy}
 use Rattle.bitlayout.proofs.clash.first_clash_by_masks.Given as goal

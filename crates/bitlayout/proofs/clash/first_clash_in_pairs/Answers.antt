@@ -1,5 +1,4 @@
-use Rattle.std.proofs.Common.{refl, sym, arith, ◌∙◌}
-use Rattle.std.proofs.lemmas.Option.{slice_get_read}
+use Rattle.bitlayout.proofs.Common.{refl, sym, arith, ◌∙◌, slice_get_read}
 use Rattle.bitlayout.specs.Clash.{clash_at}
 use Rattle.bitlayout.proofs.Search.{some_at, none_if_none}
 use Rattle.bitlayout.proofs.Faults.{clash_at_place}

@@ -1,4 +1,4 @@
-use Rattle.std.proofs.Common.{◌≡◌, ℕ, ◌<◌, None}
+use Rattle.bitlayout.proofs.Common.{◌≡◌, ℕ, ◌<◌, None}
 use Rattle.bitlayout.specs.Clash.{clash_at}
 use Rattle.bitlayout.proofs.clash.first_clash_in_pairs.Given as goal
 

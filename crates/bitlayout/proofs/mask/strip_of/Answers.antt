@@ -1,4 +1,4 @@
-use Rattle.std.proofs.Common.{◌≡◌, ◌-◌, ◌*◌, ◌/◌, ◌<◌, ◌≤◌, ◌↔◌, ℕ, sym, subst}
+use Rattle.bitlayout.proofs.Common.{◌≡◌, ◌-◌, ◌*◌, ◌/◌, ◌<◌, ◌≤◌, ◌↔◌, ℕ, sym, subst}
 use Rattle.bitlayout.specs.declared.layout.Order.{Order}
 use Rattle.bitlayout.specs.declared.layout.Order.TheVariants.{Intel, Motorola}
 use Rattle.bitlayout.specs.Interval.{rank}

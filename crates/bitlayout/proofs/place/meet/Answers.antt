@@ -1,4 +1,4 @@
-use Rattle.std.proofs.Common.{refl, sym}
+use Rattle.bitlayout.proofs.Common.{refl, sym}
 use Rattle.bitlayout.proofs.Presence.{meets_decides, meets_unless_under}
 use Rattle.bitlayout.proofs.place.meet.Goals as goal
 

@@ -1,4 +1,4 @@
-use Rattle.std.proofs.Common.{sym}
+use Rattle.bitlayout.proofs.Common.{sym}
 use Rattle.bitlayout.proofs.Collisions.{clash_from_collision}
 use Rattle.bitlayout.proofs.start.fits_beside.Goals as goal
 

@@ -1,5 +1,4 @@
-use Rattle.std.proofs.Common.{sym, ◌∙◌, arith, inl, inr, below_more}
-use Rattle.std.proofs.lemmas.Bool.{cases_lt}
+use Rattle.bitlayout.proofs.Common.{sym, ◌∙◌, arith, inl, inr, below_more, cases_lt}
 use Rattle.bitlayout.specs.Start.{CanStartAt, place_from}
 use Rattle.bitlayout.proofs.Adding.{has_multiplexor-added, clear_added, list_from_added, last_from_added}
 use Rattle.bitlayout.specs.Clash.{clash_after}

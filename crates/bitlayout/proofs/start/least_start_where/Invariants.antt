@@ -1,4 +1,4 @@
-use Rattle.std.proofs.Common.{ℕ, ◌<◌}
+use Rattle.bitlayout.proofs.Common.{ℕ, ◌<◌}
 use Rattle.bitlayout.specs.Start.{CanStartAt}
 use Rattle.bitlayout.specs.Taken.{IsTakenBy}
 use Rattle.bitlayout.proofs.start.least_start_where.Given as goal

@@ -1,4 +1,4 @@
-use Rattle.std.proofs.Common.{take}
+use Rattle.bitlayout.proofs.Common.{take}
 use Rattle.bitlayout.specs.Taken.{IsTakenBy}
 use Rattle.bitlayout.proofs.start.taken_by.Given as goal
 

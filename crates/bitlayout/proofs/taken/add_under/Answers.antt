@@ -1,7 +1,5 @@
-use Rattle.std.proofs.Common.{◌≡◌, ◌∷◌, ◌++◌, [], take, get_or, refl, sym, subst}
-use Rattle.std.proofs.lemmas.Bool.{iff_false}
-use Rattle.std.proofs.lemmas.List.{take_all}
-use Rattle.std.proofs.lemmas.Option.{slice_get_read, get_or_from_slice_get}
+use Rattle.bitlayout.proofs.Common.{◌≡◌, ◌∷◌, ◌++◌, [], take, get_or, refl, sym, subst, iff_false, take_all}
+use Rattle.bitlayout.proofs.Common.{slice_get_read, get_or_from_slice_get}
 use Rattle.bitlayout.specs.Taken.{CoversMore}
 use Rattle.bitlayout.proofs.Covering.{value_added, value_skipped, value_next}
 use Rattle.bitlayout.proofs.taken.add_under.Goals as goal

@@ -1,4 +1,4 @@
-use Rattle.std.proofs.Common.{take}
+use Rattle.bitlayout.proofs.Common.{take}
 use Rattle.bitlayout.specs.Taken.{CoversMore}
 use Rattle.bitlayout.proofs.taken.add_under.Given as goal
 

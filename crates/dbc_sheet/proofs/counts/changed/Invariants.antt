@@ -1,5 +1,4 @@
-use Rattle.std.proofs.Common.{◌≡◌, ◌≤◌, take}
-use Rattle.std.specs.Prelude.{count_by}
+use Rattle.dbc_sheet.proofs.Common.{◌≡◌, ◌≤◌, take, count_by}
 use Rattle.dbc_sheet.specs.Pairs.{has_changed, partner}
 use Rattle.dbc_sheet.proofs.counts.changed.Given as goal
 

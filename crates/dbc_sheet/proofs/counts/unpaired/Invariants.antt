@@ -1,5 +1,5 @@
-use Rattle.std.proofs.Common.{◌≡◌, ◌≤◌, take}
-use Rattle.std.specs.Prelude.{count_by, is_none}
+use Rattle.dbc_sheet.proofs.Common.{◌≡◌, ◌≤◌, take, count_by}
+use Rattle.std.specs.Prelude.{is_none}
 use Rattle.dbc_sheet.specs.Pairs.{partner}
 use Rattle.dbc_sheet.proofs.counts.unpaired.Given as goal
 

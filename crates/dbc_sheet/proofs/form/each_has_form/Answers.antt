@@ -1,4 +1,4 @@
-use Rattle.std.proofs.Common.{arith}
+use Rattle.dbc_sheet.proofs.Common.{arith}
 use Rattle.dbc_sheet.proofs.Clearness.{one_more, all_taken}
 use Rattle.dbc_sheet.proofs.form.each_has_form.Goals as goal
 

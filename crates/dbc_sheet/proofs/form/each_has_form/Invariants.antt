@@ -1,4 +1,4 @@
-use Rattle.std.proofs.Common.{All, take}
+use Rattle.dbc_sheet.proofs.Common.{All, take}
 use Rattle.dbc_sheet.proofs.form.each_has_form.Given as goal
 
 abbrev pub invariant-loop-item : goal.invariant-loop-item

@@ -1,4 +1,4 @@
-use Rattle.std.proofs.Common.{rules}
+use Rattle.dbc_sheet.proofs.Common.{rules}
 use Rattle.std.proofs.lemmas.List.Sorted.{answers_always}
 use Rattle.base.proofs.AscendingLists.{searched}
 use Rattle.dbc_sheet.specs.Messages.{number_of}

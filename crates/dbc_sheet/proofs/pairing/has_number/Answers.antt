@@ -1,5 +1,4 @@
-use Rattle.std.proofs.Common.{◌≡◌, ◌==◌, ◌∙◌, Option, Some, None, ap, sym, refl}
-use Rattle.std.specs.Prelude.{is_some}
+use Rattle.dbc_sheet.proofs.Common.{◌≡◌, ◌==◌, ◌∙◌, Some, None, ap, refl, is_some}
 use Rattle.std.specs.Option.{option_copied}
 use Rattle.dbc_sheet.specs.Messages.{number_of}
 use Rattle.dbc_sheet.proofs.Found.{found_if_any}

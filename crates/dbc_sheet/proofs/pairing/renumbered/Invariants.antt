@@ -1,4 +1,5 @@
-use Rattle.std.proofs.Common.{◌≡◌, drop}
+use Rattle.dbc_sheet.proofs.Common.{◌≡◌}
+use Rattle.std.proofs.Common.{drop}
 use Rattle.dbc_sheet.specs.Pairs.{renumbered}
 use Rattle.dbc_sheet.proofs.pairing.renumbered.Given as goal
 

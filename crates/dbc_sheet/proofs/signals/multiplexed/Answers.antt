@@ -1,4 +1,4 @@
-use Rattle.std.proofs.Common.{◌∙◌, ◌&&◌, ◌||◌, ◌+◌, [], take, refl, sym, ap}
+use Rattle.dbc_sheet.proofs.Common.{◌∙◌, ◌&&◌, ◌||◌, ◌+◌, [], take, refl, sym, ap}
 use Rattle.dbc_sheet.specs.Signals.{IsMultiplexorKnown}
 use Rattle.dbc_sheet.proofs.Multiplexors.{known_more, none_known, two_known}
 use Rattle.dbc_sheet.proofs.signals.multiplexed.Goals as goal

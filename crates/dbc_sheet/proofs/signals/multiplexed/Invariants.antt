@@ -1,4 +1,4 @@
-use Rattle.std.proofs.Common.{◌≡◌, take}
+use Rattle.dbc_sheet.proofs.Common.{◌≡◌, take}
 use Rattle.dbc_sheet.specs.Signals.{HaveOneMultiplexor, has_multiplexor}
 use Rattle.dbc_sheet.proofs.signals.multiplexed.Given as goal
 

@@ -1,7 +1,5 @@
-use Rattle.std.proofs.Common.{sym, ◌∙◌}
-use Rattle.dbc_grammar.specs.Grammar.{is_open}
-use Rattle.dbc_grammar.specs.Parsing.{many_at, entry_at, entries_at}
-use Rattle.dbc_grammar.specs.Rules.{starts}
+use Rattle.dbc_statements.proofs.Common.{sym, ◌∙◌, is_open, many_at, entry_at, starts}
+use Rattle.dbc_grammar.specs.Parsing.{entries_at}
 use Rattle.dbc_grammar.proofs.Repeating.{entries_take}
 use Rattle.dbc_statements.proofs.LoopRounds.{at_start, fewer, one_more}
 use Rattle.dbc_statements.proofs.entries.entry_list.Goals as goal

@@ -1,7 +1,5 @@
-use Rattle.std.proofs.Common.{◌≡◌, length}
-use Rattle.dbc_grammar.specs.Grammar.{is_open}
-use Rattle.dbc_grammar.specs.Parsing.{with_front, many_at, entry_at, entries_at}
-use Rattle.dbc_grammar.specs.Rules.{starts}
+use Rattle.dbc_statements.proofs.Common.{◌≡◌, length, is_open, with_front, many_at, entry_at, starts}
+use Rattle.dbc_grammar.specs.Parsing.{entries_at}
 use Rattle.dbc_statements.proofs.entries.entry_list.Given as goal
 
 abbrev pub invariant-entries : goal.invariant-entries

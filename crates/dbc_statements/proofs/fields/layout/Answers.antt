@@ -1,4 +1,4 @@
-use Rattle.std.proofs.lemmas.Result.{err_from_is_err_and}
+use Rattle.dbc_statements.proofs.Common.{err_from_is_err_and}
 use Rattle.dbc_statements.proofs.Marked.{no_size, no_order, no_sign}
 use Rattle.dbc_statements.proofs.fields.layout.Goals as goal
 

@@ -1,5 +1,4 @@
-use Rattle.std.proofs.Common.{◌∷◌, []}
-use Rattle.std.proofs.lemmas.Result.{err_from_is_err_and}
+use Rattle.dbc_statements.proofs.Common.{◌∷◌, [], err_from_is_err_and}
 use Rattle.dbc_statements.proofs.Marked.{no_first, no_second}
 use Rattle.dbc_statements.proofs.fields.pair.Goals as goal
 

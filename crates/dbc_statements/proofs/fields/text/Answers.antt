@@ -1,6 +1,5 @@
-use Rattle.std.proofs.Common.{◌∙◌, sym}
+use Rattle.dbc_statements.proofs.Common.{◌∙◌, sym, inside_of}
 use Rattle.dbc_words.proofs.Texts.{text-Decides}
-use Rattle.dbc_grammar.specs.Inside.{inside_of}
 use Rattle.dbc_statements.proofs.Spelled.{inside_is_text}
 use Rattle.dbc_statements.proofs.fields.text.Goals as goal
 

@@ -1,5 +1,4 @@
-use Rattle.std.proofs.Common.{sym, ◌∙◌}
-use Rattle.dbc_grammar.specs.Grammar.{is_symbol}
+use Rattle.dbc_statements.proofs.Common.{sym, ◌∙◌, is_symbol}
 use Rattle.dbc_statements.proofs.Skip.{none_skipped, one_skipped, one_fewer, all_skipped}
 use Rattle.dbc_statements.proofs.heading.skip_symbols.Goals as goal
 

@@ -1,5 +1,5 @@
-use Rattle.std.proofs.Common.{sym, ◌∙◌, option_map}
-use Rattle.dbc_grammar.proofs.Repeating.{further_take}
+use Rattle.dbc_statements.proofs.Common.{sym, ◌∙◌, further_take}
+use Rattle.std.proofs.Common.{option_map}
 use Rattle.dbc_statements.proofs.NameLists.{one_more}
 use Rattle.dbc_statements.proofs.names.add_further.Goals as goal
 

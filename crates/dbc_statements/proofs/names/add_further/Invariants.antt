@@ -1,6 +1,4 @@
-use Rattle.std.proofs.Common.{◌≡◌, length}
-use Rattle.dbc_grammar.specs.Fields.{goes_on}
-use Rattle.dbc_grammar.specs.Parsing.{many_at, further_at}
+use Rattle.dbc_statements.proofs.Common.{◌≡◌, length, goes_on, many_at, further_at}
 use Rattle.dbc_statements.specs.Names.{with_names}
 use Rattle.dbc_statements.proofs.names.add_further.Given as goal
 

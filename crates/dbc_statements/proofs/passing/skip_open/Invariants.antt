@@ -1,5 +1,4 @@
-use Rattle.std.proofs.Common.{length}
-use Rattle.dbc_grammar.specs.Grammar.{is_open}
+use Rattle.dbc_statements.proofs.Common.{length, is_open}
 use Rattle.dbc_statements.specs.Skipping.{IsSkipping}
 use Rattle.dbc_statements.proofs.passing.skip_open.Given as goal
 

@@ -1,4 +1,4 @@
-use Rattle.std.proofs.Common.{sym, ◌∙◌}
+use Rattle.dbc_statements.proofs.Common.{sym, ◌∙◌}
 use Rattle.dbc_statements.specs.Skipping.{begins_no_next}
 use Rattle.dbc_statements.proofs.Skip.{none_skipped, one_skipped, one_fewer, all_skipped, next_there}
 use Rattle.dbc_statements.proofs.passing.skip_to_next.Goals as goal

@@ -1,4 +1,4 @@
-use Rattle.std.proofs.Common.{length}
+use Rattle.dbc_statements.proofs.Common.{length}
 use Rattle.dbc_statements.specs.Skipping.{IsSkipping, begins_no_next}
 use Rattle.dbc_statements.proofs.passing.skip_to_next.Given as goal
 

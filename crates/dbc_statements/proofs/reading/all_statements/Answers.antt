@@ -1,11 +1,6 @@
-use Rattle.std.proofs.Common.{List, [], ◌∷◌, inl, refl, ap}
+use Rattle.dbc_statements.proofs.Common.{List, [], ◌∷◌, inl, refl, ap, err_from_is_err_and, many_at, is_more}
+use Rattle.dbc_statements.proofs.Common.{statement_at, Statement, Token, statements_take, goes_round, token_of}
 use Rattle.std.proofs.lemmas.List.{map-append}
-use Rattle.std.proofs.lemmas.Result.{err_from_is_err_and}
-use Rattle.dbc_grammar.specs.Parsing.{many_at, is_more, statement_at}
-use Rattle.dbc_grammar.specs.Statement.{Statement}
-use Rattle.dbc_grammar.specs.Token.{Token}
-use Rattle.dbc_grammar.proofs.Repeating.{statements_take, goes_round}
-use Rattle.dbc_lex.specs.Token.{token_of}
 use Rattle.dbc_statements.specs.Statement.{statements_of, statement_of}
 use Rattle.dbc_statements.proofs.Offsets.{first_reached, statement_within}
 use Rattle.dbc_statements.proofs.LoopRounds.{at_start}

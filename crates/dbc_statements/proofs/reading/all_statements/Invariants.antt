@@ -1,6 +1,4 @@
-use Rattle.std.proofs.Common.{◌≡◌, length}
-use Rattle.dbc_grammar.specs.Parsing.{with_front, many_at, is_more, statement_at}
-use Rattle.dbc_grammar.proofs.Exactness.{Within}
+use Rattle.dbc_statements.proofs.Common.{◌≡◌, length, with_front, many_at, is_more, statement_at, Within}
 use Rattle.dbc_statements.specs.Tokens.{IsReached}
 use Rattle.dbc_statements.specs.Statement.{statements_of}
 use Rattle.dbc_statements.proofs.reading.all_statements.Given as goal

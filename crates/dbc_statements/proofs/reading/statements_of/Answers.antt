@@ -1,8 +1,4 @@
-use Rattle.std.proofs.Common.{◌≡◌, subst, List}
-use Rattle.std.proofs.lemmas.Result.{err_from_is_err_and}
-use Rattle.dbc_grammar.specs.Lexing.{lexed}
-use Rattle.dbc_grammar.specs.Token.{Token}
-use Rattle.dbc_grammar.specs.TokenLaw.{tokens_without_fault}
+use Rattle.dbc_statements.proofs.Common.{◌≡◌, subst, List, err_from_is_err_and, lexed, Token, tokens_without_fault}
 use Rattle.dbc_statements.specs.Tokens.{IsReached}
 use Rattle.dbc_statements.specs.Statement.{statements_of}
 use Rattle.dbc_statements.proofs.WholeText.{is_divided, no_division, no_tokens, whole}

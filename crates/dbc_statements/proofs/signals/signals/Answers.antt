@@ -1,8 +1,5 @@
-use Rattle.std.proofs.Common.{sym, ◌∙◌}
-use Rattle.dbc_words.specs.declared.keyword.Keyword.TheVariants.{Signal}
-use Rattle.dbc_grammar.specs.Fields.{is_key}
-use Rattle.dbc_grammar.specs.Parsing.{many_at, signal_at, signals_at}
-use Rattle.dbc_grammar.specs.Rules.{starts}
+use Rattle.dbc_statements.proofs.Common.{sym, ◌∙◌, Signal, is_key, many_at, signal_at, starts}
+use Rattle.dbc_grammar.specs.Parsing.{signals_at}
 use Rattle.dbc_grammar.proofs.Repeating.{signals_take}
 use Rattle.dbc_statements.specs.Statement.{signals_of}
 use Rattle.dbc_statements.proofs.LoopRounds.{at_start, fewer, one_more}

@@ -1,8 +1,5 @@
-use Rattle.std.proofs.Common.{◌≡◌, length}
-use Rattle.dbc_words.specs.declared.keyword.Keyword.TheVariants.{Signal}
-use Rattle.dbc_grammar.specs.Fields.{is_key}
-use Rattle.dbc_grammar.specs.Parsing.{with_front, many_at, signal_at, signals_at}
-use Rattle.dbc_grammar.specs.Rules.{starts}
+use Rattle.dbc_statements.proofs.Common.{◌≡◌, length, Signal, is_key, with_front, many_at, signal_at, starts}
+use Rattle.dbc_grammar.specs.Parsing.{signals_at}
 use Rattle.dbc_statements.specs.Statement.{HaveNothingAttached, signals_of}
 use Rattle.dbc_statements.proofs.signals.signals.Given as goal
 

@@ -1,5 +1,4 @@
-use Rattle.std.proofs.Common.{ap, ◌∙◌}
-use Rattle.dbc_grammar.specs.Lexing.{Lexed}
+use Rattle.dbc_statements.proofs.Common.{ap, ◌∙◌, Lexed}
 use Rattle.dbc_statements.proofs.Offsets.{same_fault}
 use Rattle.dbc_statements.proofs.tokens.fault_after.Goals as goal
 

@@ -1,5 +1,4 @@
-use Rattle.std.proofs.Common.{◌≡◌, length}
-use Rattle.dbc_grammar.specs.Lexing.{lexed}
+use Rattle.dbc_statements.proofs.Common.{◌≡◌, length, lexed}
 use Rattle.dbc_statements.proofs.tokens.fault_after.Given as goal
 
 abbrev pub invariant-tokens : goal.invariant-tokens

@@ -1,4 +1,5 @@
-use Rattle.std.proofs.Common.{◌≡◌, ℕ, Option, Some, None, Result, Ok, Err, refl, sym}
+use Rattle.dbc_statements.proofs.Common.{◌≡◌, ℕ, Option, Some, None, Ok, Err, refl, sym}
+use Rattle.std.proofs.Common.{Result}
 use Rattle.std.specs.Prelude.{IfErr, IfOk}
 use Rattle.std.specs.Result.{result_ok}
 use Rattle.can_id.specs.Ident.{IsIdentifier, dbc_number}

@@ -1,6 +1,4 @@
-use Rattle.std.proofs.Common.{◌∙◌, take, sym, ap, arith}
-use Rattle.std.specs.Str.{bytes_eq}
-use Rattle.std.proofs.lemmas.Bool.{false≢true}
+use Rattle.dbc_words.proofs.Common.{◌∙◌, take, sym, ap, arith, bytes_eq, false≢true}
 use Rattle.dbc_words.specs.Named.{has_name}
 use Rattle.dbc_words.proofs.Gathering.{apart_at_start, apart_more, not_apart}
 use Rattle.dbc_words.proofs.name_index.are_apart.Goals as goal

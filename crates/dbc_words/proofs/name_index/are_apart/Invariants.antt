@@ -1,4 +1,5 @@
-use Rattle.std.proofs.Common.{◌≤◌, ◌-◌, length, take}
+use Rattle.dbc_words.proofs.Common.{◌≤◌, length, take}
+use Rattle.std.proofs.Common.{◌-◌}
 use Rattle.dbc_words.specs.Named.{AreNamedApart}
 use Rattle.dbc_words.proofs.name_index.are_apart.Given as goal
 

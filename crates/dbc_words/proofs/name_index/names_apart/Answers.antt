@@ -1,5 +1,4 @@
-use Rattle.std.proofs.Common.{◌∙◌, ◌||◌, not, take, sym, ap}
-use Rattle.std.specs.Str.{bytes_eq}
+use Rattle.dbc_words.proofs.Common.{◌∙◌, ◌||◌, not, take, sym, ap, bytes_eq}
 use Rattle.dbc_words.specs.Named.{has_name, holds_name}
 use Rattle.dbc_words.proofs.Gathering.{apart_at_start, apart_more, next_taken, not_apart}
 use Rattle.dbc_words.proofs.NameSets.{is_new}

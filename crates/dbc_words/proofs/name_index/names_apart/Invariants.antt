@@ -1,4 +1,4 @@
-use Rattle.std.proofs.Common.{take}
+use Rattle.dbc_words.proofs.Common.{take}
 use Rattle.dbc_words.specs.Named.{AreNamedApart, HasNamesOf}
 use Rattle.dbc_words.proofs.name_index.names_apart.Given as goal
 

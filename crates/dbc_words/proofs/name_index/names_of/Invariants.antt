@@ -1,4 +1,4 @@
-use Rattle.std.proofs.Common.{take}
+use Rattle.dbc_words.proofs.Common.{take}
 use Rattle.dbc_words.specs.Named.{HasNamesOf}
 use Rattle.dbc_words.proofs.name_index.names_of.Given as goal
 

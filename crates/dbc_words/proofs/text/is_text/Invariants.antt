@@ -1,4 +1,4 @@
-use Rattle.std.proofs.Common.{◌≡◌, drop}
+use Rattle.dbc_words.proofs.Common.{◌≡◌, drop}
 use Rattle.dbc_words.specs.Text.{is_text, is_text_after}
 use Rattle.dbc_words.proofs.text.is_text.Given as goal
 

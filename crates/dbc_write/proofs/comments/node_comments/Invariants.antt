@@ -1,6 +1,5 @@
-use Rattle.std.proofs.Common.{take}
-use Rattle.std.specs.List.{flat_map}
-use Rattle.dbc_grammar.specs.Canon.{line_text, node_comment}
+use Rattle.dbc_write.proofs.Common.{take, flat_map, line_text}
+use Rattle.dbc_grammar.specs.Canon.{node_comment}
 use Rattle.dbc_write.specs.Adding.{Adds}
 use Rattle.dbc_write.proofs.comments.node_comments.Given as goal
 

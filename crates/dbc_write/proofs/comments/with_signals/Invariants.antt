@@ -1,7 +1,5 @@
-use Rattle.std.proofs.Common.{take}
-use Rattle.std.specs.List.{flat_map}
-use Rattle.dbc_grammar.specs.Canon.{comment_lines, line_text, signal_pieces}
-use Rattle.dbc_sheet.specs.declared.signal.Signal.{Signal}
+use Rattle.dbc_write.proofs.Common.{take, flat_map, line_text, Signal}
+use Rattle.dbc_grammar.specs.Canon.{comment_lines, signal_pieces}
 use Rattle.dbc_write.specs.Adding.{Adds}
 use Rattle.dbc_write.proofs.comments.with_signals.Given as goal
 

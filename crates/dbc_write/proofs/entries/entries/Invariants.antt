@@ -1,5 +1,4 @@
-use Rattle.std.proofs.Common.{take}
-use Rattle.std.specs.List.{flat_map}
+use Rattle.dbc_write.proofs.Common.{take, flat_map}
 use Rattle.dbc_grammar.specs.Canon.{entry}
 use Rattle.dbc_write.specs.Adding.{Adds, piece_text}
 use Rattle.dbc_write.proofs.entries.entries.Given as goal

@@ -1,6 +1,4 @@
-use Rattle.std.proofs.Common.{◌∷◌, []}
-use Rattle.std.specs.Prelude.{codes}
-use Rattle.dbc_grammar.specs.Canon.{space, tight, word}
+use Rattle.dbc_write.proofs.Common.{◌∷◌, [], codes, space, tight, word}
 use Rattle.dbc_write.proofs.Adds.{also, line}
 use Rattle.dbc_write.proofs.entries.table_line.Goals as goal
 

@@ -1,4 +1,4 @@
-use Rattle.dbc_grammar.specs.Canon.{table_line}
+use Rattle.dbc_write.proofs.Common.{table_line}
 use Rattle.dbc_write.proofs.Adds.{one_more}
 use Rattle.dbc_write.proofs.entries.table_lines.Goals as goal
 

@@ -1,5 +1,4 @@
-use Rattle.std.proofs.Common.{map, take}
-use Rattle.dbc_grammar.specs.Canon.{line_text, table_line}
+use Rattle.dbc_write.proofs.Common.{map, take, line_text, table_line}
 use Rattle.dbc_write.specs.Adding.{Adds}
 use Rattle.dbc_write.proofs.entries.table_lines.Given as goal
 

@@ -1,4 +1,4 @@
-use Rattle.std.proofs.Common.{◌∷◌, []}
+use Rattle.dbc_write.proofs.Common.{◌∷◌, []}
 use Rattle.dbc_grammar.specs.Canon.{symbols_line, timing_line}
 use Rattle.dbc_write.proofs.Adds.{also}
 use Rattle.dbc_write.proofs.heading.heading.Goals as goal

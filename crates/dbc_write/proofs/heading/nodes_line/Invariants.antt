@@ -1,5 +1,4 @@
-use Rattle.std.proofs.Common.{map, take}
-use Rattle.dbc_grammar.specs.Canon.{space, word}
+use Rattle.dbc_write.proofs.Common.{map, take, space, word}
 use Rattle.dbc_sheet.specs.declared.node.Node.{Node}
 use Rattle.dbc_write.specs.Adding.{Adds, piece_text}
 use Rattle.dbc_write.proofs.heading.nodes_line.Given as goal

@@ -1,6 +1,5 @@
-use Rattle.std.proofs.Common.{take}
-use Rattle.std.specs.List.{flat_map}
-use Rattle.dbc_grammar.specs.Canon.{line_text, message_lines}
+use Rattle.dbc_write.proofs.Common.{take, flat_map, line_text}
+use Rattle.dbc_grammar.specs.Canon.{message_lines}
 use Rattle.dbc_write.specs.Adding.{Adds}
 use Rattle.dbc_write.proofs.messages.messages.Given as goal
 

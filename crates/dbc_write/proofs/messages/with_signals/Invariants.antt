@@ -1,5 +1,5 @@
-use Rattle.std.proofs.Common.{map, take}
-use Rattle.dbc_grammar.specs.Canon.{line_text, signal_line}
+use Rattle.dbc_write.proofs.Common.{map, take, line_text}
+use Rattle.dbc_grammar.specs.Canon.{signal_line}
 use Rattle.dbc_write.specs.Adding.{Adds}
 use Rattle.dbc_write.proofs.messages.with_signals.Given as goal
 

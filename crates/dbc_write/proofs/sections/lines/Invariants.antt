@@ -1,7 +1,4 @@
-use Rattle.std.proofs.Common.{take}
-use Rattle.std.specs.List.{flat_map}
-use Rattle.dbc_grammar.specs.Canon.{line_text}
-use Rattle.dbc_sheet.specs.declared.message.Message.{Message}
+use Rattle.dbc_write.proofs.Common.{take, flat_map, line_text, Message}
 use Rattle.dbc_write.specs.Adding.{Adds}
 use Rattle.dbc_write.specs.Sections.{section_lines}
 use Rattle.dbc_write.proofs.sections.lines.Given as goal

@@ -1,5 +1,4 @@
-use Rattle.std.proofs.Common.{◌∙◌, sym}
-use Rattle.dbc_grammar.specs.Canon.{line_text}
+use Rattle.dbc_write.proofs.Common.{◌∙◌, sym, line_text}
 use Rattle.dbc_write.proofs.Adds.{also, none}
 use Rattle.dbc_write.proofs.Spns.{defined_first, none_defined}
 use Rattle.dbc_write.proofs.sections.spns.Goals as goal

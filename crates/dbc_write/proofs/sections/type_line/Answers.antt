@@ -1,4 +1,5 @@
-use Rattle.std.proofs.Common.{◌≡◌, ◌==◌, ◌∙◌, false, arith}
+use Rattle.dbc_write.proofs.Common.{◌≡◌, ◌==◌, ◌∙◌, false}
+use Rattle.std.proofs.Common.{arith}
 use Rattle.std.proofs.lemmas.Bool.Decides.{nat_tests}
 use Rattle.dbc_words.specs.ValueType.{value_type_number}
 use Rattle.dbc_write.proofs.Adds.{also, line}

@@ -1,7 +1,4 @@
-use Rattle.std.proofs.Common.{ℕ, List, ◌∷◌, [], take}
-use Rattle.std.specs.Prelude.{codes}
-use Rattle.std.specs.List.{flat_map}
-use Rattle.dbc_grammar.specs.Canon.{mark, tight, word}
+use Rattle.dbc_write.proofs.Common.{ℕ, List, ◌∷◌, [], take, codes, flat_map, mark, tight, word}
 use Rattle.dbc_write.specs.Adding.{Adds, piece_text}
 use Rattle.dbc_write.proofs.signals.receivers.Given as goal
 

@@ -1,6 +1,4 @@
-use Rattle.std.proofs.Common.{◌∷◌, []}
-use Rattle.std.specs.Prelude.{codes}
-use Rattle.dbc_grammar.specs.Canon.{space, word}
+use Rattle.dbc_write.proofs.Common.{◌∷◌, [], codes, space, word}
 use Rattle.dbc_write.proofs.Adds.{also, line}
 use Rattle.dbc_write.proofs.signals.signal_line.Goals as goal
 

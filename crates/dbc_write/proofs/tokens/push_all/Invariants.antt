@@ -1,5 +1,4 @@
-use Rattle.std.proofs.Common.{◌≡◌, ◌++◌, take}
-use Rattle.std.specs.List.{flat_map}
+use Rattle.dbc_write.proofs.Common.{◌≡◌, ◌++◌, take, flat_map}
 use Rattle.dbc_write.proofs.tokens.push_all.Given as goal
 
 abbrev pub invariant-loop-part : goal.invariant-loop-part

@@ -1,6 +1,4 @@
-use Rattle.std.proofs.Common.{◌++◌, sym, ap, ◌∙◌, append_assoc}
-use Rattle.dbc_grammar.specs.Canon.{space}
-use Rattle.decimal.specs.Printing.{text_of}
+use Rattle.dbc_write.proofs.Common.{◌++◌, sym, ap, ◌∙◌, append_assoc, space, text_of}
 use Rattle.dbc_write.proofs.Adds.{decimal_text}
 use Rattle.dbc_write.proofs.tokens.spaced_value.Goals as goal
 

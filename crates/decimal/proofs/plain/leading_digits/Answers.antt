@@ -1,5 +1,4 @@
-use Rattle.std.proofs.Common.{◌*◌, ◌+◌, ◌-◌, ◌≡◌, ◌∙◌, arith, length, true, get_or, refl, sym}
-use Rattle.std.specs.Char.{is_ascii_digit}
+use Rattle.decimal.proofs.Common.{◌*◌, ◌+◌, ◌-◌, ◌≡◌, ◌∙◌, arith, length, true, get_or, refl, sym, is_ascii_digit}
 use Rattle.std.proofs.lemmas.List.Sums.{prefix_len-drop_yes}
 use Rattle.decimal.proofs.DigitLists.{digit_range}
 use Rattle.decimal.proofs.PlainNumbers.{digit_more, room_after, room_left}

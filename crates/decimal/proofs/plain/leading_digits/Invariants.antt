@@ -1,7 +1,5 @@
-use Rattle.std.proofs.Common.{◌≡◌, ◌+◌, ◌-◌, ◌*◌, ◌^◌, ◌≤◌, length, take, drop}
-use Rattle.std.specs.Char.{is_ascii_digit}
-use Rattle.std.specs.List.{prefix_len}
-use Rattle.std.specs.Str.Parse.{digits_value_after}
+use Rattle.decimal.proofs.Common.{◌≡◌, ◌+◌, ◌-◌, ◌*◌, ◌^◌, ◌≤◌, length, take, drop, is_ascii_digit, prefix_len}
+use Rattle.decimal.proofs.Common.{digits_value_after}
 use Rattle.decimal.proofs.plain.leading_digits.Given as goal
 
 abbrev pub invariant-loop-len : goal.invariant-loop-len

@@ -1,6 +1,4 @@
-use Rattle.std.proofs.Common.{◌≡◌, ◌∙◌, sym, subst, arith, pos, neg_ℤ, ◌-ℤ◌, to_z, of_z, Ok}
-use Rattle.std.specs.Int.{w16, w128}
-use Rattle.std.proofs.lemmas.Int.{ints}
+use Rattle.decimal.proofs.Common.{◌≡◌, ◌∙◌, sym, subst, arith, pos, neg_ℤ, ◌-ℤ◌, to_z, of_z, Ok, w16, w128, ints}
 use Rattle.decimal.specs.Number.{Number}
 use Rattle.decimal.specs.Spelling.{signed}
 use Rattle.decimal.specs.Reading.{ReadsNumber}

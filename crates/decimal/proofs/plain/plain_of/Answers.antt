@@ -1,4 +1,4 @@
-use Rattle.std.proofs.Common.{arith}
+use Rattle.decimal.proofs.Common.{arith}
 use Rattle.decimal.proofs.PlainNumbers.{whole_writes, point_writes}
 use Rattle.decimal.proofs.plain.plain_of.Goals as goal
 

@@ -1,4 +1,4 @@
-use Rattle.std.proofs.Common.{arith}
+use Rattle.decimal.proofs.Common.{arith}
 use Rattle.decimal.proofs.PlainNumbers.{ten_out}
 use Rattle.decimal.proofs.plain.without_zeros.Goals as goal
 

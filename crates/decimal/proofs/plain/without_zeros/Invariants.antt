@@ -1,4 +1,4 @@
-use Rattle.std.proofs.Common.{◌≡◌, ◌*◌, ◌^◌}
+use Rattle.decimal.proofs.Common.{◌≡◌, ◌*◌, ◌^◌}
 use Rattle.decimal.proofs.plain.without_zeros.Given as goal
 
 abbrev pub invariant-loop-zeros : goal.invariant-loop-zeros

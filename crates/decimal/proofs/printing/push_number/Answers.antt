@@ -1,4 +1,4 @@
-use Rattle.std.proofs.Common.{ℕ, List, length, ap, arith}
+use Rattle.decimal.proofs.Common.{ℕ, List, length, ap, arith}
 use Rattle.decimal.proofs.Texts.{decimal_short}
 use Rattle.decimal.proofs.printing.push_number.Goals as goal
 

@@ -1,8 +1,5 @@
-use Rattle.std.proofs.Common.{◌∷◌, [], ◌≡◌, ◌∙◌, ◌++◌, ◌<ℤ◌, ◌≤ℤ◌, ◌⊎◌, ℕ, pos, negsuc, List, ap, sym, refl, arith}
-use Rattle.std.proofs.Common.{unsigned_abs, to_z, of_z, inl, inr}
-use Rattle.std.specs.Int.{w16}
-use Rattle.std.specs.Fmt.{decimal, signed_decimal}
-use Rattle.std.proofs.lemmas.Int.{ints}
+use Rattle.decimal.proofs.Common.{◌∷◌, [], ◌≡◌, ◌∙◌, ◌++◌, ◌<ℤ◌, ◌≤ℤ◌, ◌⊎◌, ℕ, pos, negsuc, List, ap, sym, refl, arith}
+use Rattle.decimal.proofs.Common.{unsigned_abs, to_z, of_z, inl, inr, w16, decimal, signed_decimal, ints}
 use Rattle.std.proofs.lemmas.List.{append_assoc}
 use Rattle.decimal.specs.Printing.{with_point}
 use Rattle.decimal.proofs.Texts.{text_far, text_with_point, text_zeros}

@@ -1,4 +1,4 @@
-use Rattle.std.proofs.Common.{◌≡◌, ◌++◌, replicate}
+use Rattle.decimal.proofs.Common.{◌≡◌, ◌++◌, replicate}
 use Rattle.decimal.proofs.printing.push_zeros.Given as goal
 
 abbrev pub invariant-loop : goal.invariant-loop

@@ -1,9 +1,6 @@
-use Rattle.std.proofs.Common.{◌≡◌, ◌++◌, ◌+◌, ℕ, List, ◌<◌, ◌-◌, ◌^◌, ◌∙◌, ap, sym, subst, arith, length}
-use Rattle.std.specs.List.{suffix_len}
-use Rattle.std.specs.Int.{w16, w128}
-use Rattle.std.proofs.Common.{to_z, of_z, Ok}
+use Rattle.decimal.proofs.Common.{◌≡◌, ◌++◌, ◌+◌, ℕ, List, ◌<◌, ◌-◌, ◌^◌, ◌∙◌, ap, sym, subst, arith, length}
+use Rattle.decimal.proofs.Common.{suffix_len, w16, w128, to_z, of_z, Ok, ints}
 use Rattle.decimal.specs.Reading.{ReadsNumber}
-use Rattle.std.proofs.lemmas.Int.{ints}
 use Rattle.decimal.specs.Number.{Number, IsInRange}
 use Rattle.decimal.specs.Spelling.{digits_of, bytes_of, signed}
 use Rattle.decimal.specs.Cutting.{spelling, is_zero}

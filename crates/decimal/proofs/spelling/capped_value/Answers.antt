@@ -1,4 +1,4 @@
-use Rattle.std.proofs.Common.{arith}
+use Rattle.decimal.proofs.Common.{arith}
 use Rattle.decimal.proofs.DigitLists.{capped_more}
 use Rattle.decimal.specs.Cutting.{greatest_power}
 use Rattle.decimal.proofs.spelling.capped_value.Goals as goal

@@ -1,5 +1,4 @@
-use Rattle.std.proofs.Common.{◌≡◌, min, take}
-use Rattle.std.specs.Str.Parse.{digits_value}
+use Rattle.decimal.proofs.Common.{◌≡◌, min, take, digits_value}
 use Rattle.decimal.specs.Cutting.{greatest_power}
 use Rattle.decimal.proofs.spelling.capped_value.Given as goal
 

@@ -1,5 +1,4 @@
-use Rattle.std.proofs.Common.{drop, arith, inl, inr}
-use Rattle.std.proofs.lemmas.Int.{ints}
+use Rattle.decimal.proofs.Common.{drop, arith, inl, inr, ints}
 use Rattle.decimal.specs.Spelling.{power_of}
 use Rattle.decimal.proofs.Powers.{capped_power_low, capped_power_high, capped_power_or_out}
 use Rattle.decimal.proofs.spelling.exponent_of.Goals as goal

@@ -1,5 +1,4 @@
-use Rattle.std.proofs.Common.{◌≡◌, ◌∙◌, ap, sym, subst, true}
-use Rattle.std.proofs.lemmas.Bool.{both_ways}
+use Rattle.decimal.proofs.Common.{◌≡◌, ◌∙◌, ap, sym, subst, true, both_ways}
 use Rattle.decimal.specs.Spelling.{Spelling, IsNumberToken, is_numeral, is_exponent}
 use Rattle.decimal.specs.Cutting.{spelling}
 use Rattle.decimal.proofs.Tokens.{cut_is_token, token_is_cut}

@@ -1,5 +1,4 @@
-use Rattle.std.proofs.Common.{◌≡◌, map, take}
-use Rattle.serde_json.specs.View.{view}
+use Rattle.rows.proofs.Common.{◌≡◌, map, take, view}
 use Rattle.rows.specs.Fact.{name_of}
 use Rattle.rows.specs.Json.{text_data}
 use Rattle.rows.specs.declared.cell.Column.{Column}

@@ -1,6 +1,6 @@
-use Rattle.std.proofs.Common.{◌∙◌, Some, ap}
+use Rattle.rows.proofs.Common.{◌∙◌, Some, ap, has_float}
 use Rattle.std.proofs.lemmas.Result.{IfOk-weaker}
-use Rattle.serde_json.specs.Written.{compact_text, has_float}
+use Rattle.serde_json.specs.Written.{compact_text}
 use Rattle.rows.proofs.Depth.{table_low}
 use Rattle.rows.proofs.json.compact_json.Goals as goal
 

@@ -1,7 +1,6 @@
-use Rattle.std.proofs.Common.{◌≡◌, ◌∙◌, codes, map, ap, sym}
+use Rattle.rows.proofs.Common.{◌≡◌, ◌∙◌, codes, map, ap, sym, array, put, items_of, view}
 use Rattle.std.proofs.lemmas.Result.{on_ok_weaker}
-use Rattle.serde_json.specs.Data.{array, put}
-use Rattle.serde_json.specs.View.{items_of, members_view, view}
+use Rattle.serde_json.specs.View.{members_view}
 use Rattle.serde_json.specs.declared.value.Value.TheVariants.{Array}
 use Rattle.serde_json.proofs.Views.{view-Array}
 use Rattle.rows.specs.Fact.{fact_of}

@@ -1,5 +1,4 @@
-use Rattle.std.proofs.Common.{◌≡◌, map, take}
-use Rattle.serde_json.specs.View.{view}
+use Rattle.rows.proofs.Common.{◌≡◌, map, take, view}
 use Rattle.rows.specs.Fact.{fact_of}
 use Rattle.rows.specs.Json.{row_data}
 use Rattle.rows.proofs.json.row_values.Given as goal

@@ -1,5 +1,4 @@
-use Rattle.std.proofs.Common.{◌≡◌, map, take}
-use Rattle.serde_json.specs.View.{view}
+use Rattle.rows.proofs.Common.{◌≡◌, map, take, view}
 use Rattle.rows.specs.Json.{run_data}
 use Rattle.rows.proofs.json.run_values.Given as goal
 

@@ -1,5 +1,4 @@
-use Rattle.std.proofs.Common.{◌≤◌, ◌∙◌, ℕ, List, Bor, length, map, ap, sym}
-use Rattle.std.proofs.lemmas.List.{take_all}
+use Rattle.rows.proofs.Common.{◌≤◌, ◌∙◌, ℕ, List, Bor, length, map, ap, sym, take_all}
 use Rattle.rows.specs.Json.{text_data}
 use Rattle.rows.proofs.Pushing.{map_twice}
 use Rattle.rows.proofs.json.text_values.Goals as goal

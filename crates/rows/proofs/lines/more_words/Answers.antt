@@ -1,8 +1,5 @@
-use Rattle.std.proofs.Common.{◌≤◌, ◌++◌, ◌∙◌, ℕ, List, Bor, codes, length, ap, sym}
-use Rattle.std.specs.List.{flat_map}
-use Rattle.std.proofs.lemmas.List.{take_all}
-use Rattle.std.proofs.lemmas.List.Folds.{flat_map-map}
-use Rattle.columns.specs.Word.{word}
+use Rattle.rows.proofs.Common.{◌≤◌, ◌++◌, ◌∙◌, ℕ, List, Bor, codes, length, ap, sym, flat_map, take_all, flat_map-map}
+use Rattle.rows.proofs.Common.{word}
 use Rattle.rows.proofs.lines.more_words.Goals as goal
 
 pub returns : goal.returns

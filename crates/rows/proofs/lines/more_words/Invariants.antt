@@ -1,6 +1,4 @@
-use Rattle.std.proofs.Common.{◌≡◌, ◌++◌, codes, take}
-use Rattle.std.specs.List.{flat_map}
-use Rattle.columns.specs.Word.{word}
+use Rattle.rows.proofs.Common.{◌≡◌, ◌++◌, codes, take, flat_map, word}
 use Rattle.rows.proofs.lines.more_words.Given as goal
 
 abbrev pub invariant-loop-bytes : goal.invariant-loop-bytes

@@ -1,4 +1,4 @@
-use Rattle.std.proofs.Common.{◌≡◌, map, take}
+use Rattle.rows.proofs.Common.{◌≡◌, map, take}
 use Rattle.rows.specs.Lines.{spaced}
 use Rattle.rows.proofs.lines.name_words.Given as goal
 

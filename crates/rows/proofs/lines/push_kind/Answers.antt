@@ -1,7 +1,4 @@
-use Rattle.std.proofs.Common.{◌≡◌, ◌≤◌, ◌++◌, ◌∙◌, ℕ, List, length, map, ap, sym}
-use Rattle.std.specs.List.{flat_map}
-use Rattle.std.proofs.lemmas.List.{take_all}
-use Rattle.std.proofs.lemmas.List.Folds.{flat_map-map}
+use Rattle.rows.proofs.Common.{◌≡◌, ◌≤◌, ◌++◌, ◌∙◌, ℕ, List, length, map, ap, sym, flat_map, take_all, flat_map-map}
 use Rattle.rows.specs.Fact.{Fact, fact_of}
 use Rattle.rows.specs.Lines.{line_text}
 use Rattle.rows.specs.Table.{Kind}

@@ -1,5 +1,4 @@
-use Rattle.std.proofs.Common.{◌≡◌, ◌++◌, map, take}
-use Rattle.std.specs.List.{flat_map}
+use Rattle.rows.proofs.Common.{◌≡◌, ◌++◌, map, take, flat_map}
 use Rattle.rows.specs.Fact.{fact_of}
 use Rattle.rows.specs.Lines.{line_text}
 use Rattle.rows.proofs.lines.push_kind.Given as goal

@@ -1,5 +1,4 @@
-use Rattle.std.proofs.Common.{◌≡◌, ◌++◌, take}
-use Rattle.std.specs.List.{flat_map}
+use Rattle.rows.proofs.Common.{◌≡◌, ◌++◌, take, flat_map}
 use Rattle.rows.specs.Lines.{kind_text, upright_text}
 use Rattle.rows.proofs.lines.table_text.Given as goal
 

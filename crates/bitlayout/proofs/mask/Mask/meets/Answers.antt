@@ -1,5 +1,4 @@
-use Rattle.std.proofs.Common.{refl, arith}
-use Rattle.std.proofs.lemmas.Bool.{iff_false, false≢true}
+use Rattle.bitlayout.proofs.Common.{refl, arith, iff_false, false≢true}
 use Rattle.bitlayout.proofs.Masks.{both_from_word, none_in_word, words_end}
 use Rattle.bitlayout.proofs.mask.Mask.meets.Goals as goal
 

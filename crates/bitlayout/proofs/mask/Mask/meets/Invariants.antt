@@ -1,4 +1,4 @@
-use Rattle.std.proofs.Common.{ℕ, ◌*◌, ◌<◌}
+use Rattle.bitlayout.proofs.Common.{ℕ, ◌*◌, ◌<◌}
 use Rattle.bitlayout.specs.Mask.{Has}
 use Rattle.bitlayout.specs.Words.{positions_of}
 use Rattle.bitlayout.proofs.mask.Mask.meets.Given as goal

@@ -1,4 +1,4 @@
-use Rattle.std.proofs.Common.{inl, inr}
+use Rattle.bitlayout.proofs.Common.{inl, inr}
 use Rattle.bitlayout.specs.Taken.{IsStripOf}
 use Rattle.bitlayout.proofs.mask.Mask.of.Goals as goal
 

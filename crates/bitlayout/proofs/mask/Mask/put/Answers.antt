@@ -1,4 +1,4 @@
-use Rattle.std.proofs.Common.{arith}
+use Rattle.bitlayout.proofs.Common.{arith}
 use Rattle.bitlayout.proofs.Masks.{put_positions, more_are}
 use Rattle.bitlayout.proofs.mask.Mask.put.Goals as goal
 

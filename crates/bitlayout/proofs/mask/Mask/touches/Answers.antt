@@ -1,5 +1,4 @@
-use Rattle.std.proofs.Common.{inl, inr}
-use Rattle.std.proofs.lemmas.Bool.{iff_false}
+use Rattle.bitlayout.proofs.Common.{inl, inr, iff_false}
 use Rattle.bitlayout.proofs.Masks.{touch_low, touch_high, word_from_touch}
 use Rattle.bitlayout.proofs.mask.Mask.touches.Goals as goal
 

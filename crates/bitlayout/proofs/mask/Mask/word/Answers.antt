@@ -1,4 +1,4 @@
-use Rattle.std.proofs.Common.{arith}
+use Rattle.bitlayout.proofs.Common.{arith}
 use Rattle.bitlayout.proofs.Masks.{word_at, none_past, words_end}
 use Rattle.bitlayout.proofs.mask.Mask.word.Goals as goal
 

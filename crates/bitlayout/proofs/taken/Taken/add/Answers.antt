@@ -1,4 +1,4 @@
-use Rattle.std.proofs.Common.{refl, ap, arith, not}
+use Rattle.bitlayout.proofs.Common.{refl, ap, arith, not}
 use Rattle.bitlayout.proofs.Covering.{taken_by_added}
 use Rattle.bitlayout.proofs.taken.Taken.add.Goals as goal
 

@@ -1,4 +1,4 @@
-use Rattle.std.proofs.Common.{refl}
+use Rattle.bitlayout.proofs.Common.{refl}
 use Rattle.bitlayout.proofs.Covering.{taken_by_none}
 use Rattle.bitlayout.proofs.taken.Taken.none.Goals as goal
 

@@ -1,5 +1,4 @@
-use Rattle.std.proofs.Common.{refl, sym, subst}
-use Rattle.std.proofs.lemmas.Bool.{both_ways, false≢true}
+use Rattle.bitlayout.proofs.Common.{refl, sym, subst, both_ways, false≢true}
 use Rattle.bitlayout.specs.Taken.{Collides, is_any, is_everywhere, is_present_at}
 use Rattle.bitlayout.proofs.Covering.{touched, collides_any, any_collides, always_collides, present_covers, not_under}
 use Rattle.bitlayout.proofs.taken.Taken.touches.Goals as goal

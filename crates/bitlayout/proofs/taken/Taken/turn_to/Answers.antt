@@ -1,4 +1,4 @@
-use Rattle.std.proofs.Common.{arith}
+use Rattle.bitlayout.proofs.Common.{arith}
 use Rattle.bitlayout.proofs.Covering.{covers_no_more, taken_turned}
 use Rattle.bitlayout.proofs.taken.Taken.turn_to.Goals as goal
 use Rattle.bitlayout.proofs.taken.Taken.turn_to.Goals.{then-from-self, else-from-self}

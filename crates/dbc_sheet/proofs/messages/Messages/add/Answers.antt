@@ -1,9 +1,6 @@
-use Rattle.std.proofs.Common.{◌∙◌, ◌||◌, true, false, ap, sym, refl, length, nat_le}
-use Rattle.std.specs.List.{insert, remove}
-use Rattle.std.specs.Str.{bytes_eq}
-use Rattle.base.proofs.AscendingLists.{find_put, put_gap}
-use Rattle.dbc_words.specs.Limits.{message_limit}
-use Rattle.dbc_words.specs.Named.{has_name, holds_name}
+use Rattle.dbc_sheet.proofs.Common.{◌∙◌, ◌||◌, true, false, ap, sym, refl, length, nat_le, insert, remove, bytes_eq}
+use Rattle.dbc_sheet.proofs.Common.{put_gap, message_limit, has_name, holds_name}
+use Rattle.base.proofs.AscendingLists.{find_put}
 use Rattle.dbc_words.proofs.NameSets.{added_again, is_new}
 use Rattle.dbc_sheet.specs.Messages.{message_at, message_name, number_of}
 use Rattle.dbc_sheet.proofs.MessageRules.{gap_in, none_refuses, remove_inserted, same_messages, third_refuses}

@@ -1,6 +1,4 @@
-use Rattle.std.proofs.Common.{◌∙◌, ap, sym, subst, Some}
-use Rattle.base.specs.Ascending.{IsGap}
-use Rattle.base.proofs.AscendingLists.{find_at, find_gap}
+use Rattle.dbc_sheet.proofs.Common.{◌∙◌, ap, sym, subst, Some, IsGap, find_at, find_gap}
 use Rattle.dbc_sheet.specs.Messages.{message_at, number_of}
 use Rattle.dbc_sheet.proofs.messages.Messages.find.Goals as goal
 

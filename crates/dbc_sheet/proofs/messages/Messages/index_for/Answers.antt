@@ -1,4 +1,4 @@
-use Rattle.std.proofs.Common.{◌∙◌, ap, arith, length}
+use Rattle.dbc_sheet.proofs.Common.{◌∙◌, ap, arith, length}
 use Rattle.dbc_sheet.proofs.MessageRules.{at_in, not_full, second_refuses}
 use Rattle.dbc_sheet.proofs.messages.Messages.index_for.Goals as goal
 

@@ -1,6 +1,6 @@
-use Rattle.std.proofs.Common.{◌∙◌, ap, sym, refl, Some}
+use Rattle.dbc_sheet.proofs.Common.{◌∙◌, ap, sym, refl, Some, find_at, find_gap, remove_at}
 use Rattle.std.proofs.lemmas.Option.{get_or_from_slice_get}
-use Rattle.base.proofs.AscendingLists.{find_at, find_gap, find_without, remove_at, without_gap}
+use Rattle.base.proofs.AscendingLists.{find_without, without_gap}
 use Rattle.dbc_sheet.specs.Messages.{message_at, number_of, without_number}
 use Rattle.dbc_sheet.proofs.MessageRules.{at_in, gap_in, without_message}
 use Rattle.dbc_sheet.proofs.messages.Messages.remove.Goals as goal

@@ -1,4 +1,5 @@
-use Rattle.std.proofs.Common.{◌≡◌, ap, refl, subst, arith, All, IfSome, Some, slice_get, take}
+use Rattle.dbc_sheet.proofs.Common.{◌≡◌, ap, refl, subst, arith, All, Some, take}
+use Rattle.std.proofs.Common.{IfSome, slice_get}
 use Rattle.std.proofs.lemmas.Option.{slice_get_read}
 use Rattle.bitlayout.specs.Clash.{IsFirstClash}
 use Rattle.dbc_words.specs.declared.fault.About.TheVariants.{Signals}

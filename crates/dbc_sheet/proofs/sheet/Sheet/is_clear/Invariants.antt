@@ -1,4 +1,4 @@
-use Rattle.std.proofs.Common.{All, take}
+use Rattle.dbc_sheet.proofs.Common.{All, take}
 use Rattle.dbc_sheet.specs.Messages.{IsClearMessage}
 use Rattle.dbc_sheet.proofs.sheet.Sheet.is_clear.Given as goal
 

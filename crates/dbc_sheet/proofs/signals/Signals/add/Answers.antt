@@ -1,5 +1,4 @@
-use Rattle.std.proofs.Common.{◌∙◌, ap, sym, refl}
-use Rattle.base.specs.Refusing.{first_refusal}
+use Rattle.dbc_sheet.proofs.Common.{◌∙◌, ap, sym, refl, first_refusal}
 use Rattle.dbc_sheet.specs.Signals.{signal_tests}
 use Rattle.dbc_sheet.proofs.Multiplexors.{known_with}
 use Rattle.dbc_sheet.proofs.signals.Signals.add.Goals as goal

@@ -1,4 +1,4 @@
-use Rattle.std.proofs.Common.{◌≡◌, take}
+use Rattle.dbc_sheet.proofs.Common.{◌≡◌, take}
 use Rattle.dbc_sheet.specs.Signals.{places_of}
 use Rattle.dbc_sheet.proofs.signals.Signals.places.Given as goal
 

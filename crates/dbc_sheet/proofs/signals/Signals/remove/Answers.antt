@@ -1,4 +1,4 @@
-use Rattle.std.proofs.Common.{◌∙◌, ◌&&◌, not, sym, ap}
+use Rattle.dbc_sheet.proofs.Common.{◌∙◌, ◌&&◌, not, sym, ap}
 use Rattle.dbc_sheet.proofs.Multiplexors.{known_still, known_without}
 use Rattle.dbc_sheet.proofs.signals.Signals.remove.Goals as goal
 

@@ -1,4 +1,4 @@
-use Rattle.std.proofs.Common.{rules, refl}
+use Rattle.dbc_sheet.proofs.Common.{rules, refl}
 use Rattle.dbc_sheet.specs.declared.signal.Signal.{Signal}
 use Rattle.dbc_sheet.proofs.Multiplexors.{known_changed}
 use Rattle.dbc_sheet.proofs.signals.Signals.set_spn.Goals as goal

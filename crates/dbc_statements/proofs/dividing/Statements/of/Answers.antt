@@ -1,4 +1,4 @@
-use Rattle.std.proofs.Common.{[], inl, refl, sym}
+use Rattle.dbc_statements.proofs.Common.{[], inl, refl, sym}
 use Rattle.dbc_statements.proofs.dividing.Statements.of.Goals as goal
 
 pub invariant_of-result : goal.invariant_of-result

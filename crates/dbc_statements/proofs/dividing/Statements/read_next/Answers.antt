@@ -1,9 +1,5 @@
-use Rattle.std.proofs.Common.{◌≡◌, ◌∙◌, List, Some, ap, sym}
-use Rattle.std.proofs.lemmas.Result.{err_from_is_err_and}
-use Rattle.dbc_grammar.specs.Parsing.{is_more, statement_at}
-use Rattle.dbc_grammar.specs.Statement.{Statement}
-use Rattle.dbc_grammar.specs.Token.{Token}
-use Rattle.dbc_lex.specs.Token.{token_of}
+use Rattle.dbc_statements.proofs.Common.{◌≡◌, ◌∙◌, List, Some, ap, sym, err_from_is_err_and, is_more, statement_at}
+use Rattle.dbc_statements.proofs.Common.{Statement, Token, token_of}
 use Rattle.dbc_statements.specs.Statement.{statement_of}
 use Rattle.dbc_statements.proofs.OneStatement.{begins_with, left_after, left_reached, none_left, not_there}
 use Rattle.dbc_statements.proofs.dividing.Statements.read_next.Goals as goal

@@ -1,5 +1,4 @@
-use Rattle.std.proofs.Common.{arith}
-use Rattle.dbc_lex.specs.Token.{token_of}
+use Rattle.dbc_statements.proofs.Common.{arith, token_of}
 use Rattle.dbc_statements.proofs.FirstToken.{are_tokens, tokens_are}
 use Rattle.dbc_statements.proofs.tokens.Tokens.of.Goals as goal
 

@@ -1,5 +1,4 @@
-use Rattle.std.proofs.Common.{◌∙◌, ap, drop}
-use Rattle.dbc_lex.specs.Token.{token_of}
+use Rattle.dbc_statements.proofs.Common.{◌∙◌, ap, drop, token_of}
 use Rattle.dbc_statements.proofs.FirstToken.{after_first, are_tokens, tokens_are}
 use Rattle.dbc_statements.proofs.tokens.Tokens.skip.Goals as goal
 

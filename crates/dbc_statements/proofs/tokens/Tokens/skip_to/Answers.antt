@@ -1,8 +1,5 @@
-use Rattle.std.proofs.Common.{◌≡◌, ◌∙◌, [], ◌∷◌, List, true, ap, drop, subst, sym}
+use Rattle.dbc_statements.proofs.Common.{◌≡◌, ◌∙◌, [], ◌∷◌, List, true, ap, drop, subst, sym, starts, Token, token_of}
 use Rattle.dbc_grammar.specs.Fields.{is_mark}
-use Rattle.dbc_grammar.specs.Rules.{starts}
-use Rattle.dbc_grammar.specs.Token.{Token}
-use Rattle.dbc_lex.specs.Token.{token_of}
 use Rattle.dbc_statements.proofs.FirstToken.{after_first, are_tokens, begin_with, tokens_are}
 use Rattle.dbc_statements.proofs.tokens.Tokens.skip_to.Goals as goal
 

@@ -1,4 +1,4 @@
-use Rattle.std.proofs.Common.{◌≡◌, ◌∙◌, false, sym}
+use Rattle.dbc_words.proofs.Common.{◌≡◌, ◌∙◌, false, sym}
 use Rattle.dbc_words.specs.Keyword.{ends_keyword}
 use Rattle.dbc_words.proofs.KeywordEndings.{no_keyword}
 use Rattle.dbc_words.proofs.keyword.Keyword.of.Goals as goal

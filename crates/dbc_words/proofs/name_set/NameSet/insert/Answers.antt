@@ -1,4 +1,4 @@
-use Rattle.std.proofs.Common.{◌∙◌}
+use Rattle.dbc_words.proofs.Common.{◌∙◌}
 use Rattle.dbc_words.specs.Named.{holds_name}
 use Rattle.dbc_words.proofs.NameSets.{with_name}
 use Rattle.dbc_words.proofs.name_set.NameSet.insert.Goals as goal

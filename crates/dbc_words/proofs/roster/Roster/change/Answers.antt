@@ -1,9 +1,6 @@
-use Rattle.std.proofs.Common.{◌∙◌, get_or, set, refl, sym, ap}
+use Rattle.dbc_words.proofs.Common.{◌∙◌, get_or, set, refl, sym, ap, position-Some, position, bytes_eq}
 use Rattle.std.proofs.Math.Seq.{map-set_same}
 use Rattle.std.proofs.lemmas.List.{length-set}
-use Rattle.std.proofs.lemmas.List.Quantifiers.{position-Some}
-use Rattle.std.specs.List.{position}
-use Rattle.std.specs.Str.{bytes_eq}
 use Rattle.dbc_words.specs.Named.{at_named}
 use Rattle.dbc_words.proofs.NamedThings.{changed_at, none_at, none_changed, there_at}
 use Rattle.dbc_words.proofs.Rosters.{renamed_roster}

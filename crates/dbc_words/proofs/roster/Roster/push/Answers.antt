@@ -1,4 +1,4 @@
-use Rattle.std.proofs.Common.{◌∙◌, ap, refl, ◌++◌, ◌∷◌, [], length, nat_le}
+use Rattle.dbc_words.proofs.Common.{◌∙◌, ap, refl, ◌++◌, ◌∷◌, [], length, nat_le}
 use Rattle.dbc_words.specs.Limits.{roster_limit}
 use Rattle.dbc_words.specs.Named.{has_name}
 use Rattle.dbc_words.proofs.Rosters.{grown_roster, indexed_roster}

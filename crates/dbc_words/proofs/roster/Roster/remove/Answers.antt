@@ -1,7 +1,4 @@
-use Rattle.std.proofs.Common.{◌∙◌, Some, sym, ap}
-use Rattle.std.proofs.lemmas.List.Quantifiers.{position-Some}
-use Rattle.std.specs.List.{position}
-use Rattle.std.specs.Str.{bytes_eq}
+use Rattle.dbc_words.proofs.Common.{◌∙◌, Some, sym, ap, position-Some, position, bytes_eq}
 use Rattle.dbc_words.specs.Named.{thing_named, without_named}
 use Rattle.dbc_words.proofs.NamedThings.{all_without, find_none, found_at, none_at, removed_at}
 use Rattle.dbc_words.proofs.Rosters.{shrunk_roster}

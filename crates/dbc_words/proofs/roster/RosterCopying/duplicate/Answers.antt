@@ -1,4 +1,4 @@
-use Rattle.std.proofs.Common.{◌∙◌}
+use Rattle.dbc_words.proofs.Common.{◌∙◌}
 use Rattle.dbc_words.proofs.Rosters.{copied_roster}
 use Rattle.dbc_words.proofs.roster.RosterCopying.duplicate.Goals as goal
 

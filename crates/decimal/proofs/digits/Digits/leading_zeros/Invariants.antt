@@ -1,5 +1,4 @@
-use Rattle.std.proofs.Common.{◌≡◌, ◌+◌, drop}
-use Rattle.std.specs.List.{prefix_len}
+use Rattle.decimal.proofs.Common.{◌≡◌, ◌+◌, drop, prefix_len}
 use Rattle.decimal.specs.Cutting.{is_zero}
 use Rattle.decimal.proofs.digits.Digits.leading_zeros.Given as goal
 

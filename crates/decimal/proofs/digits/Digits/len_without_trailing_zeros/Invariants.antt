@@ -1,5 +1,4 @@
-use Rattle.std.proofs.Common.{◌≡◌, ◌+◌, ◌≤◌, length, take}
-use Rattle.std.specs.List.{suffix_len}
+use Rattle.decimal.proofs.Common.{◌≡◌, ◌+◌, ◌≤◌, length, take, suffix_len}
 use Rattle.decimal.specs.Cutting.{is_zero}
 use Rattle.decimal.proofs.digits.Digits.len_without_trailing_zeros.Given as goal
 

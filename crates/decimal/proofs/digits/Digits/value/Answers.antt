@@ -1,4 +1,4 @@
-use Rattle.std.proofs.Common.{arith, ◌≡◌, ◌+◌, ◌-◌}
+use Rattle.decimal.proofs.Common.{arith, ◌≡◌, ◌+◌, ◌-◌}
 use Rattle.decimal.proofs.DigitLists.{digits_from_more, one_more_digit}
 use Rattle.decimal.proofs.digits.Digits.value.Goals as goal
 

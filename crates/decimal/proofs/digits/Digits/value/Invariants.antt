@@ -1,5 +1,4 @@
-use Rattle.std.proofs.Common.{◌≡◌, ◌-◌, ◌^◌, ◌<◌, take, drop}
-use Rattle.std.specs.Str.Parse.{digits_value}
+use Rattle.decimal.proofs.Common.{◌≡◌, ◌-◌, ◌^◌, ◌<◌, take, drop, digits_value}
 use Rattle.decimal.proofs.digits.Digits.value.Given as goal
 
 abbrev pub invariant-loop-i : goal.invariant-loop-i

@@ -1,7 +1,6 @@
-use Rattle.std.proofs.Common.{◌≡◌, ◌<◌, ◌^◌, ℤ, ◌≤ℤ◌, ◌<ℤ◌, ◌+ℤ◌, ◌-ℤ◌, ◌*ℤ◌, pos, negsuc, arith, refl, unsigned_abs}
-use Rattle.std.proofs.Common.{to_z, of_z}
-use Rattle.std.specs.Int.{Width, w64, w128}
-use Rattle.std.proofs.lemmas.Int.{ints}
+use Rattle.decimal.proofs.Common.{◌≡◌, ◌<◌, ◌^◌, ℤ, ◌≤ℤ◌, ◌<ℤ◌, ◌+ℤ◌, ◌-ℤ◌, ◌*ℤ◌, pos, negsuc, arith, refl}
+use Rattle.decimal.proofs.Common.{unsigned_abs, to_z, of_z, w128, ints}
+use Rattle.std.specs.Int.{Width, w64}
 use Rattle.decimal.specs.Words.{of_words, high_word, low_word}
 use Rattle.decimal.proofs.number.Decimal.new.Goals as goal
 

@@ -1,4 +1,4 @@
-use Rattle.std.proofs.Common.{List, ℕ, subst, sym, Ok, Err}
+use Rattle.decimal.proofs.Common.{List, ℕ, subst, sym, Ok, Err}
 use Rattle.decimal.specs.declared.fault.DecimalFault.TheVariants.{NotNumber}
 use Rattle.decimal.specs.Reading.{ReadsNumber}
 use Rattle.decimal.proofs.Computed.{read_is_reading}

@@ -1,4 +1,4 @@
-use Rattle.std.proofs.Common.{◌≡◌, map, take}
+use Rattle.rows.proofs.Common.{◌≡◌, map, take}
 use Rattle.rows.proofs.cell.Cell.words.Given as goal
 
 abbrev pub invariant-loop-text : goal.invariant-loop-text

@@ -1,14 +1,10 @@
 -- The lines of the reasons of one more message.
-use Rattle.std.proofs.Common.{◌≡◌, ◌+◌, ◌-◌, ◌<◌, ◌≤◌, ℕ, List, [], ◌∷◌, ◌++◌, inl, inr, length, map, take, drop}
-use Rattle.std.proofs.Common.{get_or, sym, ap, ◌∙◌, subst, arith, append_assoc, append-nil, length-append}
-use Rattle.std.specs.List.{enumerate_from, flat_map}
-use Rattle.std.specs.Prelude.{codes}
-use Rattle.std.proofs.lemmas.Grind.{flat_map-append}
-use Rattle.std.proofs.lemmas.List.{at_drop_all, at_drop_more, length-drop, length-map, length-take-le, map-append}
-use Rattle.std.proofs.lemmas.List.{take-append-drop, take-append-le, take_all, take_more}
-use Rattle.bitlayout.specs.declared.place.Place.{Place}
-use Rattle.dbc_sheet.specs.Signals.{places_of}
-use Rattle.dbc_sheet.specs.declared.message.Message.{Message}
+use Rattle.dbc_advice.proofs.Common.{◌≡◌, ◌+◌, ◌-◌, ◌<◌, ◌≤◌, ℕ, List, [], ◌∷◌, ◌++◌, inl, inr, length, map, take, drop}
+use Rattle.dbc_advice.proofs.Common.{get_or, sym, ap, ◌∙◌, subst, arith, append_assoc, append-nil, length-append}
+use Rattle.dbc_advice.proofs.Common.{enumerate_from, flat_map, codes, flat_map-append, at_drop_all, at_drop_more}
+use Rattle.dbc_advice.proofs.Common.{length-map, map-append, take-append-le, take_all, take_more, Place, places_of}
+use Rattle.dbc_advice.proofs.Common.{Message}
+use Rattle.std.proofs.lemmas.List.{length-drop, length-take-le, take-append-drop}
 use Rattle.dbc_advice.specs.Clashes.{AreClashLines, AreCutLines, Clashing, IsClashLine, clashes_of, message_clashes}
 use Rattle.dbc_advice.specs.Limits.{clashes_reported, reasons_reported}
 use Rattle.dbc_advice.specs.Reasons.{AreReasons, reasons_at, reasons_from}

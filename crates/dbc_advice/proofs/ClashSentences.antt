@@ -1,9 +1,7 @@
 -- The sentences of the reasons of one more message.
-use Rattle.std.proofs.Common.{◌≡◌, ◌+◌, ◌-◌, ◌<◌, ◌≤◌, ℕ, List, ◌++◌, length, map, take, get_or, sym, ap, ◌∙◌, arith}
-use Rattle.std.proofs.lemmas.List.{length-map, map-append, take_all}
+use Rattle.dbc_advice.proofs.Common.{◌≡◌, ◌+◌, ◌-◌, ◌<◌, ◌≤◌, ℕ, List, ◌++◌, length, map, take, get_or, sym, ap, ◌∙◌}
+use Rattle.dbc_advice.proofs.Common.{arith, length-map, map-append, take_all, places_of, Message}
 use Rattle.std.proofs.lemmas.Simd.{map-map}
-use Rattle.dbc_sheet.specs.Signals.{places_of}
-use Rattle.dbc_sheet.specs.declared.message.Message.{Message}
 use Rattle.dbc_advice.specs.Clashes.{Clashing, clash_sentence, clashes_of, message_clashes}
 use Rattle.dbc_advice.specs.Limits.{clashes_reported, reasons_reported}
 use Rattle.dbc_advice.specs.Reasons.{AreReasons}

@@ -1,17 +1,16 @@
 -- A clear message has no reason why it isn't clear.
-use Rattle.std.proofs.Common.{◌≡◌, ◌+◌, ◌<◌, ◌&&◌, ℕ, suc, Bool, true, false, not, List, [], ◌∷◌, ◌++◌, Option, Some}
-use Rattle.std.proofs.Common.{None, inl, length, take, get_or, refl, sym, ap, subst, ◌∙◌, arith}
-use Rattle.std.specs.Prelude.{if◌then◌else◌, position}
-use Rattle.std.specs.List.{enumerate_from, flat_map}
-use Rattle.std.proofs.lemmas.List.{at_drop_all}
+use Rattle.dbc_advice.proofs.Common.{◌≡◌, ◌+◌, ◌<◌, ◌&&◌, ℕ, Bool, true, false, not, List, [], ◌∷◌, ◌++◌, Option, Some}
+use Rattle.dbc_advice.proofs.Common.{None, inl, length, take, get_or, refl, sym, ap, subst, ◌∙◌, arith, if◌then◌else◌}
+use Rattle.dbc_advice.proofs.Common.{enumerate_from, flat_map, at_drop_all, first_clash_of, Place}
+use Rattle.std.proofs.Common.{suc}
+use Rattle.std.specs.Prelude.{position}
 use Rattle.std.proofs.lemmas.Option.{slice_get-get_or}
 use Rattle.bitlayout.proofs.Faults.{at_position, chosen, clash_at_place}
 use Rattle.bitlayout.proofs.Search.{none_before}
 use Rattle.bitlayout.specs.Bits.{is_inside}
-use Rattle.bitlayout.specs.Clash.{clash_after, clash_at, collide, first_clash_of, has_multiplexor}
+use Rattle.bitlayout.specs.Clash.{clash_after, clash_at, collide, has_multiplexor}
 use Rattle.bitlayout.specs.Mux.{is_multiplexor, is_under}
 use Rattle.bitlayout.specs.declared.clash.Clash.TheVariants.{NoMultiplexor, Outside, Overlap}
-use Rattle.bitlayout.specs.declared.place.Place.{Place}
 use Rattle.dbc_advice.specs.Reasons.{AreReasons, first_outside, first_shared, outside_reason, overlap_reason}
 use Rattle.dbc_advice.specs.Reasons.{overlap_reasons, reasons_at, reasons_from, unmultiplexed_reason}
 

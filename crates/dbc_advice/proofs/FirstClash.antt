@@ -1,10 +1,6 @@
 -- The first reason why a message isn't clear.
-use Rattle.std.proofs.Common.{◌≡◌, ◌+◌, ◌<◌, ◌≤◌, ℕ, List, [], ◌∷◌, ◌++◌, Some, None, length, map, take, drop, get_or}
-use Rattle.std.proofs.Common.{refl, sym, ap, subst, ◌∙◌, arith}
-use Rattle.std.specs.Prelude.{slice_get}
-use Rattle.std.proofs.lemmas.List.{take_all}
-use Rattle.dbc_sheet.specs.Signals.{places_of}
-use Rattle.dbc_sheet.specs.declared.message.Message.{Message}
+use Rattle.dbc_advice.proofs.Common.{◌≡◌, ◌+◌, ◌<◌, ◌≤◌, ℕ, List, [], ◌∷◌, ◌++◌, Some, None, length, map, take, drop}
+use Rattle.dbc_advice.proofs.Common.{get_or, sym, ap, subst, ◌∙◌, arith, slice_get, take_all, places_of, Message}
 use Rattle.dbc_advice.specs.Clashes.{Clashing, clashes_of, message_clashes}
 use Rattle.dbc_advice.specs.First.{IsFirstClash, IsStatedClash}
 use Rattle.dbc_advice.specs.Reasons.{AreReasons, reasons_from}

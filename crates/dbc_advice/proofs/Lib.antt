@@ -1,3 +1,4 @@
+pub mod Common
 pub mod ReportedMore
 pub mod ReportedLines
 pub mod ClashLines

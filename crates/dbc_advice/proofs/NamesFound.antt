@@ -1,28 +1,24 @@
 -- What a look-up of a name finds.
-use Rattle.std.proofs.Common.{◌≡◌, ◌==◌, ◌<◌, ◌&&◌, ◌||◌, ◌∙◌, ℕ, Bool, true, false, List, [], ◌∷◌, length, get_or, map}
-use Rattle.std.proofs.Common.{nat_eq, Bor, inl, inr, refl, sym, ap, arith}
+use Rattle.dbc_advice.proofs.Common.{◌≡◌, ◌<◌, ◌&&◌, ◌||◌, ◌∙◌, ℕ, Bool, true, false, List, [], ◌∷◌, length, get_or}
+use Rattle.dbc_advice.proofs.Common.{map, inl, inr, refl, sym, ap, arith, flat_map, list_any, bytes_eq, nat_tests}
+use Rattle.dbc_advice.proofs.Common.{list_any-append, number_of, node_name, Message, Signal, key_of, text_of}
+use Rattle.std.proofs.Common.{◌==◌, nat_eq, Bor}
 use Rattle.std.specs.Prelude.{find}
 use Rattle.std.specs.Cmp.{IsTotalOrder}
-use Rattle.std.specs.List.{All, AllByRecursion, HoldsAt, flat_map, list_any}
+use Rattle.std.specs.List.{All, AllByRecursion, HoldsAt}
 use Rattle.std.specs.List.Sorted.{IsNonDecreasingBy, IsPartitionPoint, IsStrictlySortedBy}
 use Rattle.std.specs.Option.{option_map_or}
-use Rattle.std.specs.Str.{bytes_eq}
 use Rattle.std.specs.Ordering.{eq_by_cmp, is_eq, nat_cmp, on, ordering_index}
 use Rattle.std.specs.declared.cmp.Ordering.{Ordering}
 use Rattle.std.specs.declared.cmp.Ordering.TheVariants.{Less, Equal, Greater}
 use Rattle.std.proofs.lemmas.Bool.{cases_lt}
-use Rattle.std.proofs.lemmas.Bool.Decides.{nat_tests}
 use Rattle.std.proofs.lemmas.Cmp.{ranked}
-use Rattle.std.proofs.lemmas.List.Folds.{list_any-append, list_any_at, list_any_none}
+use Rattle.std.proofs.lemmas.List.Folds.{list_any_at, list_any_none}
 use Rattle.std.proofs.lemmas.List.Sorted.{list_any-IsPermutation, searchable_from_sorted}
 use Rattle.dbc_words.specs.Named.{has_name}
-use Rattle.dbc_sheet.specs.Messages.{by_number, message_at, number_of}
-use Rattle.dbc_sheet.specs.Sheet.{node_name}
+use Rattle.dbc_sheet.specs.Messages.{by_number, message_at}
 use Rattle.dbc_sheet.specs.Signals.{signal_name}
-use Rattle.dbc_sheet.specs.declared.message.Message.{Message}
 use Rattle.dbc_sheet.specs.declared.node.Node.{Node}
-use Rattle.dbc_sheet.specs.declared.signal.Signal.{Signal}
-use Rattle.dbc_read.specs.Keys.{key_of, text_of}
 use Rattle.dbc_advice.specs.Names.{IsSetOf, keys_of}
 use Rattle.dbc_advice.specs.declared.key_set.KeySet.{KeySet}
 

@@ -1,13 +1,10 @@
 -- One more skipped statement, reported by itself or left.
-use Rattle.std.proofs.Common.{◌≡◌, ◌+◌, ◌<◌, ◌≤◌, ℕ, Bool, true, false, List, [], ◌∷◌, ◌++◌, Option, Some, None, length}
-use Rattle.std.proofs.Common.{take, get_or, refl, sym, ap, subst, ◌∙◌, arith, append-nil, length-append}
-use Rattle.std.specs.Prelude.{nat_lt, if◌then◌else◌}
-use Rattle.std.specs.List.{flat_map}
-use Rattle.std.proofs.lemmas.Bool.Decides.{nat_tests}
-use Rattle.std.proofs.lemmas.Grind.{flat_map-append}
-use Rattle.std.proofs.lemmas.List.{take-append-le, take_all, take_more}
+use Rattle.dbc_advice.proofs.Common.{◌≡◌, ◌+◌, ◌<◌, ◌≤◌, ℕ, Bool, true, false, List, [], ◌∷◌, ◌++◌, Option, Some, None}
+use Rattle.dbc_advice.proofs.Common.{length, take, get_or, refl, sym, ap, subst, ◌∙◌, arith, append-nil, length-append}
+use Rattle.dbc_advice.proofs.Common.{if◌then◌else◌, flat_map, nat_tests, flat_map-append, take-append-le, take_all}
+use Rattle.dbc_advice.proofs.Common.{take_more, Passed}
+use Rattle.std.specs.Prelude.{nat_lt}
 use Rattle.dbc_sheet.specs.declared.sheet.Sheet.{Sheet}
-use Rattle.dbc_read.specs.declared.passed.Passed.{Passed}
 use Rattle.dbc_advice.specs.Citation.{Cited}
 use Rattle.dbc_advice.specs.LeftOut.{Missing, all_missing, all_others, line_after, missing_at, missing_line}
 use Rattle.dbc_advice.specs.LeftOut.{missing_lines, with_missing, without_missing}

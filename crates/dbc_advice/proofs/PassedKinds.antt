@@ -1,15 +1,10 @@
 -- The lines of the kinds of skipped statements, after one more statement.
-use Rattle.std.proofs.Common.{◌≡◌, ◌+◌, ◌<◌, ◌||◌, ℕ, Bool, true, false, List, [], ◌∷◌, ◌++◌, length, take, get_or}
-use Rattle.std.proofs.Common.{refl, sym, ap, ◌∙◌, append_assoc}
-use Rattle.std.specs.Prelude.{if◌then◌else◌}
-use Rattle.std.specs.List.{enumerate_from, flat_map, list_any}
-use Rattle.std.specs.Str.{bytes_eq}
-use Rattle.std.proofs.lemmas.List.{at_drop_more}
-use Rattle.std.proofs.lemmas.List.Folds.{list_any-append, list_any_more}
-use Rattle.std.proofs.lemmas.Slice.Eq.{bytes_eq-Decides}
+use Rattle.dbc_advice.proofs.Common.{◌≡◌, ◌+◌, ◌<◌, ◌||◌, ℕ, Bool, true, false, List, [], ◌∷◌, ◌++◌, length, take}
+use Rattle.dbc_advice.proofs.Common.{get_or, refl, sym, ap, ◌∙◌, append_assoc, if◌then◌else◌, enumerate_from, flat_map}
+use Rattle.dbc_advice.proofs.Common.{list_any, bytes_eq, at_drop_more, list_any-append, bytes_eq-Decides, Passed}
+use Rattle.std.proofs.lemmas.List.Folds.{list_any_more}
 use Rattle.dbc_words.specs.Keyword.{keyword_text}
 use Rattle.dbc_words.specs.declared.keyword.Keyword.{Keyword}
-use Rattle.dbc_read.specs.declared.passed.Passed.{Passed}
 use Rattle.dbc_advice.specs.LeftOut.{count_text, has_keyword, kind_count, kind_text, kinds_text, passed_line}
 
 -- these have the keywords of the statements up to an index

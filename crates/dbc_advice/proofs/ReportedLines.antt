@@ -1,8 +1,6 @@
 -- Lines of things, one more after the other.
-use Rattle.std.proofs.Common.{◌≡◌, ◌+◌, ◌<◌, ◌≤◌, ℕ, List, [], ◌∷◌, ◌++◌, length, map, take, get_or, refl, sym, ap, ◌∙◌}
-use Rattle.std.proofs.Common.{subst, arith, append_assoc, append-nil}
-use Rattle.std.proofs.lemmas.Bool.Decides.{nat_tests}
-use Rattle.std.proofs.lemmas.List.{take_more}
+use Rattle.dbc_advice.proofs.Common.{◌≡◌, ◌+◌, ◌<◌, ◌≤◌, ℕ, List, [], ◌∷◌, ◌++◌, length, map, take, get_or, refl, sym}
+use Rattle.dbc_advice.proofs.Common.{ap, ◌∙◌, subst, arith, append_assoc, append-nil, nat_tests, take_more}
 use Rattle.dbc_advice.specs.ReportedLine.{AreLinesOf, more_line, more_text}
 
 module _ {A : Type 0} (Is : A → List ℕ → Type 0) where

@@ -1,8 +1,6 @@
 -- One more fault that is reported.
-use Rattle.std.proofs.Common.{◌≡◌, ◌+◌, ℕ, List, [], ◌∷◌, ◌++◌, length, true, refl, sym, ap, ◌∙◌, subst, arith}
-use Rattle.std.proofs.Common.{length-append}
-use Rattle.std.specs.Str.{bytes_eq}
-use Rattle.std.proofs.lemmas.Slice.Eq.{bytes_eq-Decides}
+use Rattle.dbc_advice.proofs.Common.{◌≡◌, ◌+◌, ℕ, List, [], ◌∷◌, ◌++◌, length, true, refl, sym, ap, ◌∙◌, subst, arith}
+use Rattle.dbc_advice.proofs.Common.{length-append, bytes_eq, bytes_eq-Decides}
 use Rattle.dbc_advice.specs.Blanked.{blanked}
 use Rattle.dbc_advice.specs.Findings.{AreReported, IsBlankUpTo, IsNext, IsReported, IsUnchanged, without}
 use Rattle.dbc_advice.specs.declared.findings.Next.{Next}

@@ -1,8 +1,7 @@
 -- Worked examples of the definitions.
-use Rattle.std.proofs.Common.{◌≡◌, [], ◌∷◌, ◌++◌, Some, refl}
+use Rattle.dbc_advice.proofs.Common.{◌≡◌, [], ◌∷◌, ◌++◌, Some, refl, codes}
 use Rattle.std.specs.Char.{encode_utf8}
 use Rattle.std.specs.Fmt.{digits}
-use Rattle.std.specs.Prelude.{codes}
 use Rattle.std.specs.Str.{chars}
 use Rattle.dbc_words.specs.declared.keyword.Keyword.TheVariants as key
 use Rattle.dbc_lex.specs.declared.fault.ReadCode.TheVariants as code

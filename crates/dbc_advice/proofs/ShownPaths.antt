@@ -1,10 +1,10 @@
 -- What is shown of a path has no control character, and is the path where that has none.
-use Rattle.std.proofs.Common.{◌≡◌, ◌<◌, ℕ, ◌/◌, ◌%◌, Bool, true, false, List, [], ◌∷◌, ◌++◌, refl, sym, ap, ◌∙◌, arith}
-use Rattle.std.proofs.Common.{chars, encode_utf8_all, if◌then◌else◌}
-use Rattle.std.proofs.lemmas.Bool.Decides.{nat_tests}
+use Rattle.dbc_advice.proofs.Common.{◌≡◌, ◌<◌, ℕ, Bool, true, false, List, [], ◌∷◌, ◌++◌, refl, sym, ap, ◌∙◌, arith}
+use Rattle.dbc_advice.proofs.Common.{encode_utf8_all, nat_tests, is_control, NoCharPasses}
+use Rattle.std.proofs.Common.{◌/◌, ◌%◌, chars, if◌then◌else◌}
 use Rattle.std.proofs.lemmas.Str.{chars_from_encodes}
-use Rattle.std.specs.Char.{digit_char, is_control}
-use Rattle.std.specs.Str.{IsUtf8, NoCharPasses, NonePass}
+use Rattle.std.specs.Char.{digit_char}
+use Rattle.std.specs.Str.{IsUtf8, NonePass}
 use Rattle.dbc_advice.specs.ShownPath.{escaped, shown_character, shown_characters, shown_path}
 
 none_append : (xs ys : List ℕ) → NonePass is_control xs → NonePass is_control ys → NonePass is_control (xs ++ ys)

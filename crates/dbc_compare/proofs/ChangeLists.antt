@@ -1,7 +1,7 @@
 -- The changes of fields: none of equal things, of unequal ones some, and the other way round the opposite ones.
-use Rattle.std.proofs.Common.{◌≡◌, ◌++◌, ◌⊎◌, ◌∙◌, Bool, true, false, cond, List, [], ◌∷◌, inl, inr, refl, sym, ap}
-use Rattle.std.proofs.Common.{subst}
-use Rattle.std.proofs.lemmas.Bool.{cases_Bool, cond-false, cond-true}
+use Rattle.dbc_compare.proofs.Common.{◌≡◌, ◌++◌, ◌⊎◌, ◌∙◌, Bool, true, false, List, [], ◌∷◌, inl, inr, refl, ap, subst}
+use Rattle.dbc_compare.proofs.Common.{cond-true}
+use Rattle.std.proofs.Common.{cond}
 use Rattle.dbc_compare.specs.Differences.{changes_between, field_changes}
 use Rattle.dbc_compare.specs.Fields.{Valued}
 use Rattle.dbc_compare.specs.Laws.{swapped_change}

@@ -1,27 +1,22 @@
 -- A thing is equal to another where none of its fields has changed.
-use Rattle.std.proofs.Common.{◌≡◌, ◌<◌, ◌≤◌, ◌++◌, ◌^◌, ◌∙◌, ℕ, Bool, true, false, List, [], ◌∷◌, get_or, Option, Some}
-use Rattle.std.proofs.Common.{None, refl, ap, arith}
+use Rattle.dbc_compare.proofs.Common.{◌≡◌, ℕ, Bool, true, false, List, [], get_or, Option, Some, None, refl, ap, arith}
+use Rattle.dbc_compare.proofs.Common.{Intel, Motorola, Always, Under, Integer, Float, Message, Node, Signal, ValueTable}
 use Rattle.std.specs.Fmt.{decimal}
 use Rattle.std.proofs.lemmas.Fmt.{decimal_injective}
 use Rattle.bitlayout.specs.Mux.{indicator_of}
 use Rattle.bitlayout.specs.declared.layout.Order.{Order}
-use Rattle.bitlayout.specs.declared.layout.Order.TheVariants.{Intel, Motorola}
 use Rattle.bitlayout.specs.declared.place.Mux.{Mux}
-use Rattle.bitlayout.specs.declared.place.Mux.TheVariants.{Always, Multiplexor, Under}
+use Rattle.bitlayout.specs.declared.place.Mux.TheVariants.{Multiplexor}
 use Rattle.bitlayout.specs.Order.{order_word}
 use Rattle.can_id.specs.Ident.{IsIdentifier, dbc_number}
 use Rattle.can_id.specs.declared.ident.Ident.{Ident}
 use Rattle.can_id.specs.declared.ident.Ident.TheVariants as id
 use Rattle.dbc_words.specs.declared.value_type.ValueType.{ValueType}
-use Rattle.dbc_words.specs.declared.value_type.ValueType.TheVariants.{Integer, Float, Double}
+use Rattle.dbc_words.specs.declared.value_type.ValueType.TheVariants.{Double}
 use Rattle.dbc_sheet.specs.Form.{IsMux}
-use Rattle.dbc_sheet.specs.declared.message.Message.{Message}
-use Rattle.dbc_sheet.specs.declared.node.Node.{Node}
-use Rattle.dbc_sheet.specs.declared.signal.Signal.{Signal}
-use Rattle.dbc_sheet.specs.declared.value_table.ValueTable.{ValueTable}
 use Rattle.dbc_compare.specs.Differences.{changes_between}
-use Rattle.dbc_compare.specs.Fields.{message_fields, names_of, node_fields, signal_fields, table_fields}
-use Rattle.dbc_compare.specs.Fields.{truth_word, type_word}
+use Rattle.dbc_compare.specs.Fields.{message_fields, names_of, node_fields, signal_fields, table_fields, truth_word}
+use Rattle.dbc_compare.specs.Fields.{type_word}
 use Rattle.dbc_compare.specs.Value.{Whole, Word, WholeOrNone, Dec, Names, Texts}
 use Rattle.dbc_compare.proofs.ChangeLists.{list_told}
 

@@ -1,12 +1,13 @@
 -- What is in a list, and in lists that are made of others.
-use Rattle.std.proofs.Common.{◌≡◌, ◌<◌, ◌+◌, ◌++◌, ◌⊎◌, ◌∙◌, Bool, true, false, cond, ℕ, zero, suc, List, [], ◌∷◌}
-use Rattle.std.proofs.Common.{length, get_or, take, drop, map, Option, Some, None, inl, inr, refl, sym, ap, subst}
-use Rattle.std.proofs.Common.{Contains, arith}
-use Rattle.std.specs.List.{All, AllByRecursion, IsDistinct, filter, find, flat_map, list_any}
-use Rattle.std.proofs.lemmas.Bool.{both_ways, cases_Bool, cond-false, cond-true, or_left, or_parts, or_right}
+use Rattle.dbc_compare.proofs.Common.{◌≡◌, ◌<◌, ◌+◌, ◌++◌, ◌⊎◌, ◌∙◌, Bool, true, false, ℕ, suc, List, [], ◌∷◌, get_or}
+use Rattle.dbc_compare.proofs.Common.{take, drop, map, Some, None, inl, inr, refl, sym, ap, subst, arith}
+use Rattle.dbc_compare.proofs.Common.{AllByRecursion, flat_map, both_ways, cond-true, some_same}
+use Rattle.std.proofs.Common.{zero, length, Contains}
+use Rattle.std.specs.List.{All, IsDistinct, filter, find, list_any}
+use Rattle.std.proofs.lemmas.Bool.{cases_Bool, cond-false, or_left, or_parts, or_right}
 use Rattle.std.proofs.lemmas.List.{take-append-drop}
 use Rattle.std.proofs.lemmas.List.Elements.{recursion_from_All}
-use Rattle.dbc_words.proofs.NamedThings.{some_none, some_same}
+use Rattle.dbc_words.proofs.NamedThings.{some_none}
 
 pub In : {A : Type 0} → A → List A → Type 0
 In x [] = ⊥

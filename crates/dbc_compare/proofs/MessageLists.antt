@@ -1,15 +1,11 @@
 -- The differences of messages.
-use Rattle.std.proofs.Common.{◌≡◌, ◌++◌, ◌⊎◌, ◌∙◌, ℕ, List, [], ◌∷◌, take, drop, Option, Some, None, inl, inr, refl}
-use Rattle.std.proofs.Common.{sym, ap, subst}
-use Rattle.std.specs.List.{flat_map}
+use Rattle.dbc_compare.proofs.Common.{◌≡◌, ◌++◌, ◌⊎◌, ◌∙◌, List, [], ◌∷◌, take, drop, Option, Some, None, inl, inr}
+use Rattle.dbc_compare.proofs.Common.{refl, sym, ap, subst, flat_map, AreMessages, number_of, Message, Signal, partner}
+use Rattle.dbc_compare.proofs.Common.{some_same}
 use Rattle.dbc_sheet.specs.Form.{KeepsMessage, IsSignal}
-use Rattle.dbc_sheet.specs.Messages.{AreMessages, number_of}
 use Rattle.dbc_sheet.specs.Signals.{signal_name}
-use Rattle.dbc_sheet.specs.declared.message.Message.{Message}
-use Rattle.dbc_sheet.specs.declared.signal.Signal.{Signal}
-use Rattle.dbc_sheet.specs.Pairs.{partner}
 use Rattle.dbc_compare.specs.Differences.{below, between, by_numbers, changes_between, differences_about, gone_message}
-use Rattle.dbc_compare.specs.Differences.{message_differences, pair_differences, shown_message, thing_differences}
+use Rattle.dbc_compare.specs.Differences.{message_differences, pair_differences, shown_message}
 use Rattle.dbc_compare.specs.Fields.{message_fields, signal_fields}
 use Rattle.dbc_compare.specs.Laws.{swapped, swapped_change}
 use Rattle.dbc_compare.specs.declared.difference.Change.{Change}
@@ -22,7 +18,6 @@ use Rattle.dbc_compare.proofs.Members.{in_first, in_flat, in_later, in_left, in_
 use Rattle.dbc_compare.proofs.PartnersBack.{one_list, partner_back, partner_in, partner_self}
 use Rattle.dbc_compare.proofs.ThingLists.{about_empty, about_swapped, about_told, joined_empty, things_same}
 use Rattle.dbc_compare.proofs.ThingLists.{things_swapped, things_told}
-use Rattle.dbc_words.proofs.NamedThings.{some_same}
 
 -- ---- what is among the messages by number
 

@@ -1,8 +1,6 @@
 -- One message more of a walk over the new sheet.
-use Rattle.std.proofs.Common.{◌≡◌, ◌++◌, ◌∙◌, ℕ, List, ◌∷◌, take, drop, sym, ap, append_assoc}
-use Rattle.std.specs.List.{flat_map}
-use Rattle.dbc_sheet.specs.Messages.{number_of}
-use Rattle.dbc_sheet.specs.declared.message.Message.{Message}
+use Rattle.dbc_compare.proofs.Common.{◌≡◌, ◌++◌, ◌∙◌, ℕ, List, ◌∷◌, take, drop, sym, ap, flat_map, number_of, Message}
+use Rattle.std.proofs.Common.{append_assoc}
 use Rattle.dbc_compare.specs.Differences.{below, by_numbers}
 use Rattle.dbc_compare.specs.declared.difference.Difference.{Difference}
 

@@ -1,11 +1,11 @@
 -- A list of differences says that there are none exactly where there are none.
-use Rattle.std.proofs.Common.{◌≡◌, ◌∷◌, [], Bool, true, false, List, map, refl, sym, true≢false, ◌∙◌}
+use Rattle.dbc_compare.proofs.Common.{◌≡◌, ◌∷◌, [], Bool, true, false, List, map, refl, sym, ◌∙◌, Sheet}
+use Rattle.std.proofs.Common.{true≢false}
 use Rattle.std.specs.Prelude.{IsTrue, ◌↔◌}
 use Rattle.std.specs.Str.{chars, is_utf8}
 use Rattle.std.specs.Str.Lossy.{utf8_error_len, utf8_lossy, utf8_valid_len}
 use Rattle.dbc_sheet.specs.Pairs.{counts_of}
 use Rattle.dbc_sheet.specs.declared.counts.Counts.{Counts}
-use Rattle.dbc_sheet.specs.declared.sheet.Sheet.{Sheet}
 use Rattle.dbc_compare.specs.Differences.{differences}
 use Rattle.dbc_compare.specs.Laws.{ListTellsApart, TellsApart}
 use Rattle.dbc_compare.specs.List.{breaks, change_fact, difference_row, differences_table, has_no_difference, ident_at}

@@ -1,19 +1,13 @@
 -- The partner of a message: it is in the other sheet, and has the message as its own partner.
-use Rattle.std.proofs.Common.{◌≡◌, ◌==◌, ◌<◌, ◌⊎◌, ◌∙◌, ◌&&◌, Bool, true, false, not, ℕ, List, [], ◌∷◌, Option, Some}
-use Rattle.std.proofs.Common.{None, inl, inr, refl, sym, ap, arith}
-use Rattle.std.specs.List.{AllByRecursion, list_any}
+use Rattle.dbc_compare.proofs.Common.{◌≡◌, ◌==◌, ◌<◌, ◌⊎◌, ◌∙◌, true, not, ℕ, List, [], ◌∷◌, Option, Some, None, inl}
+use Rattle.dbc_compare.proofs.Common.{inr, refl, sym, ap, arith, AllByRecursion, bytes_eq, bytes_eq-Decides, none_found}
+use Rattle.dbc_compare.proofs.Common.{bytes_eq-flip, AreMessages, number_of, Message, partner}
 use Rattle.std.specs.List.Sorted.{IsStrictlySortedBy}
-use Rattle.std.specs.Ordering.{nat_cmp, on}
-use Rattle.std.specs.Str.{bytes_eq}
 use Rattle.std.specs.declared.cmp.Ordering.TheVariants.{Less}
 use Rattle.std.proofs.lemmas.Bool.{and_from, and_parts, eq-eqb, eqb-true, not_from_false, not-true}
 use Rattle.std.proofs.lemmas.Cmp.{ranked}
-use Rattle.std.proofs.lemmas.Slice.Eq.{bytes_eq-Decides}
-use Rattle.dbc_words.proofs.NamedThings.{none_found}
-use Rattle.dbc_words.proofs.Naming.{bytes_eq-flip}
-use Rattle.dbc_sheet.specs.Messages.{AreMessages, by_number, has_number, message_at, message_name, number_of}
-use Rattle.dbc_sheet.specs.declared.message.Message.{Message}
-use Rattle.dbc_sheet.specs.Pairs.{is_renumbered, partner, renumbered}
+use Rattle.dbc_sheet.specs.Messages.{by_number, has_number, message_at}
+use Rattle.dbc_sheet.specs.Pairs.{is_renumbered, renumbered}
 use Rattle.dbc_compare.proofs.Members.{In, each_in, find_none, find_only, found_in, in_cons, in_first, in_later}
 use Rattle.dbc_compare.proofs.Members.{none_if_empty, one_alone}
 

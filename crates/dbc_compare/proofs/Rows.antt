@@ -1,20 +1,13 @@
 -- Comparisons of small sheets, computed.
-use Rattle.std.proofs.Common.{◌≡◌, ℕ, List, [], ◌∷◌, ◌++◌, None, Some, codes, refl, true, false}
+use Rattle.dbc_compare.proofs.Common.{◌≡◌, ℕ, List, [], ◌∷◌, ◌++◌, None, Some, refl, true, false, Intel, Motorola}
+use Rattle.dbc_compare.proofs.Common.{Always, Under, Number, Message, Node, Sheet, Signal, ValueTable, ValueText}
+use Rattle.dbc_compare.proofs.Common.{Integer, Float}
+use Rattle.std.proofs.Common.{codes}
 use Rattle.std.specs.Prelude.{pos, negsuc}
 use Rattle.std.specs.Fmt.{digits}
-use Rattle.bitlayout.specs.declared.layout.Order.TheVariants.{Intel, Motorola}
-use Rattle.bitlayout.specs.declared.place.Mux.TheVariants.{Always, Under}
 use Rattle.can_id.specs.declared.ident.Ident.TheVariants.{Std, Ext}
-use Rattle.decimal.specs.Number.{Number}
 use Rattle.decimal.specs.Printing.{unsigned_text}
 use Rattle.dbc_sheet.specs.Sheet.{empty_sheet}
-use Rattle.dbc_sheet.specs.declared.message.Message.{Message}
-use Rattle.dbc_sheet.specs.declared.node.Node.{Node}
-use Rattle.dbc_sheet.specs.declared.sheet.Sheet.{Sheet}
-use Rattle.dbc_sheet.specs.declared.signal.Signal.{Signal}
-use Rattle.dbc_sheet.specs.declared.value_table.ValueTable.{ValueTable}
-use Rattle.dbc_sheet.specs.declared.value_texts.ValueText.{ValueText}
-use Rattle.dbc_words.specs.declared.value_type.ValueType.TheVariants.{Integer, Float}
 use Rattle.dbc_compare.specs.Differences.{differences_about, field_changes, pair_differences, thing_differences}
 use Rattle.dbc_compare.specs.List.{compare_text}
 

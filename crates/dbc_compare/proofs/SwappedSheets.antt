@@ -1,12 +1,7 @@
 -- Each difference has its opposite the other way round.
-use Rattle.std.proofs.Common.{◌≡◌, ◌++◌, List, [], ◌∷◌, None, inl, inr, refl, subst}
-use Rattle.dbc_sheet.specs.Form.{IsSheet}
-use Rattle.dbc_sheet.specs.Sheet.{node_name, table_name}
-use Rattle.dbc_sheet.specs.declared.node.Node.{Node}
-use Rattle.dbc_sheet.specs.declared.sheet.Sheet.{Sheet}
-use Rattle.dbc_sheet.specs.declared.value_table.ValueTable.{ValueTable}
-use Rattle.dbc_compare.specs.Differences.{changes_between, differences, message_differences, sheet_differences}
-use Rattle.dbc_compare.specs.Differences.{thing_differences}
+use Rattle.dbc_compare.proofs.Common.{◌≡◌, None, inl, inr, refl, subst, IsSheet, node_name, table_name, Node, Sheet}
+use Rattle.dbc_compare.proofs.Common.{ValueTable}
+use Rattle.dbc_compare.specs.Differences.{changes_between, differences, sheet_differences, thing_differences}
 use Rattle.dbc_compare.specs.Fields.{node_fields, sheet_fields, table_fields}
 use Rattle.dbc_compare.specs.Laws.{IsSwapped, swapped, swapped_change, swapped_place}
 use Rattle.dbc_compare.specs.declared.difference.Change.{Change}
@@ -14,7 +9,7 @@ use Rattle.dbc_compare.specs.declared.difference.Change.TheVariants as change
 use Rattle.dbc_compare.specs.declared.difference.Difference.{Difference}
 use Rattle.dbc_compare.specs.declared.place.Place.{Place}
 use Rattle.dbc_compare.specs.declared.place.Place.TheVariants as place
-use Rattle.dbc_compare.proofs.ChangeLists.{AreAligned, list_swapped}
+use Rattle.dbc_compare.proofs.ChangeLists.{list_swapped}
 use Rattle.dbc_compare.proofs.Members.{In, in_either, in_from, in_left, in_right, in_to}
 use Rattle.dbc_compare.proofs.MessageLists.{messages_swapped}
 use Rattle.dbc_compare.proofs.ThingLists.{about_swapped, things_swapped}

@@ -1,12 +1,8 @@
 -- The differences of things that are known by name.
-use Rattle.std.proofs.Common.{◌≡◌, ◌++◌, ◌⊎◌, ◌∙◌, Bool, true, false, not, ℕ, List, [], ◌∷◌, map, Option, Some, None}
-use Rattle.std.proofs.Common.{inl, inr, refl, sym, ap, subst}
-use Rattle.std.specs.List.{flat_map, list_any}
-use Rattle.std.specs.Str.{bytes_eq}
-use Rattle.std.proofs.lemmas.Slice.Eq.{bytes_eq-Decides}
-use Rattle.dbc_words.specs.Named.{AreNamedApart, has_name, thing_named}
-use Rattle.dbc_words.proofs.NamedThings.{none_found, some_same}
-use Rattle.dbc_words.proofs.Naming.{bytes_eq-flip}
+use Rattle.dbc_compare.proofs.Common.{◌≡◌, ◌++◌, ◌∙◌, Bool, true, false, not, ℕ, List, [], ◌∷◌, map, Option, Some, None}
+use Rattle.dbc_compare.proofs.Common.{inl, inr, refl, sym, ap, subst, flat_map, bytes_eq, bytes_eq-Decides, thing_named}
+use Rattle.dbc_compare.proofs.Common.{none_found, some_same, bytes_eq-flip}
+use Rattle.dbc_words.specs.Named.{AreNamedApart, has_name}
 use Rattle.dbc_compare.specs.Differences.{are_reordered, change_if, changes_between, changes_since, differences_about}
 use Rattle.dbc_compare.specs.Differences.{gone_thing, kept_names, shown_thing, thing_differences}
 use Rattle.dbc_compare.specs.Fields.{Valued}

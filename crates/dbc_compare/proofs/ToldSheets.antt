@@ -1,18 +1,14 @@
 -- There is no difference if and only if the sheets are equal.
-use Rattle.std.proofs.Common.{◌≡◌, ◌++◌, List, [], ◌∷◌, None, refl, ap, subst}
-use Rattle.dbc_sheet.specs.Form.{IsMessage, IsSheet, KeepsMessage}
-use Rattle.dbc_sheet.specs.Sheet.{node_name, table_name}
+use Rattle.dbc_compare.proofs.Common.{◌≡◌, [], None, subst, IsSheet, node_name, table_name, Sheet}
+use Rattle.dbc_sheet.specs.Form.{IsMessage}
 use Rattle.dbc_sheet.specs.WellFormed.{IsWellFormedMessage}
-use Rattle.dbc_sheet.specs.declared.message.Message.{Message}
-use Rattle.dbc_sheet.specs.declared.sheet.Sheet.{Sheet}
-use Rattle.dbc_compare.specs.Differences.{changes_between, differences, message_differences, sheet_differences}
-use Rattle.dbc_compare.specs.Differences.{thing_differences}
+use Rattle.dbc_compare.specs.Differences.{differences, sheet_differences, thing_differences}
 use Rattle.dbc_compare.specs.Fields.{node_fields, sheet_fields, table_fields}
 use Rattle.dbc_compare.specs.Laws.{TellsApart}
 use Rattle.dbc_compare.specs.declared.place.Place.TheVariants as place
 use Rattle.dbc_compare.proofs.ChangeLists.{both_empty, list_same, list_told}
 use Rattle.dbc_compare.proofs.FieldsTold.{node_told, table_told, word_is}
-use Rattle.dbc_compare.proofs.Members.{In, all_in, each_in}
+use Rattle.dbc_compare.proofs.Members.{all_in, each_in}
 use Rattle.dbc_compare.proofs.MessageLists.{AllKeep, messages_same, messages_told}
 use Rattle.dbc_compare.proofs.ThingLists.{about_empty, about_told, joined_empty, things_same, things_told}
 

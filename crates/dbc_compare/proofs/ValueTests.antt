@@ -1,14 +1,12 @@
 -- Whether two values of a field are equal.
-use Rattle.std.proofs.Common.{◌≡◌, ◌==◌, ◌∙◌, Bool, true, false, ℕ, List, refl, sym, ap}
+use Rattle.dbc_compare.proofs.Common.{◌≡◌, ◌==◌, ◌∙◌, Bool, true, false, ℕ, List, refl, sym, ap, bytes_eq, both_ways}
+use Rattle.dbc_compare.proofs.Common.{bytes_eq-Decides, Number, ValueText}
 use Rattle.std.specs.Bool.{Decides}
-use Rattle.std.specs.Str.{bytes_eq}
-use Rattle.std.proofs.lemmas.Bool.{both_ways, false≢true}
+use Rattle.std.proofs.lemmas.Bool.{false≢true}
 use Rattle.std.proofs.lemmas.Bool.Decides.{Decides-and, Decides-eqb, Decides-int_eq}
-use Rattle.std.proofs.lemmas.Slice.Eq.{bytes_eq-Decides, slice_eq-Decides}
-use Rattle.decimal.specs.Number.{Number}
+use Rattle.std.proofs.lemmas.Slice.Eq.{slice_eq-Decides}
 use Rattle.decimal.specs.contracts.number.DecimalPartialEq.TheImpl as decimal_eq
 use Rattle.dbc_sheet.specs.contracts.value_texts.ValueTextPartialEq.TheImpl as value_text_eq
-use Rattle.dbc_sheet.specs.declared.value_texts.ValueText.{ValueText}
 use Rattle.dbc_compare.specs.Value.{Value, Whole, Word, WholeOrNone, Dec, Names, Texts, same_names, same_value}
 
 -- the same, of a fact that holds where P does

@@ -1,5 +1,5 @@
 -- Laws of differences.
-use Rattle.std.specs.Prelude.{◌≡◌, ◌↔◌, Bool, IsTrue, List, [], Contains}
+use Rattle.std.specs.Prelude.{◌≡◌, ◌↔◌, Bool, IsTrue, [], Contains}
 use Rattle.dbc_sheet.specs.declared.sheet.Sheet.{Sheet}
 use Rattle.dbc_compare.specs.Differences.{differences}
 use Rattle.dbc_compare.specs.List.{compare_text, has_no_difference}

@@ -1,17 +1,16 @@
 -- What of the things that are cited a sheet doesn't have.
-use Rattle.std.proofs.Common.{◌≡◌, ◌≤◌, ◌++◌, ◌-◌, ℕ, true, false, List, [], ◌∷◌, Option, Some, None, refl, sym, ap}
-use Rattle.std.proofs.Common.{◌∙◌, arith, drop, get_or, length, take}
+use Rattle.dbc_keep.proofs.Common.{◌≡◌, ◌≤◌, ◌++◌, ◌-◌, ℕ, true, false, List, [], ◌∷◌, Option, None, refl, sym, ap, ◌∙◌}
+use Rattle.dbc_keep.proofs.Common.{arith, drop, get_or, length, take, flat_map, Sheet, Word, first_absent, node_cited}
+use Rattle.dbc_keep.proofs.Common.{signal_cited}
+use Rattle.std.proofs.Common.{Some}
 use Rattle.std.proofs.lemmas.List.{take_all}
-use Rattle.std.specs.List.{flat_map}
 use Rattle.dbc_lex.specs.declared.token.Token.{Token as TextToken}
 use Rattle.dbc_grammar.specs.Fields.{same_kind}
 use Rattle.dbc_grammar.specs.declared.token.TokenKind.{TokenKind}
 use Rattle.dbc_grammar.specs.declared.token.TokenKind.TheVariants.{Name}
-use Rattle.dbc_sheet.specs.declared.sheet.Sheet.{Sheet}
 use Rattle.dbc_words.specs.Name.{no_node}
 use Rattle.dbc_keep.specs.Staying.{all_seen, seen}
-use Rattle.dbc_keep_law.specs.Staying.{Citation, CitesNode, CitesSignal, Word, absent, first_absent, is_name_word}
-use Rattle.dbc_keep_law.specs.Staying.{is_word, node_cited, or_else, signal_cited}
+use Rattle.dbc_keep_law.specs.Staying.{Citation, CitesNode, CitesSignal, absent, is_name_word, is_word, or_else}
 use Rattle.dbc_keep_law.specs.declared.reason.Reason.{Reason}
 
 or_none : (o : Option Reason) → or_else o None ≡ o

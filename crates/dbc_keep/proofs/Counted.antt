@@ -1,6 +1,6 @@
 -- Lines, counted on.
-use Rattle.std.proofs.Common.{◌≡◌, ◌==◌, ◌≤◌, ℕ, ◌+◌, ◌-◌, List, ◌++◌, take, slice_range, ap, ◌∙◌, arith, cond}
-use Rattle.std.proofs.Math.Seq.{take-add}
+use Rattle.dbc_keep.proofs.Common.{◌≡◌, ◌==◌, ◌≤◌, ℕ, ◌+◌, ◌-◌, List, ◌++◌, take, slice_range, ap, ◌∙◌, arith, take-add}
+use Rattle.std.proofs.Common.{cond}
 use Rattle.std.proofs.lemmas.List.Sums.{sum_by-append}
 use Rattle.std.specs.List.{count_by}
 use Rattle.dbc_advice.specs.Lines.{line_feed}

@@ -1,9 +1,7 @@
 -- Where statements end, token by token.
-use Rattle.std.proofs.Common.{◌≡◌, ◌<◌, ℕ, true, false, List, [], ◌∷◌, length, refl, ap, ◌∙◌, arith}
-use Rattle.dbc_grammar.specs.Grammar.{begins_next, is_open}
-use Rattle.dbc_grammar.specs.Token.{Token}
+use Rattle.dbc_keep.proofs.Common.{◌≡◌, ◌<◌, ℕ, true, false, List, [], ◌∷◌, length, refl, ap, ◌∙◌, arith, begins_next}
+use Rattle.dbc_keep.proofs.Common.{is_open, Token, before_next, to_mark}
 use Rattle.dbc_keep.specs.Finding.{last_end}
-use Rattle.dbc_keep_law.specs.Found.{before_next, to_mark}
 
 pub next_none : (e : ℕ) (ts : List Token) → ts ≡ [] → last_end e (before_next ts) ≡ e
 next_none e ts h = ap (λ (l : List Token). last_end e (before_next l)) h

@@ -1,3 +1,4 @@
+pub mod Common
 pub mod Absent
 mod Appended
 mod Ending

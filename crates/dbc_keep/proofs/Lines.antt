@@ -1,15 +1,14 @@
 -- The lines of a kept text, part by part.
-use Rattle.std.proofs.Common.{◌≡◌, ◌==◌, ◌&&◌, ◌||◌, ◌++◌, ℕ, Bool, true, false, not, List, [], ◌∷◌, map, if◌then◌else◌}
-use Rattle.std.proofs.Common.{refl, sym, ap, ◌∙◌, append_assoc}
-use Rattle.std.specs.List.{flat_map, list_any}
+use Rattle.dbc_keep.proofs.Common.{◌≡◌, ◌==◌, ◌&&◌, ◌++◌, ℕ, Bool, true, false, List, [], ◌∷◌, map, refl, sym, ap, ◌∙◌}
+use Rattle.dbc_keep.proofs.Common.{append_assoc, flat_map, defaults_spn, defines_spn, has_spn, place_of, Passed, Sheet}
+use Rattle.std.proofs.Common.{◌||◌, not, if◌then◌else◌}
+use Rattle.std.specs.List.{list_any}
 use Rattle.dbc_grammar.specs.Canon.{Line, comment_lines, each_signal, message_comments, message_lines, node_comment}
 use Rattle.dbc_grammar.specs.Canon.{nodes_line, spn_default, spn_definition, spn_lines, symbols_line, table_line}
 use Rattle.dbc_grammar.specs.Canon.{timing_line, type_lines, value_lines, version_line}
 use Rattle.dbc_keep.specs.Finding.{all_found, any_says, found_in, lines_there}
 use Rattle.dbc_keep.specs.Parts.{all_lines, declared_lines, sheet_lines}
-use Rattle.dbc_keep_law.specs.Kept.{defaults_spn, defines_spn, has_spn, kept_lines, lines_at, place_of, unless_said}
-use Rattle.dbc_read.specs.declared.passed.Passed.{Passed}
-use Rattle.dbc_sheet.specs.declared.sheet.Sheet.{Sheet}
+use Rattle.dbc_keep_law.specs.Kept.{kept_lines, lines_at, unless_said}
 
 -- ---- the statements of a place
 

@@ -1,18 +1,12 @@
 -- Whether a statement declares the attribute with suspect parameter numbers is seen by its first three tokens.
-use Rattle.std.proofs.Common.{◌≡◌, ◌==◌, ◌&&◌, ℕ, Bool, true, false, List, [], ◌∷◌, drop, codes, refl, sym, ap, ◌∙◌}
+use Rattle.dbc_keep.proofs.Common.{◌≡◌, ◌==◌, ◌&&◌, ℕ, Bool, true, false, List, [], ◌∷◌, drop, refl, sym, ap, ◌∙◌}
+use Rattle.dbc_keep.proofs.Common.{Keyword, Message, is_open, starts, Token, others_of, run_of, to_mark, tokens_at}
+use Rattle.dbc_keep.proofs.Common.{defaults_spn, defines_spn, place_of, line_of, Passed}
+use Rattle.std.proofs.Common.{codes}
 use Rattle.std.specs.Str.{bytes_eq}
-use Rattle.dbc_words.specs.declared.keyword.Keyword.{Keyword}
-use Rattle.dbc_words.specs.declared.keyword.Keyword.TheVariants.{Message}
 use Rattle.dbc_grammar.specs.Fields.{is_mark}
-use Rattle.dbc_grammar.specs.Grammar.{is_open}
-use Rattle.dbc_grammar.specs.Rules.{starts}
-use Rattle.dbc_grammar.specs.Token.{Token}
 use Rattle.dbc_grammar.proofs.ExactFields.{mark_text}
 use Rattle.dbc_keep.specs.Finding.{found_in, has_text, says_there}
-use Rattle.dbc_keep_law.specs.Found.{others_of, run_of, to_mark, tokens_at}
-use Rattle.dbc_keep_law.specs.Kept.{defaults_spn, defines_spn, place_of}
-use Rattle.dbc_keep_law.specs.Passages.{line_of}
-use Rattle.dbc_read.specs.declared.passed.Passed.{Passed}
 
 abbrev pub spn_text : List ℕ
 spn_text = codes "\"SPN\""

@@ -1,18 +1,14 @@
 -- The bytes of a statement are those of its source from its first byte to its last.
-use Rattle.std.proofs.Common.{◌≡◌, ◌≤◌, ℕ, ◌+◌, ◌-◌, Bool, true, false, List, [], ◌∷◌, ◌++◌, length, take, drop, min}
-use Rattle.std.proofs.Common.{Option, refl, sym, ap, subst, ◌∙◌, arith, append_assoc}
+use Rattle.dbc_keep.proofs.Common.{◌≡◌, ◌≤◌, ℕ, ◌+◌, ◌-◌, Bool, true, false, List, [], ◌∷◌, ◌++◌, length, take, drop}
+use Rattle.dbc_keep.proofs.Common.{Option, refl, sym, ap, subst, ◌∙◌, arith, append_assoc, take-add, Keyword, Message}
+use Rattle.dbc_keep.proofs.Common.{begins_next, is_open, Token, before_next, found, others_of, run_of, to_mark}
+use Rattle.dbc_keep.proofs.Common.{tokens_at, line_of, pieces_from}
+use Rattle.std.proofs.Common.{min}
 use Rattle.std.proofs.lemmas.List.{drop-drop, drop_at, length-append, length-take, take-append-drop, take_at}
-use Rattle.std.proofs.Math.Seq.{take-add}
-use Rattle.dbc_words.specs.declared.keyword.Keyword.{Keyword}
-use Rattle.dbc_words.specs.declared.keyword.Keyword.TheVariants.{Message}
-use Rattle.dbc_grammar.specs.Grammar.{begins_next, is_open}
 use Rattle.dbc_grammar.specs.Lexing.{LexFault, lexed}
-use Rattle.dbc_grammar.specs.Token.{Token}
 use Rattle.dbc_grammar.specs.TokenLaw.{AreSlices}
 use Rattle.dbc_grammar.proofs.TokenExact.{IsRead, first_of, read_is_there}
 use Rattle.dbc_keep.specs.Finding.{bytes_of, last_end}
-use Rattle.dbc_keep_law.specs.Found.{before_next, found, others_of, run_of, to_mark, tokens_at}
-use Rattle.dbc_keep_law.specs.Passages.{line_of, pieces_from}
 
 -- ---- the tokens from an offset on are slices of the source
 

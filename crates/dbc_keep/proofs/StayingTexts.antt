@@ -1,29 +1,23 @@
 -- What the words of a statement show, and the text of those that stay.
-use Rattle.std.proofs.Common.{◌≡◌, ◌+◌, ◌<◌, ◌++◌, ℕ, Bool, true, false, List, [], ◌∷◌, map, filter, drop, length, take}
-use Rattle.std.proofs.Common.{get_or, None, refl, sym, ap, subst, ◌∙◌}
+use Rattle.dbc_keep.proofs.Common.{◌≡◌, ◌+◌, ◌<◌, ◌++◌, ℕ, Bool, true, false, List, [], ◌∷◌, map, drop, length, take}
+use Rattle.dbc_keep.proofs.Common.{get_or, None, refl, sym, ap, subst, ◌∙◌, flat_map, Keyword, Message, Sheet}
+use Rattle.dbc_keep.proofs.Common.{line_text, Reads, ReadsAs, ReadsAsOneAtMost, ReadsOnlyAs, Token, others_of, run_of}
+use Rattle.dbc_keep.proofs.Common.{to_mark, tokens_at, kept_text, EachOnce, Keeps, StatementsAreFound, line_of}
+use Rattle.dbc_keep.proofs.Common.{pieces_from, Word, reason_by, start_and_keyword, Passed}
+use Rattle.std.proofs.Common.{filter}
 use Rattle.std.proofs.lemmas.List.{take_more}
-use Rattle.std.specs.List.{flat_map}
 use Rattle.std.proofs.lemmas.List.Elements.{filter-append, filter_map-append}
-use Rattle.dbc_words.specs.declared.keyword.Keyword.{Keyword}
-use Rattle.dbc_words.specs.declared.keyword.Keyword.TheVariants.{Message}
 use Rattle.dbc_sheet.specs.Form.{IsSheet}
-use Rattle.dbc_sheet.specs.declared.sheet.Sheet.{Sheet}
-use Rattle.dbc_grammar.specs.Canon.{line_text}
-use Rattle.dbc_grammar.specs.Reads.{Reads, ReadsAs, ReadsAsOneAtMost, ReadsOnlyAs}
-use Rattle.dbc_grammar.specs.Token.{Token}
 use Rattle.dbc_keep.specs.Finding.{all_found, found_in}
 use Rattle.dbc_keep.specs.Parts.{all_lines}
 use Rattle.dbc_keep.specs.Staying.{KeepsStaying, left_out, left_out_of, staying, stays_in, token_word}
 use Rattle.dbc_keep.specs.declared.staying.LeftOut.{LeftOut}
 use Rattle.dbc_keep.proofs.Lines.{lines_are}
 use Rattle.dbc_keep.proofs.Whole.{keeps_found}
-use Rattle.dbc_keep_law.specs.Found.{others_of, run_of, to_mark, tokens_at}
-use Rattle.dbc_keep_law.specs.Kept.{completed, kept_text}
-use Rattle.dbc_keep_law.specs.Law.{EachOnce, Keeps, KeptIsRead, StatementsAreFound, StatementsStay}
-use Rattle.dbc_keep_law.specs.Passages.{Passage, line_of, pieces_from}
-use Rattle.dbc_keep_law.specs.Staying.{Word, reason, reason_by, stays, word_of, words_of}
-use Rattle.dbc_read.specs.Passed.{start_and_keyword}
-use Rattle.dbc_read.specs.declared.passed.Passed.{Passed}
+use Rattle.dbc_keep_law.specs.Kept.{completed}
+use Rattle.dbc_keep_law.specs.Law.{KeptIsRead, StatementsStay}
+use Rattle.dbc_keep_law.specs.Passages.{Passage}
+use Rattle.dbc_keep_law.specs.Staying.{reason, stays, word_of, words_of}
 
 -- ---- the words of a statement that is found
 

@@ -1,19 +1,14 @@
 -- The text of all lines is the kept text of its source.
-use Rattle.std.proofs.Common.{◌≡◌, ℕ, List, [], map, ap, subst, ◌∙◌}
-use Rattle.std.specs.List.{flat_map}
+use Rattle.dbc_keep.proofs.Common.{◌≡◌, ℕ, List, [], map, ap, subst, ◌∙◌, flat_map, line_text, Reads, ReadsAs}
+use Rattle.dbc_keep.proofs.Common.{ReadsAsOneAtMost, ReadsOnlyAs, found, kept_text, EachOnce, Keeps, StatementsAreFound}
+use Rattle.dbc_keep.proofs.Common.{start_and_keyword, Passed, Sheet}
 use Rattle.std.proofs.lemmas.Simd.{map-map}
-use Rattle.dbc_grammar.specs.Canon.{canonical_text, line_text}
-use Rattle.dbc_grammar.specs.Reads.{Reads, ReadsAs, ReadsAsOneAtMost, ReadsOnlyAs}
+use Rattle.dbc_grammar.specs.Canon.{canonical_text}
 use Rattle.dbc_keep.specs.Finding.{all_found}
 use Rattle.dbc_keep.specs.Keeping.{KeepsEach}
 use Rattle.dbc_keep.specs.Parts.{all_lines}
 use Rattle.dbc_keep.proofs.Lines.{lines_are}
-use Rattle.dbc_keep_law.specs.Found.{found}
-use Rattle.dbc_keep_law.specs.Kept.{kept_text}
-use Rattle.dbc_keep_law.specs.Law.{EachOnce, IsKept, Keeps, KeepsPassed, KeepsSheet, NothingKept, StatementsAreFound}
-use Rattle.dbc_read.specs.Passed.{start_and_keyword}
-use Rattle.dbc_read.specs.declared.passed.Passed.{Passed}
-use Rattle.dbc_sheet.specs.declared.sheet.Sheet.{Sheet}
+use Rattle.dbc_keep_law.specs.Law.{IsKept, KeepsPassed, KeepsSheet, NothingKept}
 
 pub keeps_found : (source : List ℕ) (s : Sheet) (passed : List Passed) → ReadsAs source s (map start_and_keyword passed)
     → StatementsAreFound → Keeps source s (all_found source passed)

@@ -1,12 +1,9 @@
 -- The words of a statement, one by one.
-use Rattle.std.proofs.Common.{◌≡◌, ◌++◌, true, false, List, [], ◌∷◌, map, refl, sym, ap, ◌∙◌, append-nil, append_assoc}
+use Rattle.dbc_keep.proofs.Common.{◌≡◌, ◌++◌, true, false, List, [], ◌∷◌, map, refl, sym, ap, ◌∙◌, append_assoc}
+use Rattle.dbc_keep.proofs.Common.{is_open, Token, to_mark, Word, token_of}
+use Rattle.std.proofs.Common.{append-nil}
 use Rattle.std.proofs.lemmas.List.{map-append}
-use Rattle.dbc_grammar.specs.Grammar.{is_open}
-use Rattle.dbc_grammar.specs.Token.{Token}
 use Rattle.dbc_keep.specs.Staying.{all_seen, seen, token_word}
-use Rattle.dbc_keep_law.specs.Found.{to_mark}
-use Rattle.dbc_keep_law.specs.Staying.{Word}
-use Rattle.dbc_lex.specs.Token.{token_of}
 use Rattle.dbc_lex.specs.declared.token.Token.{Token as TextToken}
 
 go_at : (t : Token) (us : List Token) → is_open t ≡ true

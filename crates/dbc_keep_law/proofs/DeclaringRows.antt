@@ -1,6 +1,6 @@
 -- Which statements declare the attribute with suspect parameter numbers: examples that compute.
-use Rattle.std.proofs.Common.{◌≡◌, false, true, [], ◌∷◌, codes, refl}
-use Rattle.dbc_grammar.specs.Canon.{mark, number, quoted, space, spn_default, spn_definition, tight, word}
+use Rattle.dbc_keep_law.proofs.Common.{◌≡◌, false, true, [], ◌∷◌, codes, refl, spn_default, spn_definition}
+use Rattle.dbc_grammar.specs.Canon.{mark, number, quoted, space, tight, word}
 use Rattle.dbc_keep_law.specs.Kept.{defaults_spn, defines_spn}
 
 canonical_definition : defines_spn spn_definition ≡ true

@@ -1,8 +1,8 @@
 -- Each skipped statement is in the kept text once.
-use Rattle.std.proofs.Common.{◌≡◌, ◌==◌, ◌+◌, ◌++◌, ℕ, Bool, true, false, List, [], ◌∷◌, filter, refl, sym, ap, subst}
-use Rattle.std.proofs.Common.{◌∙◌, append-nil, append_assoc, arith, IsPermutation}
+use Rattle.dbc_keep_law.proofs.Common.{◌≡◌, ◌==◌, ◌+◌, ◌++◌, ℕ, Bool, true, false, List, [], ◌∷◌, filter, refl, sym, ap}
+use Rattle.dbc_keep_law.proofs.Common.{subst, ◌∙◌, append-nil, append_assoc, arith, IsPermutation, nat_tests, Keyword}
+use Rattle.dbc_keep_law.proofs.Common.{Message}
 use Rattle.std.specs.Prelude.{nat_le}
-use Rattle.std.proofs.lemmas.Bool.Decides.{nat_tests}
 use Rattle.std.proofs.lemmas.List.Sorted.{
   IsPermutation-append_comm,
   IsPermutation-append_left,
@@ -13,8 +13,6 @@ use Rattle.std.proofs.lemmas.List.Sorted.{
   IsPermutation-sym,
   IsPermutation-trans,
 }
-use Rattle.dbc_words.specs.declared.keyword.Keyword.{Keyword}
-use Rattle.dbc_words.specs.declared.keyword.Keyword.TheVariants.{Message}
 use Rattle.dbc_keep_law.specs.Kept.{at_place, completed, declarations, default_passage, defaults_spn, defines_spn}
 use Rattle.dbc_keep_law.specs.Kept.{definition_passage, lines_at, place_of, said}
 use Rattle.dbc_keep_law.specs.Law.{EachOnce}

@@ -1,29 +1,20 @@
 -- Statements that are skipped end with their first `;`, or, after `BO_`, before the next statement.
-use Rattle.std.proofs.Common.{◌≡◌, ◌&&◌, ℕ, Bool, true, false, not, List, [], ◌∷◌, ◌++◌, Option, Some, None, codes}
-use Rattle.std.proofs.Common.{if◌then◌else◌, refl, sym, ap, subst, ◌∙◌, append_assoc}
-use Rattle.std.specs.List.{AllByRecursion}
-use Rattle.std.specs.Str.{bytes_eq}
-use Rattle.std.proofs.lemmas.Bool.{and_parts}
-use Rattle.base.specs.WholeNumber.{is_numeral, whole_of}
-use Rattle.decimal.specs.Number.{Number}
-use Rattle.dbc_words.specs.Keyword.{keyword_text}
+use Rattle.dbc_keep_law.proofs.Common.{◌≡◌, ◌&&◌, ℕ, Bool, true, false, not, List, [], ◌∷◌, ◌++◌, Option, Some, None}
+use Rattle.dbc_keep_law.proofs.Common.{codes, if◌then◌else◌, refl, sym, ap, subst, ◌∙◌, append_assoc, AllByRecursion}
+use Rattle.dbc_keep_law.proofs.Common.{bytes_eq, and_parts, is_numeral, whole_of, Number, keyword_text, Keyword}
+use Rattle.dbc_keep_law.proofs.Common.{EnvironmentVariable, Message, Nodes, Signal, ValueType, cited_name, cited_number}
+use Rattle.dbc_keep_law.proofs.Common.{is_a, is_key, is_mark, mark, sign_of, text_of, type_of, begins_next, is_open}
+use Rattle.dbc_keep_law.proofs.Common.{is_spn_name, next, spn_of, Rule, token, one, only, ◌>>=◌, done, optional, many}
+use Rattle.dbc_keep_law.proofs.Common.{Content, PassedOver, Token, Name, Text, only_passes, kind_is, passes}
 use Rattle.dbc_words.specs.ValueType.{value_type_of}
-use Rattle.dbc_words.specs.declared.keyword.Keyword.{Keyword}
-use Rattle.dbc_words.specs.declared.keyword.Keyword.TheVariants.{EnvironmentVariable, Message, Nodes, Signal}
-use Rattle.dbc_words.specs.declared.value_type.ValueType.{ValueType}
-use Rattle.dbc_grammar.specs.Fields.{cited_name, cited_number, decimal, entry, is_a, is_key, is_mark, mark, number_of}
-use Rattle.dbc_grammar.specs.Fields.{sign_of, text_of, type_of, whole}
-use Rattle.dbc_grammar.specs.Grammar.{begins_next, independent_line, is_open, is_spn_name, message_comment, next}
-use Rattle.dbc_grammar.specs.Grammar.{node_comment, passed_attribute, passed_comment, passed_value_texts}
-use Rattle.dbc_grammar.specs.Grammar.{signal_comment, skipped, spn_line, spn_of, value_texts_line, value_type_line}
+use Rattle.dbc_grammar.specs.Fields.{decimal, entry, number_of, whole}
+use Rattle.dbc_grammar.specs.Grammar.{independent_line, message_comment, node_comment, passed_attribute, passed_comment}
+use Rattle.dbc_grammar.specs.Grammar.{passed_value_texts, signal_comment, skipped, spn_line, value_texts_line}
+use Rattle.dbc_grammar.specs.Grammar.{value_type_line}
 use Rattle.dbc_grammar.specs.Inside.{inside_of}
-use Rattle.dbc_grammar.specs.Rules.{Rule, token, one, only, ◌>>=◌, done, optional, many}
-use Rattle.dbc_grammar.specs.Statement.{Content, PassedOver}
-use Rattle.dbc_grammar.specs.Token.{Token}
-use Rattle.dbc_grammar.specs.declared.token.TokenKind.TheVariants.{Name, Number as NumberKind, Text}
-use Rattle.dbc_grammar.proofs.Exactness.{bind_takes, only_passes}
-use Rattle.dbc_grammar.proofs.ExactFields.{kind_is, mark_kind, mark_text, name_cited, number_number, number_where}
-use Rattle.dbc_grammar.proofs.ExactFields.{number_whole, passes}
+use Rattle.dbc_grammar.specs.declared.token.TokenKind.TheVariants.{Number as NumberKind}
+use Rattle.dbc_grammar.proofs.Exactness.{bind_takes}
+use Rattle.dbc_grammar.proofs.ExactFields.{mark_kind, mark_text, name_cited, number_number, number_where, number_whole}
 
 -- ---- up to the first `;`
 

@@ -1,14 +1,8 @@
 -- Whole lines, one after the other in a text, have their tokens, and each line is what the text has between them.
-use Rattle.std.proofs.Common.{◌≡◌, ◌+◌, ◌-◌, ℕ, List, [], ◌∷◌, ◌++◌, length, take, drop, refl, sym, ap, subst, ◌∙◌}
-use Rattle.std.proofs.Common.{append_assoc, arith}
-use Rattle.std.specs.List.{AllByRecursion, flat_map}
-use Rattle.std.proofs.lemmas.List.{length-append, drop_at, take_at}
-use Rattle.dbc_grammar.specs.Canon.{Line, Piece, line_text}
-use Rattle.dbc_grammar.specs.Rules.{Rule, many}
-use Rattle.dbc_grammar.specs.Token.{Token}
-use Rattle.dbc_grammar.specs.Tokens.{HasTokens}
-use Rattle.dbc_law.proofs.PieceTokens.{line, token_of}
-use Rattle.dbc_law.proofs.TokenLegible.{pieces_text}
+use Rattle.dbc_keep_law.proofs.Common.{◌≡◌, ◌+◌, ◌-◌, ℕ, List, [], ◌∷◌, ◌++◌, length, take, drop, refl, sym, ap, subst}
+use Rattle.dbc_keep_law.proofs.Common.{◌∙◌, append_assoc, arith, AllByRecursion, flat_map, length-append, drop_at}
+use Rattle.dbc_keep_law.proofs.Common.{take_at, Line, Piece, line_text, Rule, many, Token, HasTokens, line, token_of}
+use Rattle.dbc_keep_law.proofs.Common.{pieces_text}
 use Rattle.dbc_keep_law.specs.Passages.{line_of, pieces_from}
 use Rattle.dbc_keep_law.proofs.LegibleLines.{AreWhole, after_gap, end_of}
 

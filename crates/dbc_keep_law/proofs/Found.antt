@@ -1,27 +1,19 @@
 -- A skipped statement is the one that is found at its offset.
-use Rattle.std.proofs.Common.{◌≡◌, ◌≤◌, ◌+◌, ℕ, Bool, true, false, List, [], ◌∷◌, ◌++◌, map, filter, length, drop, min}
-use Rattle.std.proofs.Common.{Option, Some, None, option_map, refl, sym, ap, subst, ◌∙◌, inl, inr, arith, append_assoc}
-use Rattle.std.specs.List.{AllByRecursion}
-use Rattle.std.proofs.lemmas.List.{append_cancel_right, drop_at, length-append}
+use Rattle.dbc_keep_law.proofs.Common.{◌≡◌, ◌≤◌, ◌+◌, ℕ, Bool, true, false, List, [], ◌∷◌, ◌++◌, map, filter, length}
+use Rattle.dbc_keep_law.proofs.Common.{drop, Option, Some, None, option_map, refl, sym, ap, subst, ◌∙◌, inl, inr, arith}
+use Rattle.dbc_keep_law.proofs.Common.{append_assoc, AllByRecursion, append_cancel_right, drop_at, length-append}
+use Rattle.dbc_keep_law.proofs.Common.{KeywordGroup, Kept, Passed, Refused, keyword_group, Keyword, Version, NewSymbols}
+use Rattle.dbc_keep_law.proofs.Common.{BitTiming, Nodes, ValueTable, Message, Signal, Comment, ValueTexts}
+use Rattle.dbc_keep_law.proofs.Common.{SignalValueType, AttributeValue, AreParts, Part, key_of, begins_next}
+use Rattle.dbc_keep_law.proofs.Common.{file_comment, is_open, message_comment, message_line, next, other_line}
+use Rattle.dbc_keep_law.proofs.Common.{independent_line, passed_value_texts, signal_comment, spn_line, value_texts_line}
+use Rattle.dbc_keep_law.proofs.Common.{Rule, either, Says, is_passed, passed_by, Content, Statement, Token, HasTokens}
+use Rattle.dbc_keep_law.proofs.Common.{divisions_are_parts}
+use Rattle.std.proofs.Common.{min}
 use Rattle.std.proofs.lemmas.Simd.{map-map}
-use Rattle.dbc_words.specs.Keyword.{KeywordGroup, Kept, Passed, Refused, keyword_group}
-use Rattle.dbc_words.specs.declared.keyword.Keyword.{Keyword}
-use Rattle.dbc_words.specs.declared.keyword.Keyword.TheVariants.{Version, NewSymbols, BitTiming, Nodes, ValueTable}
-use Rattle.dbc_words.specs.declared.keyword.Keyword.TheVariants.{Message, Signal, Comment, ValueTexts, SignalValueType}
-use Rattle.dbc_words.specs.declared.keyword.Keyword.TheVariants.{AttributeValue}
-use Rattle.dbc_grammar.specs.Division.{AreParts, Part}
-use Rattle.dbc_grammar.specs.Fields.{key_of}
-use Rattle.dbc_grammar.specs.Grammar.{begins_next, comment_line, file_comment, is_open, line, message_comment}
-use Rattle.dbc_grammar.specs.Grammar.{message_line, next, node_comment, other_line, passed_line, independent_line}
-use Rattle.dbc_grammar.specs.Grammar.{passed_attribute, passed_value_texts, signal_comment, spn_line, statement}
-use Rattle.dbc_grammar.specs.Grammar.{value_texts_line}
+use Rattle.dbc_grammar.specs.Grammar.{comment_line, line, node_comment, passed_line, passed_attribute, statement}
 use Rattle.dbc_grammar.specs.Lexing.{Lexed, lexed}
-use Rattle.dbc_grammar.specs.Rules.{Rule, either}
-use Rattle.dbc_grammar.specs.Saying.{Says, is_passed, passed_by}
-use Rattle.dbc_grammar.specs.Statement.{Content, Statement}
-use Rattle.dbc_grammar.specs.Token.{Token}
-use Rattle.dbc_grammar.specs.Tokens.{HasTokens, IsFirst}
-use Rattle.dbc_grammar.proofs.Divisions.{divisions_are_parts}
+use Rattle.dbc_grammar.specs.Tokens.{IsFirst}
 use Rattle.dbc_grammar.proofs.TokenExact.{exact}
 use Rattle.dbc_keep_law.specs.Found.{before_next, found, others_of, run_of, to_mark, tokens_at}
 use Rattle.dbc_keep_law.specs.Law.{StatementsAreFound}

@@ -1,22 +1,15 @@
 -- Statements that can be passed over are read the same wherever their words stand.
-use Rattle.std.proofs.Common.{◌≡◌, ℕ, true, false, List, [], ◌∷◌, ◌++◌, Option, Some, None, option_map}
-use Rattle.std.proofs.Common.{refl, sym, ap, subst, ◌∙◌, inl, inr}
-use Rattle.std.proofs.lemmas.List.{append_cancel_right}
-use Rattle.dbc_words.specs.Keyword.{KeywordGroup, Kept, Passed, Refused, keyword_group}
-use Rattle.dbc_words.specs.declared.keyword.Keyword.{Keyword}
-use Rattle.dbc_words.specs.declared.keyword.Keyword.TheVariants.{Version, NewSymbols, BitTiming, Nodes, ValueTable}
-use Rattle.dbc_words.specs.declared.keyword.Keyword.TheVariants.{Message, Signal, Comment, ValueTexts, SignalValueType}
-use Rattle.dbc_words.specs.declared.keyword.Keyword.TheVariants.{AttributeValue}
-use Rattle.dbc_grammar.specs.Fields.{key_of}
-use Rattle.dbc_grammar.specs.Grammar.{is_open, version_line, symbols_line, timing_line, nodes_line, table_line}
-use Rattle.dbc_grammar.specs.Grammar.{message_line, file_comment, node_comment, message_comment, signal_comment}
-use Rattle.dbc_grammar.specs.Grammar.{value_texts_line, spn_line, passed_line, passed_value_texts, passed_attribute}
-use Rattle.dbc_grammar.specs.Grammar.{independent_line, comment_line, other_line, line, first_word, statement}
-use Rattle.dbc_grammar.specs.Rules.{Rule, either}
-use Rattle.dbc_grammar.specs.Statement.{Content, VersionIs, NodesAre, TableIs, MessageIs, CommentIs, Dropped, Statement}
-use Rattle.dbc_grammar.specs.Token.{Token}
-use Rattle.dbc_grammar.proofs.Exactness.{Any}
-use Rattle.dbc_grammar.proofs.ExactLines.{Next}
+use Rattle.dbc_keep_law.proofs.Common.{◌≡◌, ℕ, true, false, List, [], ◌∷◌, ◌++◌, Option, Some, None, option_map, refl}
+use Rattle.dbc_keep_law.proofs.Common.{sym, ap, subst, ◌∙◌, inl, inr, append_cancel_right, KeywordGroup, Kept, Passed}
+use Rattle.dbc_keep_law.proofs.Common.{Refused, keyword_group, Keyword, Version, NewSymbols, BitTiming, Nodes}
+use Rattle.dbc_keep_law.proofs.Common.{ValueTable, Message, Signal, Comment, ValueTexts, SignalValueType}
+use Rattle.dbc_keep_law.proofs.Common.{AttributeValue, key_of, is_open, message_comment, signal_comment}
+use Rattle.dbc_keep_law.proofs.Common.{value_texts_line, spn_line, passed_value_texts, independent_line, other_line}
+use Rattle.dbc_keep_law.proofs.Common.{Rule, either, Content, VersionIs, NodesAre, TableIs, MessageIs, CommentIs}
+use Rattle.dbc_keep_law.proofs.Common.{Dropped, Statement, Token, Any, Next}
+use Rattle.dbc_grammar.specs.Grammar.{version_line, symbols_line, timing_line, nodes_line, table_line, message_line}
+use Rattle.dbc_grammar.specs.Grammar.{file_comment, node_comment, passed_line, passed_attribute, comment_line, line}
+use Rattle.dbc_grammar.specs.Grammar.{first_word, statement}
 use Rattle.dbc_keep_law.proofs.Ends.{AreOpen, Ends, ending_skipped, ending_spn}
 use Rattle.dbc_keep_law.proofs.Framing.{
   Alike,

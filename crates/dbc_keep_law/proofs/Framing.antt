@@ -1,20 +1,15 @@
 -- A statement that can be passed over is read the same wherever its words stand, if the end or a keyword other than
 -- `SG_` follows it.
-use Rattle.std.proofs.Common.{◌≡◌, ℕ, Bool, true, not, List, [], ◌∷◌, ◌++◌, Option, Some, None, codes, refl, sym, ap}
-use Rattle.std.proofs.Common.{subst, ◌∙◌, append_assoc}
-use Rattle.dbc_words.specs.declared.keyword.Keyword.{Keyword}
-use Rattle.dbc_words.specs.declared.keyword.Keyword.TheVariants.{Nodes, Message, Signal, EnvironmentVariable}
-use Rattle.dbc_grammar.specs.Fields.{is_mark, is_key, key_of, key, mark, text_of, cited_name, cited_number, sign_of}
-use Rattle.dbc_grammar.specs.Fields.{number_of, type_of, independent_number, decimal, entry}
-use Rattle.dbc_grammar.specs.Grammar.{begins_next, next, is_open, node_comment, message_comment, signal_comment}
-use Rattle.dbc_grammar.specs.Grammar.{value_texts_line, value_type_line, is_spn_name, spn_of, spn_line, skipped}
-use Rattle.dbc_grammar.specs.Grammar.{passed_comment, passed_value_texts, independent_line}
-use Rattle.dbc_grammar.specs.Rules.{Rule, token, one, only, ◌>>=◌, done, followed, optional, many}
-use Rattle.dbc_grammar.specs.Statement.{Content, PassedOver}
-use Rattle.dbc_grammar.specs.Token.{Token}
-use Rattle.dbc_grammar.specs.declared.token.TokenKind.{TokenKind}
-use Rattle.dbc_grammar.proofs.Exactness.{Any}
-use Rattle.dbc_grammar.proofs.ExactLines.{Next}
+use Rattle.dbc_keep_law.proofs.Common.{◌≡◌, ℕ, Bool, true, not, List, [], ◌∷◌, ◌++◌, Option, Some, None, codes, refl}
+use Rattle.dbc_keep_law.proofs.Common.{sym, ap, subst, ◌∙◌, append_assoc, Keyword, Nodes, Message, Signal}
+use Rattle.dbc_keep_law.proofs.Common.{EnvironmentVariable, is_mark, is_key, key_of, mark, text_of, cited_name}
+use Rattle.dbc_keep_law.proofs.Common.{cited_number, sign_of, type_of, begins_next, next, is_open, is_spn_name, spn_of}
+use Rattle.dbc_keep_law.proofs.Common.{Rule, token, one, only, ◌>>=◌, done, optional, many, Content, PassedOver, Token}
+use Rattle.dbc_keep_law.proofs.Common.{TokenKind, Any, Next}
+use Rattle.dbc_grammar.specs.Fields.{key, number_of, independent_number, decimal, entry}
+use Rattle.dbc_grammar.specs.Grammar.{node_comment, message_comment, signal_comment, value_texts_line, value_type_line}
+use Rattle.dbc_grammar.specs.Grammar.{spn_line, skipped, passed_comment, passed_value_texts, independent_line}
+use Rattle.dbc_grammar.specs.Rules.{followed}
 
 -- ---- tokens of the same words
 

@@ -1,15 +1,12 @@
 -- Formatting a kept text again, with what is passed over in it, changes nothing.
-use Rattle.std.proofs.Common.{◌≡◌, ◌==◌, ◌&&◌, ◌++◌, ℕ, Bool, true, false, not, List, [], ◌∷◌, map, Some, if◌then◌else◌}
-use Rattle.std.proofs.Common.{refl, ap, ◌∙◌, append-nil, append_assoc}
-use Rattle.std.specs.List.{filter_map, flat_map, list_any}
-use Rattle.std.proofs.lemmas.Bool.{eqb-true}
-use Rattle.std.proofs.lemmas.List.Elements.{filter-append, filter_map-append}
-use Rattle.std.proofs.lemmas.List.Folds.{list_any-append}
-use Rattle.dbc_sheet.specs.declared.sheet.Sheet.{Sheet}
-use Rattle.dbc_grammar.specs.Canon.{Line, comment_lines, each_signal, message_comments, message_lines, node_comment}
-use Rattle.dbc_grammar.specs.Canon.{nodes_line, spn_default, spn_definition, spn_lines, symbols_line, table_line}
-use Rattle.dbc_grammar.specs.Canon.{timing_line, type_lines, value_lines, version_line}
-use Rattle.dbc_grammar.specs.Statement.{Content, CommentIs, Dropped, NodesAre, PassedOver, VersionIs}
+use Rattle.dbc_keep_law.proofs.Common.{◌≡◌, ◌==◌, ◌&&◌, ◌++◌, ℕ, Bool, true, false, not, List, [], ◌∷◌, map, Some}
+use Rattle.dbc_keep_law.proofs.Common.{if◌then◌else◌, refl, ap, ◌∙◌, append-nil, append_assoc, filter_map, flat_map}
+use Rattle.dbc_keep_law.proofs.Common.{list_any, eqb-true, filter-append, list_any-append, Sheet, Line, comment_lines}
+use Rattle.dbc_keep_law.proofs.Common.{each_signal, message_comments, message_lines, node_comment, nodes_line}
+use Rattle.dbc_keep_law.proofs.Common.{spn_default, spn_definition, spn_lines, symbols_line, table_line, timing_line}
+use Rattle.dbc_keep_law.proofs.Common.{type_lines, value_lines, version_line, Content, CommentIs, Dropped, NodesAre}
+use Rattle.dbc_keep_law.proofs.Common.{PassedOver, VersionIs}
+use Rattle.std.proofs.lemmas.List.Elements.{filter_map-append}
 use Rattle.dbc_keep_law.specs.Kept.{at_place, completed, default_passage, defaults_spn, definition_passage, defines_spn}
 use Rattle.dbc_keep_law.specs.Kept.{has_spn, kept_lines, lines_at, place_of, unless_said}
 use Rattle.dbc_keep_law.specs.Passages.{Passage}

@@ -1,35 +1,26 @@
 -- The kept text of a sheet has tokens, and these divide into statements: those of the canonical text, and the passed
 -- ones.
-use Rattle.std.proofs.Common.{◌≡◌, ◌<◌, ◌^◌, ◌==◌, ◌&&◌, ◌++◌, ℕ, Bool, true, false, not, List, [], ◌∷◌, map, filter}
-use Rattle.std.proofs.Common.{Some, codes, if◌then◌else◌, refl, inl, arith}
-use Rattle.std.specs.List.{AllByRecursion, flat_map, list_any}
-use Rattle.dbc_sheet.specs.Form.{IsMessage, IsNode, IsSheet, IsSignal}
+use Rattle.dbc_keep_law.proofs.Common.{◌≡◌, ◌==◌, ◌&&◌, ◌++◌, ℕ, Bool, true, false, not, List, [], ◌∷◌, map, filter}
+use Rattle.dbc_keep_law.proofs.Common.{Some, codes, if◌then◌else◌, refl, inl, arith, AllByRecursion, flat_map, list_any}
+use Rattle.dbc_keep_law.proofs.Common.{IsMessage, IsNode, IsSheet, number_of, Sheet, Line, Piece, message_comments}
+use Rattle.dbc_keep_law.proofs.Common.{message_lines, node_comment, spn_default, spn_definition, spn_lines}
+use Rattle.dbc_keep_law.proofs.Common.{with_spn_definitions, Divides, many, Content, CommentIs, Dropped, NodesAre}
+use Rattle.dbc_keep_law.proofs.Common.{PassedOver, SpnIs, Statement, VersionIs, Token, HasTokens, contents_of, line}
+use Rattle.dbc_keep_law.proofs.Common.{value_texts_write, value_types_write, file_comment_writes}
+use Rattle.dbc_keep_law.proofs.Common.{message_comments_write, node_comment_writes, heading_writes, tables_write}
+use Rattle.dbc_keep_law.proofs.Common.{Writes, means, writes_each, messages_write}
+use Rattle.std.proofs.Common.{◌<◌, ◌^◌}
+use Rattle.dbc_sheet.specs.Form.{IsSignal}
 use Rattle.dbc_words.specs.Limits.{spn_limit}
-use Rattle.dbc_sheet.specs.Messages.{number_of}
 use Rattle.dbc_words.specs.Text.{IsText}
 use Rattle.dbc_words.specs.declared.keyword.Keyword.TheVariants as keyword
 use Rattle.dbc_sheet.specs.declared.message.Message.{Message}
-use Rattle.dbc_sheet.specs.declared.sheet.Sheet.{Sheet}
 use Rattle.dbc_sheet.specs.declared.signal.Signal.{Signal}
 use Rattle.dbc_words.proofs.Texts.{text-Decides}
 use Rattle.dbc_grammar.specs.Canon as canon
-use Rattle.dbc_grammar.specs.Canon.{Line, Piece, comment_lines, line_text, message_comments, message_lines}
-use Rattle.dbc_grammar.specs.Canon.{node_comment, spn_default, spn_definition, spn_definitions, spn_lines}
-use Rattle.dbc_grammar.specs.Canon.{with_spn_definitions}
-use Rattle.dbc_grammar.specs.Division.{Divides}
 use Rattle.dbc_grammar.specs.Grammar as grammar
-use Rattle.dbc_grammar.specs.Rules.{many}
-use Rattle.dbc_grammar.specs.Statement.{Content, CommentIs, Dropped, NodesAre, PassedOver, SpnIs, Statement, VersionIs}
-use Rattle.dbc_grammar.specs.Token.{Token}
-use Rattle.dbc_grammar.specs.Tokens.{HasTokens}
 use Rattle.dbc_law.proofs.Contents as sheet_contents
-use Rattle.dbc_law.proofs.Contents.{contents_of}
-use Rattle.dbc_law.proofs.PieceTokens.{line}
-use Rattle.dbc_law.proofs.StatementAttached.{value_texts_write, value_types_write}
-use Rattle.dbc_law.proofs.StatementComments.{file_comment_writes, message_comments_write, node_comment_writes}
-use Rattle.dbc_law.proofs.StatementHeading.{heading_writes, tables_write}
-use Rattle.dbc_law.proofs.StatementLines.{Writes, ◌also◌, means, writes_each, writes_line, writes_none, writes_unless}
-use Rattle.dbc_law.proofs.StatementMessages.{messages_write}
+use Rattle.dbc_law.proofs.StatementLines.{◌also◌, writes_line, writes_none, writes_unless}
 use Rattle.dbc_law.proofs.StatementRules.{chain, finish, past, read}
 use Rattle.dbc_law.proofs.StatementWords.{says_at_most, says_cited}
 use Rattle.dbc_law.proofs.TokenAttached.{spns_legible, value_texts_legible, value_types_legible}

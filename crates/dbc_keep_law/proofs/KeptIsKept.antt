@@ -1,19 +1,13 @@
 -- A kept text is its own kept text.
-use Rattle.std.proofs.Common.{◌≡◌, ◌==◌, ◌&&◌, ◌++◌, ℕ, Bool, true, false, not, List, [], ◌∷◌, map, filter, Option}
-use Rattle.std.proofs.Common.{Some, None, if◌then◌else◌, refl, sym, ap, subst, ◌∙◌}
-use Rattle.std.specs.List.{AllByRecursion, cons_option, flat_map, list_any}
-use Rattle.dbc_sheet.specs.Form.{IsSheet}
-use Rattle.dbc_sheet.specs.declared.sheet.Sheet.{Sheet}
-use Rattle.dbc_grammar.specs.Canon.{line_text}
-use Rattle.dbc_grammar.specs.Division.{AreParts, Divides, Part}
-use Rattle.dbc_grammar.specs.Rules.{many}
-use Rattle.dbc_grammar.specs.Saying.{Says, SaysOneAtMost, is_passed}
-use Rattle.dbc_grammar.specs.Statement.{Content, CommentIs, Dropped, NodesAre, Statement, VersionIs}
-use Rattle.dbc_grammar.specs.Token.{Token}
-use Rattle.dbc_grammar.proofs.Divisions.{divisions_are_parts, one_division, one_parting}
+use Rattle.dbc_keep_law.proofs.Common.{◌≡◌, ◌==◌, ◌&&◌, ◌++◌, ℕ, Bool, true, false, not, List, [], ◌∷◌, map, filter}
+use Rattle.dbc_keep_law.proofs.Common.{Option, Some, None, if◌then◌else◌, refl, sym, ap, subst, ◌∙◌, AllByRecursion}
+use Rattle.dbc_keep_law.proofs.Common.{cons_option, flat_map, list_any, IsSheet, Sheet, line_text, AreParts, Divides}
+use Rattle.dbc_keep_law.proofs.Common.{Part, many, Says, is_passed, Content, CommentIs, Dropped, NodesAre, Statement}
+use Rattle.dbc_keep_law.proofs.Common.{VersionIs, Token, divisions_are_parts, contents_of}
+use Rattle.dbc_grammar.specs.Saying.{SaysOneAtMost}
+use Rattle.dbc_grammar.proofs.Divisions.{one_division, one_parting}
 use Rattle.dbc_grammar.proofs.TokensOnce.{tokens_once}
 use Rattle.dbc_law.proofs.Contents as sheet_contents
-use Rattle.dbc_law.proofs.Contents.{contents_of}
 use Rattle.dbc_keep_law.specs.Kept.{completed, defaults_spn, defines_spn, has_spn, kept_text, lines_at, place_of}
 use Rattle.dbc_keep_law.specs.Law.{Keeps, KeepsPassed, KeptIsKept, KeptIsOne}
 use Rattle.dbc_keep_law.specs.Passages.{Passage, passage_of, passages_of, statements_of}

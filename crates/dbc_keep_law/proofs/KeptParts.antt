@@ -1,25 +1,18 @@
 -- The parts of a kept text: those of canonical lines, and the passed statements, verbatim.
-use Rattle.std.proofs.Common.{◌≡◌, ◌==◌, ◌&&◌, ◌++◌, ℕ, Bool, true, false, not, List, [], ◌∷◌, map, filter, Option}
-use Rattle.std.proofs.Common.{Some, None, if◌then◌else◌, refl, sym, ap, subst, ◌∙◌}
-use Rattle.std.specs.List.{AllByRecursion, flat_map, list_any}
-use Rattle.dbc_sheet.specs.Form.{IsMessage, IsNode, IsSheet}
+use Rattle.dbc_keep_law.proofs.Common.{◌≡◌, ◌==◌, ◌&&◌, ◌++◌, ℕ, Bool, true, false, not, List, [], ◌∷◌, map, filter}
+use Rattle.dbc_keep_law.proofs.Common.{Option, Some, None, if◌then◌else◌, refl, sym, ap, subst, ◌∙◌, AllByRecursion}
+use Rattle.dbc_keep_law.proofs.Common.{flat_map, list_any, IsMessage, IsNode, IsSheet, Sheet, Line, message_comments}
+use Rattle.dbc_keep_law.proofs.Common.{node_comment, spn_default, spn_definition, Part, next, Rule, many, Content}
+use Rattle.dbc_keep_law.proofs.Common.{CommentIs, Dropped, NodesAre, PassedOver, VersionIs, Token, HasTokens}
+use Rattle.dbc_keep_law.proofs.Common.{statements_repeat, line, value_texts_write, value_types_write}
+use Rattle.dbc_keep_law.proofs.Common.{file_comment_writes, message_comments_write, node_comment_writes, heading_writes}
+use Rattle.dbc_keep_law.proofs.Common.{tables_write, Writes, means, writes_each, messages_write}
 use Rattle.dbc_words.specs.declared.keyword.Keyword.TheVariants as keyword
-use Rattle.dbc_sheet.specs.declared.sheet.Sheet.{Sheet}
-use Rattle.dbc_grammar.specs.Canon.{Line, message_comments, node_comment, spn_default, spn_definition}
-use Rattle.dbc_grammar.specs.Division.{IsStatement, Part}
-use Rattle.dbc_grammar.specs.Grammar.{next, statement}
-use Rattle.dbc_grammar.specs.Rules.{Rule, many}
-use Rattle.dbc_grammar.specs.Statement.{Content, CommentIs, Dropped, NodesAre, PassedOver, VersionIs}
-use Rattle.dbc_grammar.specs.Token.{Token}
-use Rattle.dbc_grammar.specs.Tokens.{HasTokens}
-use Rattle.dbc_grammar.proofs.Divisions.{statements_are_runs, statements_repeat}
+use Rattle.dbc_grammar.specs.Division.{IsStatement}
+use Rattle.dbc_grammar.specs.Grammar.{statement}
+use Rattle.dbc_grammar.proofs.Divisions.{statements_are_runs}
 use Rattle.dbc_law.proofs.Contents as sheet_contents
-use Rattle.dbc_law.proofs.PieceTokens.{line, many_append, many_parts}
-use Rattle.dbc_law.proofs.StatementAttached.{value_texts_write, value_types_write}
-use Rattle.dbc_law.proofs.StatementComments.{file_comment_writes, message_comments_write, node_comment_writes}
-use Rattle.dbc_law.proofs.StatementHeading.{heading_writes, tables_write}
-use Rattle.dbc_law.proofs.StatementLines.{Writes, means, writes_each}
-use Rattle.dbc_law.proofs.StatementMessages.{messages_write}
+use Rattle.dbc_law.proofs.PieceTokens.{many_append, many_parts}
 use Rattle.dbc_keep_law.specs.Kept.{defaults_spn, defines_spn, has_spn, kept_lines, kept_text, lines_at, place_of}
 use Rattle.dbc_keep_law.specs.Passages.{Passage, passage_of}
 use Rattle.dbc_keep_law.proofs.ExactLines.{exact_line, first_gap, line_from, lines_exact}

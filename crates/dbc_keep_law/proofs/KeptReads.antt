@@ -1,31 +1,20 @@
 -- A kept text reads as its sheet.
-use Rattle.std.proofs.Common.{◌≡◌, ◌==◌, ℕ, Bool, true, false, not, List, [], ◌∷◌, ◌++◌, map, filter, Option, Some}
-use Rattle.std.proofs.Common.{None, if◌then◌else◌, refl, sym, ap, subst, ◌∙◌, append-nil}
-use Rattle.std.specs.List.{AllByRecursion, filter_map, flat_map, list_any}
-use Rattle.std.specs.Str.{bytes_eq}
-use Rattle.dbc_sheet.specs.Form.{IsSheet}
-use Rattle.dbc_sheet.specs.Messages.{number_of}
+use Rattle.dbc_keep_law.proofs.Common.{◌≡◌, ◌==◌, ℕ, Bool, true, false, not, List, [], ◌∷◌, ◌++◌, map, filter, Option}
+use Rattle.dbc_keep_law.proofs.Common.{Some, None, if◌then◌else◌, refl, sym, ap, subst, ◌∙◌, append-nil, AllByRecursion}
+use Rattle.dbc_keep_law.proofs.Common.{filter_map, flat_map, list_any, bytes_eq, IsSheet, number_of, Version, Node}
+use Rattle.dbc_keep_law.proofs.Common.{Sheet, ValueText, ValueType, Part, SignalKey, Says, each_in, is_passed}
+use Rattle.dbc_keep_law.proofs.Common.{message_in, nodes_in, passed_by, has_message, has_signal, same_signal, keys_of}
+use Rattle.dbc_keep_law.proofs.Common.{Cited, Content, VersionIs, NodesAre, TableIs, MessageIs, CommentIs}
+use Rattle.dbc_keep_law.proofs.Common.{NodeCommentIs, MessageCommentIs, SignalCommentIs, ValueTextsAre, ValueTypeIs}
+use Rattle.dbc_keep_law.proofs.Common.{SpnIs, Dropped, PassedOver, MessageLine, Statement, dbc_number}
+use Rattle.dbc_keep_law.proofs.Common.{divisions_are_parts, contents_of, node_names, each_in-contents}
 use Rattle.dbc_words.specs.ValueType.{value_type_number}
-use Rattle.dbc_words.specs.declared.keyword.Keyword.TheVariants.{Version}
 use Rattle.dbc_sheet.specs.declared.message.Message.{Message}
-use Rattle.dbc_sheet.specs.declared.node.Node.{Node}
-use Rattle.dbc_sheet.specs.declared.sheet.Sheet.{Sheet}
 use Rattle.dbc_sheet.specs.declared.signal.Signal.{Signal}
-use Rattle.dbc_sheet.specs.declared.value_texts.ValueText.{ValueText}
-use Rattle.dbc_words.specs.declared.value_type.ValueType.{ValueType}
-use Rattle.dbc_grammar.specs.Division.{Part}
 use Rattle.dbc_grammar.specs.Reads.{Reads, ReadsAs, ReadsAsOneAtMost}
-use Rattle.dbc_grammar.specs.Saying.{SignalKey, Says, each_in, is_passed, message_in, nodes_in, passed_by, has_message}
-use Rattle.dbc_grammar.specs.Saying.{has_signal, same_signal, keys_of}
-use Rattle.dbc_grammar.specs.Statement.{Cited, Content, VersionIs, NodesAre, TableIs, MessageIs, CommentIs}
-use Rattle.dbc_grammar.specs.Statement.{NodeCommentIs, MessageCommentIs, SignalCommentIs, ValueTextsAre, ValueTypeIs}
-use Rattle.dbc_grammar.specs.Statement.{SpnIs, Dropped, PassedOver, MessageLine, Statement}
-use Rattle.can_id.specs.Ident.{dbc_number}
-use Rattle.dbc_grammar.proofs.Divisions.{divisions_are_parts}
 use Rattle.dbc_law.proofs.Contents as sheet_contents
-use Rattle.dbc_law.proofs.Contents.{contents, contents_of, node_names}
+use Rattle.dbc_law.proofs.Contents.{contents}
 use Rattle.dbc_law.proofs.Saying.{contents_say}
-use Rattle.dbc_law.proofs.SayingContents.{each_in-contents}
 use Rattle.dbc_keep_law.specs.Kept.{kept_text, place_of}
 use Rattle.dbc_keep_law.specs.Law.{Keeps, KeepsSheet}
 use Rattle.dbc_keep_law.specs.Passages.{Passage, passage_of, statements_of}

@@ -1,30 +1,19 @@
 -- The statements of a kept text say its sheet.
-use Rattle.std.proofs.Common.{◌≡◌, ◌==◌, ℕ, Bool, true, false, not, ◌||◌, List, [], ◌∷◌, ◌++◌, map, filter, Option}
-use Rattle.std.proofs.Common.{Some, None, unwrap_or, refl, sym, ap, subst, ◌∙◌, IsPermutation}
-use Rattle.std.specs.List.{AllByRecursion, filter_map, flat_map, last_or, list_any}
-use Rattle.std.specs.Str.{bytes_eq}
-use Rattle.std.proofs.lemmas.List.Elements.{filter-append}
-use Rattle.std.proofs.lemmas.List.Folds.{list_any-append}
+use Rattle.dbc_keep_law.proofs.Common.{◌≡◌, ◌==◌, ℕ, Bool, true, false, not, ◌||◌, List, [], ◌∷◌, ◌++◌, map, filter}
+use Rattle.dbc_keep_law.proofs.Common.{Option, Some, None, unwrap_or, refl, sym, ap, subst, ◌∙◌, IsPermutation}
+use Rattle.dbc_keep_law.proofs.Common.{AllByRecursion, filter_map, flat_map, last_or, list_any, bytes_eq, filter-append}
+use Rattle.dbc_keep_law.proofs.Common.{list_any-append, dbc_number, number_of, Node, Sheet, ValueText, ValueType}
+use Rattle.dbc_keep_law.proofs.Common.{Integer, SignalKey, Says, each_in, has_message, has_signal, is_passed, keys_of}
+use Rattle.dbc_keep_law.proofs.Common.{message_in, nodes_in, same_signal, Cited, Content, NodeCommentIs}
+use Rattle.dbc_keep_law.proofs.Common.{MessageCommentIs, SignalCommentIs, ValueTextsAre, ValueTypeIs, SpnIs, PassedOver}
+use Rattle.dbc_keep_law.proofs.Common.{MessageLine, SignalLine, Statement, contents_of, node_names, each_in-contents}
 use Rattle.std.proofs.lemmas.List.Sorted.{list_any-IsPermutation}
-use Rattle.can_id.specs.Ident.{dbc_number}
-use Rattle.dbc_sheet.specs.Messages.{number_of}
 use Rattle.dbc_sheet.specs.declared.message.Message.{Message}
-use Rattle.dbc_sheet.specs.declared.node.Node.{Node}
-use Rattle.dbc_sheet.specs.declared.sheet.Sheet.{Sheet}
 use Rattle.dbc_sheet.specs.declared.signal.Signal.{Signal}
 use Rattle.dbc_sheet.specs.declared.value_table.ValueTable.{ValueTable}
-use Rattle.dbc_sheet.specs.declared.value_texts.ValueText.{ValueText}
-use Rattle.dbc_words.specs.declared.value_type.ValueType.{ValueType}
-use Rattle.dbc_words.specs.declared.value_type.ValueType.TheVariants.{Integer}
-use Rattle.dbc_grammar.specs.Saying.{SignalKey, Says, comment_in, each_in, has_message, has_node, has_signal, is_passed}
-use Rattle.dbc_grammar.specs.Saying.{keys_of, last_at, message_comment_in, message_in, messages_of, node_comment_in}
-use Rattle.dbc_grammar.specs.Saying.{node_names_of, nodes_in, same_signal, signal_comment_in, spn_in, table_in}
-use Rattle.dbc_grammar.specs.Saying.{value_texts_in, value_type_in, version_in, whole_message, whole_node, whole_signal}
-use Rattle.dbc_grammar.specs.Statement.{Cited, Content, NodeCommentIs, MessageCommentIs, SignalCommentIs}
-use Rattle.dbc_grammar.specs.Statement.{ValueTextsAre, ValueTypeIs, SpnIs, PassedOver, MessageLine, SignalLine}
-use Rattle.dbc_grammar.specs.Statement.{Statement}
-use Rattle.dbc_law.proofs.Contents.{contents_of, node_names}
-use Rattle.dbc_law.proofs.SayingContents.{each_in-contents}
+use Rattle.dbc_grammar.specs.Saying.{comment_in, has_node, last_at, message_comment_in, messages_of, node_comment_in}
+use Rattle.dbc_grammar.specs.Saying.{node_names_of, signal_comment_in, spn_in, table_in, value_texts_in, value_type_in}
+use Rattle.dbc_grammar.specs.Saying.{version_in, whole_message, whole_node, whole_signal}
 use Rattle.dbc_keep_law.proofs.Unheard.{heard}
 
 -- ---- what statements say is what their contents say

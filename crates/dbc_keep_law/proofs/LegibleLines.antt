@@ -1,17 +1,13 @@
 -- Lines whose words are each the longest there have their tokens, one after the other. (The lines of a canonical text
 -- are such lines, and so are the bytes of a statement.)
-use Rattle.std.proofs.Common.{◌≡◌, ◌+◌, ℕ, List, [], ◌∷◌, ◌++◌, length, refl, sym, ap, subst, ◌∙◌, append_assoc, arith}
-use Rattle.std.specs.List.{AllByRecursion, flat_map, list_all}
-use Rattle.std.proofs.lemmas.Bool.{and_from}
-use Rattle.std.proofs.lemmas.List.{length-append}
-use Rattle.std.proofs.lemmas.List.Folds.{list_all-append}
-use Rattle.dbc_grammar.specs.Canon.{Line, Piece, line_text}
-use Rattle.dbc_grammar.specs.Spelling.{Spells, is_gap}
-use Rattle.dbc_grammar.specs.Token.{Token}
-use Rattle.dbc_grammar.specs.Tokens.{HasTokens, IsGap, IsLongest}
-use Rattle.dbc_law.proofs.PieceTokens.{line, lines, token_of}
-use Rattle.dbc_law.proofs.TokenEnds.{word_longest}
-use Rattle.dbc_law.proofs.TokenLegible.{AreLegible, ends_before, pieces_text}
+use Rattle.dbc_keep_law.proofs.Common.{◌≡◌, ◌+◌, ℕ, List, [], ◌∷◌, ◌++◌, length, refl, sym, ap, subst, ◌∙◌}
+use Rattle.dbc_keep_law.proofs.Common.{append_assoc, arith, AllByRecursion, flat_map, list_all, and_from, length-append}
+use Rattle.dbc_keep_law.proofs.Common.{list_all-append, Line, Piece, line_text, Spells, Token, HasTokens, IsLongest}
+use Rattle.dbc_keep_law.proofs.Common.{line, token_of, word_longest, pieces_text}
+use Rattle.dbc_grammar.specs.Spelling.{is_gap}
+use Rattle.dbc_grammar.specs.Tokens.{IsGap}
+use Rattle.dbc_law.proofs.PieceTokens.{lines}
+use Rattle.dbc_law.proofs.TokenLegible.{AreLegible, ends_before}
 
 -- a piece, and those after it in its line
 pub record IsWhole (p : Piece) (after : List Piece) : Type 0 where

@@ -1,3 +1,4 @@
+pub mod Common
 mod LongestBeforeEnd
 mod LegibleLines
 mod Verbatim

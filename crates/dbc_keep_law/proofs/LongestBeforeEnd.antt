@@ -1,21 +1,15 @@
 -- A token that is the longest where it is stays so if the line ends after some of the bytes that follow.
-use Rattle.std.proofs.Common.{◌≡◌, ◌==◌, ◌≤◌, ℕ, Bool, true, false, not, List, [], ◌∷◌, ◌++◌, length, refl, sym, ap}
-use Rattle.std.proofs.Common.{subst, ◌∙◌, append_assoc, arith}
-use Rattle.std.specs.List.{list_all}
+use Rattle.dbc_keep_law.proofs.Common.{◌≡◌, ◌==◌, ◌≤◌, ℕ, Bool, true, false, not, List, [], ◌∷◌, ◌++◌, length, refl}
+use Rattle.dbc_keep_law.proofs.Common.{sym, ap, subst, ◌∙◌, append_assoc, arith, list_all, and_from, and_parts}
+use Rattle.dbc_keep_law.proofs.Common.{nat_tests, list_all-append, Spells, IsLongest, TokenKind, Name, Text, Mark}
+use Rattle.dbc_keep_law.proofs.Common.{word_longest}
 use Rattle.std.specs.Char.{is_ascii_digit}
-use Rattle.std.proofs.lemmas.Bool.{and_from, and_parts}
-use Rattle.std.proofs.lemmas.Bool.Decides.{nat_tests}
-use Rattle.std.proofs.lemmas.List.Folds.{list_all-append}
 use Rattle.dbc_words.specs.Name.{continues_identifier}
 use Rattle.decimal.specs.Spelling.{are_digits, is_exponent, is_fraction, is_letter_e, is_numeral, is_power, is_sign}
-use Rattle.dbc_grammar.specs.Spelling.{Spells}
-use Rattle.dbc_grammar.specs.Tokens.{IsLongest}
-use Rattle.dbc_grammar.specs.declared.token.TokenKind.{TokenKind}
-use Rattle.dbc_grammar.specs.declared.token.TokenKind.TheVariants.{Name, Number, Text, Mark}
+use Rattle.dbc_grammar.specs.declared.token.TokenKind.TheVariants.{Number}
 use Rattle.dbc_grammar.proofs.TokenBytes.{begins_further, one_kind}
 use Rattle.dbc_grammar.proofs.TokenNumbers.{numeral_parts}
 use Rattle.dbc_grammar.proofs.TokenWords.{name_continues}
-use Rattle.dbc_law.proofs.TokenEnds.{word_longest}
 
 -- ---- no byte of a name or a number ends a line
 

@@ -1,10 +1,7 @@
 -- Statements that can't be skipped.
-use Rattle.std.proofs.Common.{List}
+use Rattle.dbc_keep_law.proofs.Common.{List, Rule, Content, Token}
 use Rattle.dbc_grammar.specs.Grammar.{file_comment, message_line, nodes_line, symbols_line, table_line, timing_line}
 use Rattle.dbc_grammar.specs.Grammar.{version_line}
-use Rattle.dbc_grammar.specs.Rules.{Rule}
-use Rattle.dbc_grammar.specs.Statement.{Content}
-use Rattle.dbc_grammar.specs.Token.{Token}
 use Rattle.dbc_keep_law.proofs.FramedStatements.{CanPass, cannot}
 
 -- nothing that the rule reads can be skipped

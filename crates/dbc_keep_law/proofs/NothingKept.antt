@@ -1,14 +1,13 @@
 -- Where no statement was passed over, the kept text is the canonical one.
-use Rattle.std.proofs.Common.{◌≡◌, ◌==◌, ◌||◌, ◌&&◌, ◌++◌, Bool, true, false, not, if◌then◌else◌, List, [], ◌∷◌, map}
-use Rattle.std.proofs.Common.{refl, ap, ◌∙◌, append-nil, append_assoc}
-use Rattle.std.specs.List.{flat_map, list_any}
+use Rattle.dbc_keep_law.proofs.Common.{◌≡◌, ◌==◌, ◌||◌, ◌&&◌, ◌++◌, Bool, true, false, not, if◌then◌else◌, List, []}
+use Rattle.dbc_keep_law.proofs.Common.{◌∷◌, map, refl, ap, ◌∙◌, append-nil, append_assoc, flat_map, list_any, Sheet}
+use Rattle.dbc_keep_law.proofs.Common.{Line, comment_lines, each_signal, line_text, message_comments, message_lines}
+use Rattle.dbc_keep_law.proofs.Common.{node_comment, nodes_line, spn_default, spn_definition, spn_lines, symbols_line}
+use Rattle.dbc_keep_law.proofs.Common.{table_line, timing_line, type_lines, value_lines, version_line}
+use Rattle.dbc_keep_law.proofs.Common.{with_spn_definitions}
 use Rattle.dbc_sheet.specs.declared.message.Message.{Message}
-use Rattle.dbc_sheet.specs.declared.sheet.Sheet.{Sheet}
 use Rattle.dbc_sheet.specs.declared.signal.Signal.{Signal}
-use Rattle.dbc_grammar.specs.Canon.{Line, canonical_lines, comment_lines, each_signal, line_text, message_comments}
-use Rattle.dbc_grammar.specs.Canon.{message_lines, node_comment, nodes_line, spn_default, spn_definition, spn_lines}
-use Rattle.dbc_grammar.specs.Canon.{symbols_line, table_line, timing_line, type_lines, value_lines, version_line}
-use Rattle.dbc_grammar.specs.Canon.{with_spn_definitions}
+use Rattle.dbc_grammar.specs.Canon.{canonical_lines}
 use Rattle.dbc_keep_law.specs.Kept.{has_spn, kept_lines}
 use Rattle.dbc_keep_law.specs.Law.{NothingKept}
 

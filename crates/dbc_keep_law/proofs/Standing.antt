@@ -1,15 +1,7 @@
 -- The line of a passed statement stands for it: it is a statement of the same content wherever it stands.
-use Rattle.std.proofs.Common.{◌≡◌, ◌-◌, ℕ, true, List, [], ◌∷◌, ◌++◌, length, refl, sym, ap, subst, ◌∙◌, arith}
-use Rattle.std.specs.List.{AllByRecursion}
-use Rattle.std.proofs.lemmas.List.{append_cancel_right}
-use Rattle.dbc_grammar.specs.Division.{AreParts, Part}
-use Rattle.dbc_grammar.specs.Grammar.{next, statement}
-use Rattle.dbc_grammar.specs.Statement.{Content}
-use Rattle.dbc_grammar.specs.Token.{Token}
-use Rattle.dbc_grammar.specs.Tokens.{HasTokens}
-use Rattle.dbc_grammar.proofs.Divisions.{statements_repeat}
-use Rattle.dbc_law.proofs.PieceTokens.{line}
-use Rattle.dbc_law.proofs.StatementLines.{Writes}
+use Rattle.dbc_keep_law.proofs.Common.{◌≡◌, ◌-◌, ℕ, true, List, [], ◌∷◌, ◌++◌, length, refl, sym, ap, subst, ◌∙◌, arith}
+use Rattle.dbc_keep_law.proofs.Common.{AllByRecursion, append_cancel_right, AreParts, Part, next, statement, Content}
+use Rattle.dbc_keep_law.proofs.Common.{Token, HasTokens, statements_repeat, line, Writes}
 use Rattle.dbc_keep_law.specs.Passages.{Passage, line_of, passage_of, pieces_from}
 use Rattle.dbc_keep_law.proofs.FramedStatements.{CanPass, Says, statement_moves}
 use Rattle.dbc_keep_law.proofs.ExactLines.{first_gap}

@@ -1,32 +1,18 @@
 -- The statements that stay in the text of another sheet are skipped there too.
-use Rattle.std.proofs.Common.{◌≡◌, ◌&&◌, ℕ, Bool, true, false, not, List, [], ◌∷◌, ◌++◌, map, filter, Option, Some}
-use Rattle.std.proofs.Common.{None, codes, if◌then◌else◌, refl, sym, ap, subst, ◌∙◌, inl, inr}
+use Rattle.dbc_keep_law.proofs.Common.{◌≡◌, ◌&&◌, ℕ, Bool, true, false, not, List, [], ◌∷◌, ◌++◌, map, filter, Option}
+use Rattle.dbc_keep_law.proofs.Common.{Some, None, codes, if◌then◌else◌, refl, sym, ap, subst, ◌∙◌, inl, inr}
+use Rattle.dbc_keep_law.proofs.Common.{AllByRecursion, bytes_eq, and_parts, bytes_eq-Decides, is_numeral, whole_of}
+use Rattle.dbc_keep_law.proofs.Common.{KeywordGroup, Kept, Passed, Refused, keyword_group, keyword_text, Keyword}
+use Rattle.dbc_keep_law.proofs.Common.{Version, NewSymbols, BitTiming, Nodes, ValueTable, Message, Signal, Comment}
+use Rattle.dbc_keep_law.proofs.Common.{ValueTexts, SignalValueType, AttributeValue, Sheet, AreParts, Part, cited_number}
+use Rattle.dbc_keep_law.proofs.Common.{is_a, is_key, file_comment, is_open, is_spn_name, message_line, other_line}
+use Rattle.dbc_keep_law.proofs.Common.{statement, Rule, either, is_passed, passed_by, Content, PassedOver, Statement}
+use Rattle.dbc_keep_law.proofs.Common.{Token, Name, divisions_are_parts, only_passes, kind_is, passes}
 use Rattle.std.specs.Prelude.{is_some}
-use Rattle.std.specs.List.{AllByRecursion}
-use Rattle.std.specs.Str.{bytes_eq}
-use Rattle.std.proofs.lemmas.Bool.{and_parts}
-use Rattle.std.proofs.lemmas.Slice.Eq.{bytes_eq-Decides}
-use Rattle.base.specs.WholeNumber.{is_numeral, whole_of}
-use Rattle.dbc_words.specs.Keyword.{KeywordGroup, Kept, Passed, Refused, keyword_group, keyword_text}
-use Rattle.dbc_words.specs.declared.keyword.Keyword.{Keyword}
-use Rattle.dbc_words.specs.declared.keyword.Keyword.TheVariants.{Version, NewSymbols, BitTiming, Nodes, ValueTable}
-use Rattle.dbc_words.specs.declared.keyword.Keyword.TheVariants.{Message, Signal, Comment, ValueTexts, SignalValueType}
-use Rattle.dbc_words.specs.declared.keyword.Keyword.TheVariants.{AttributeValue}
-use Rattle.dbc_sheet.specs.declared.sheet.Sheet.{Sheet}
-use Rattle.dbc_grammar.specs.Division.{AreParts, Part}
-use Rattle.dbc_grammar.specs.Fields.{cited_number, is_a, is_key}
-use Rattle.dbc_grammar.specs.Grammar.{comment_line, file_comment, independent_line, is_open, is_spn_name, line}
-use Rattle.dbc_grammar.specs.Grammar.{message_comment, message_line, node_comment, other_line, passed_attribute}
-use Rattle.dbc_grammar.specs.Grammar.{passed_comment, passed_line, passed_value_texts, signal_comment, skipped}
-use Rattle.dbc_grammar.specs.Grammar.{spn_line, statement, value_texts_line, value_type_line}
-use Rattle.dbc_grammar.specs.Rules.{Rule, either}
-use Rattle.dbc_grammar.specs.Saying.{is_passed, passed_by}
-use Rattle.dbc_grammar.specs.Statement.{Content, PassedOver, Statement}
-use Rattle.dbc_grammar.specs.Token.{Token}
-use Rattle.dbc_grammar.specs.declared.token.TokenKind.TheVariants.{Name, Number as NumberKind}
-use Rattle.dbc_grammar.proofs.Divisions.{divisions_are_parts}
-use Rattle.dbc_grammar.proofs.Exactness.{only_passes}
-use Rattle.dbc_grammar.proofs.ExactFields.{kind_is, passes}
+use Rattle.dbc_grammar.specs.Grammar.{comment_line, independent_line, line, message_comment, node_comment}
+use Rattle.dbc_grammar.specs.Grammar.{passed_attribute, passed_comment, passed_line, passed_value_texts, signal_comment}
+use Rattle.dbc_grammar.specs.Grammar.{skipped, spn_line, value_texts_line, value_type_line}
+use Rattle.dbc_grammar.specs.declared.token.TokenKind.TheVariants.{Number as NumberKind}
 use Rattle.dbc_keep_law.specs.Found.{others_of, to_mark}
 use Rattle.dbc_keep_law.specs.Kept.{completed, kept_text}
 use Rattle.dbc_keep_law.specs.Law.{Keeps, KeptIsRead, StatementsStay}

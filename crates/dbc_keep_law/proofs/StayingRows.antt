@@ -1,11 +1,11 @@
 -- Why statements stay or not: examples that compute. The sheet has the node `ECU`, and message 100 with the signal
 -- `Speed`.
-use Rattle.std.proofs.Common.{◌≡◌, ℕ, false, List, [], ◌∷◌, Some, None, codes, refl}
+use Rattle.dbc_keep_law.proofs.Common.{◌≡◌, ℕ, false, List, [], ◌∷◌, Some, None, codes, refl, Number, Integer, Sheet}
+use Rattle.dbc_keep_law.proofs.Common.{Mark, Name, Text}
 use Rattle.std.specs.Prelude.{pos}
 use Rattle.bitlayout.specs.declared.layout.Order.TheVariants.{Intel}
 use Rattle.bitlayout.specs.declared.place.Mux.TheVariants.{Always}
 use Rattle.can_id.specs.declared.ident.Ident.TheVariants.{Std}
-use Rattle.decimal.specs.Number.{Number}
 use Rattle.dbc_words.specs.declared.keyword.Keyword.TheVariants.{
   AttributeDefinition,
   AttributeValue,
@@ -17,9 +17,7 @@ use Rattle.dbc_words.specs.declared.keyword.Keyword.TheVariants.{
   SignalValueType,
   ValueTexts,
 }
-use Rattle.dbc_words.specs.declared.value_type.ValueType.TheVariants.{Integer}
-use Rattle.dbc_sheet.specs.declared.sheet.Sheet.{Sheet}
-use Rattle.dbc_grammar.specs.declared.token.TokenKind.TheVariants.{Mark, Name, Number as NumberKind, Text}
+use Rattle.dbc_grammar.specs.declared.token.TokenKind.TheVariants.{Number as NumberKind}
 use Rattle.dbc_keep_law.specs.Staying.{Word, reason_by}
 use Rattle.dbc_keep_law.specs.declared.reason.Reason.TheVariants.{NoMessage, NoNode, NoSignal, SheetSays}
 

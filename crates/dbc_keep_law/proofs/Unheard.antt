@@ -1,15 +1,12 @@
 -- Statements that are passed over say nothing: without them, or some of them, the others say the same sheet.
-use Rattle.std.proofs.Common.{◌≡◌, ◌==◌, ℕ, nat_eq, Bool, true, false, not, ◌||◌, List, [], ◌∷◌, ◌++◌, map, filter}
-use Rattle.std.proofs.Common.{Option, Some, None, unwrap_or, if◌then◌else◌, refl, sym, ap, subst, ◌∙◌, IsPermutation}
-use Rattle.std.proofs.Common.{arith}
-use Rattle.std.specs.List.{AllByRecursion, cons_option, flat_map, last_or, list_any}
-use Rattle.std.specs.Str.{bytes_eq}
-use Rattle.std.proofs.lemmas.Bool.{and_from, and_parts, eqb-true}
-use Rattle.std.proofs.lemmas.Bool.Decides.{nat_tests}
-use Rattle.std.proofs.lemmas.Slice.Eq.{bytes_eq-Decides}
-use Rattle.can_id.specs.Ident.{dbc_number}
-use Rattle.dbc_sheet.specs.declared.sheet.Sheet.{Sheet}
-use Rattle.dbc_words.specs.declared.value_type.ValueType.TheVariants.{Integer}
+use Rattle.dbc_keep_law.proofs.Common.{◌≡◌, ◌==◌, ℕ, Bool, true, false, not, ◌||◌, List, [], ◌∷◌, ◌++◌, map, filter}
+use Rattle.dbc_keep_law.proofs.Common.{Option, Some, None, unwrap_or, if◌then◌else◌, refl, sym, ap, subst, ◌∙◌}
+use Rattle.dbc_keep_law.proofs.Common.{IsPermutation, arith, AllByRecursion, cons_option, flat_map, last_or, list_any}
+use Rattle.dbc_keep_law.proofs.Common.{bytes_eq, and_from, and_parts, eqb-true, nat_tests, bytes_eq-Decides, dbc_number}
+use Rattle.dbc_keep_law.proofs.Common.{Sheet, Integer, Content, VersionIs, NodesAre, TableIs, MessageIs, CommentIs}
+use Rattle.dbc_keep_law.proofs.Common.{NodeCommentIs, MessageCommentIs, SignalCommentIs, ValueTextsAre, ValueTypeIs}
+use Rattle.dbc_keep_law.proofs.Common.{SpnIs, MessageLine, SignalLine, Statement}
+use Rattle.std.proofs.Common.{nat_eq}
 use Rattle.dbc_grammar.specs.Saying.{
   SignalKey,
   Says,
@@ -39,9 +36,6 @@ use Rattle.dbc_grammar.specs.Saying.{
   whole_node,
   whole_signal,
 }
-use Rattle.dbc_grammar.specs.Statement.{Content, VersionIs, NodesAre, TableIs, MessageIs, CommentIs, NodeCommentIs}
-use Rattle.dbc_grammar.specs.Statement.{MessageCommentIs, SignalCommentIs, ValueTextsAre, ValueTypeIs, SpnIs}
-use Rattle.dbc_grammar.specs.Statement.{MessageLine, SignalLine, Statement}
 
 -- the statements without those of some contents
 abbrev pub heard : (Content → Bool) → List Statement → List Statement

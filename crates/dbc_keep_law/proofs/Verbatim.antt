@@ -1,11 +1,7 @@
 -- The line of a run of a source's tokens has the source's bytes, and its words are each the longest there.
-use Rattle.std.proofs.Common.{◌≡◌, ◌-◌, ℕ, List, [], ◌∷◌, ◌++◌, length, take, drop, refl, sym, ap, subst, ◌∙◌}
-use Rattle.std.proofs.Common.{append_assoc, arith}
-use Rattle.std.proofs.lemmas.List.{length-append, drop_at, take_at}
-use Rattle.dbc_grammar.specs.Canon.{Piece}
-use Rattle.dbc_grammar.specs.Token.{Token}
-use Rattle.dbc_grammar.specs.Tokens.{HasTokens, IsLongest}
-use Rattle.dbc_law.proofs.TokenLegible.{pieces_text}
+use Rattle.dbc_keep_law.proofs.Common.{◌≡◌, ◌-◌, ℕ, List, [], ◌∷◌, ◌++◌, length, take, drop, refl, sym, ap, subst, ◌∙◌}
+use Rattle.dbc_keep_law.proofs.Common.{append_assoc, arith, length-append, drop_at, take_at, Piece, Token, HasTokens}
+use Rattle.dbc_keep_law.proofs.Common.{IsLongest, pieces_text}
 use Rattle.dbc_keep_law.specs.Passages.{pieces_from}
 use Rattle.dbc_keep_law.proofs.LegibleLines.{AreWhole}
 use Rattle.dbc_keep_law.proofs.LongestBeforeEnd.{longest_before_end}

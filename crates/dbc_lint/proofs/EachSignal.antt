@@ -1,10 +1,6 @@
 -- The remarks on the signals of a message, one signal after the other.
-use Rattle.std.proofs.Common.{◌≡◌, ◌∙◌, ◌++◌, ◌∷◌, ℕ, List, ap, drop, sym}
-use Rattle.std.proofs.lemmas.List.{append_assoc}
+use Rattle.dbc_lint.proofs.Common.{◌≡◌, ◌∙◌, ◌++◌, ◌∷◌, ℕ, List, ap, drop, sym, append_assoc, Message, Sheet, Signal}
 use Rattle.dbc_grammar.specs.Token.{Token}
-use Rattle.dbc_sheet.specs.declared.message.Message.{Message}
-use Rattle.dbc_sheet.specs.declared.sheet.Sheet.{Sheet}
-use Rattle.dbc_sheet.specs.declared.signal.Signal.{Signal}
 use Rattle.dbc_lint.specs.OfFile.{at_signal, of_signals, start_of}
 use Rattle.dbc_lint.specs.OfSignal.{of_signal}
 use Rattle.dbc_lint.specs.declared.remark.Remark.{Remark}

@@ -1,15 +1,14 @@
 -- What is kept for suspect parameter numbers after one place more.
-use Rattle.std.proofs.Common.{◌≡◌, ◌∙◌, ◌<◌, ◌+◌, ◌++◌, ◌∷◌, ℕ, Bool, true, false, List, [], Option, Some, None}
-use Rattle.std.proofs.Common.{ap, cond, get_or, length, map, refl, subst, sym, take}
-use Rattle.std.specs.Prelude.{◌==◌, is_some}
+use Rattle.dbc_lint.proofs.Common.{◌≡◌, ◌∙◌, ◌<◌, ◌+◌, ◌++◌, ◌∷◌, ℕ, Bool, true, false, List, [], Option, Some, None}
+use Rattle.dbc_lint.proofs.Common.{ap, cond, get_or, length, map, refl, subst, sym, take, is_some, is_eq, append_assoc}
+use Rattle.dbc_lint.proofs.Common.{Message, Signal}
+use Rattle.std.specs.Prelude.{◌==◌}
 use Rattle.std.specs.Cmp.{unsigned_tied}
 use Rattle.std.specs.Option.{option_or}
-use Rattle.std.specs.Ordering.{is_eq, nat_cmp}
+use Rattle.std.specs.Ordering.{nat_cmp}
 use Rattle.std.proofs.lemmas.Bool.{eqb-true, false≢true}
-use Rattle.std.proofs.lemmas.List.{append_assoc, flat_map_more, map_more, take_more}
+use Rattle.std.proofs.lemmas.List.{flat_map_more, map_more, take_more}
 use Rattle.std.proofs.lemmas.List.Folds.{find-append}
-use Rattle.dbc_sheet.specs.declared.message.Message.{Message}
-use Rattle.dbc_sheet.specs.declared.signal.Signal.{Signal}
 use Rattle.dbc_lint.specs.OfSpn.{Place, first_place, has_spn, place_of, places, places_in}
 use Rattle.dbc_lint.specs.SpnPlaces.{HasFirsts, kept_place}
 use Rattle.dbc_lint.specs.declared.spn_places.FirstPlaces.{FirstPlaces}

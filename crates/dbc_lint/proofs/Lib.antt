@@ -1,3 +1,4 @@
+pub mod Common
 pub mod EachSignal
 pub mod LongMessages
 pub mod LongNumbers

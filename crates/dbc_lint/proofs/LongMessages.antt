@@ -1,8 +1,7 @@
 -- How many messages have more than 8 bytes.
-use Rattle.std.proofs.Common.{◌≡◌, ◌∙◌, ◌<◌, ◌+◌, ℕ, Bool, true, false, List, arith, ap, cond, get_or, length, sym, take}
-use Rattle.std.specs.Prelude.{count_by}
+use Rattle.dbc_lint.proofs.Common.{◌≡◌, ◌∙◌, ◌<◌, ◌+◌, ℕ, Bool, true, false, List, arith, ap, cond, get_or, length, sym}
+use Rattle.dbc_lint.proofs.Common.{take, count_by, Message}
 use Rattle.std.proofs.lemmas.List.Sums.{count_by_more_no, count_by_more_yes}
-use Rattle.dbc_sheet.specs.declared.message.Message.{Message}
 use Rattle.dbc_lint.specs.OfMessage.{is_over_8}
 
 counted : (messages : List Message) (i : ℕ) (m : Message) (over : Bool) → i < length messages

@@ -1,15 +1,16 @@
 -- Numbers of more than 36 digits.
-use Rattle.std.proofs.Common.{◌≡◌, ◌⊎◌, inl, inr, ◌<◌, ◌≤◌, ◌-◌, ◌*◌, ◌^◌, ℕ, zero, suc, Bool, true, false, cond, not, ◌&&◌}
-use Rattle.std.proofs.Common.{ℤ, pos, negsuc, neg_ℤ, ◌-ℤ◌, ◌*ℤ◌, unsigned_abs, int_le, arith, refl, sym, ap, subst, ◌∙◌}
-use Rattle.std.proofs.Common.{Some, None, Option, ◌+ℤ◌, option_map, to_z, of_z}
-use Rattle.std.specs.Prelude.{FitsSigned, int_lt, nat_lt, if◌then◌else◌}
-use Rattle.std.specs.Int.{int_min, w16, w128}
+use Rattle.dbc_lint.proofs.Common.{◌≡◌, ◌<◌, ◌≤◌, ℕ, Bool, true, false, cond, not, ◌&&◌, ℤ, ◌-ℤ◌, unsigned_abs, arith}
+use Rattle.dbc_lint.proofs.Common.{refl, sym, ap, subst, ◌∙◌, Some, None, Option, FitsSigned, w16, w128, ints}
+use Rattle.dbc_lint.proofs.Common.{to_z-of_z, Number, Signal}
+use Rattle.std.proofs.Common.{◌⊎◌, inl, inr, ◌-◌, ◌*◌, ◌^◌, zero, suc, pos, negsuc, neg_ℤ, ◌*ℤ◌, int_le, ◌+ℤ◌}
+use Rattle.std.proofs.Common.{option_map, to_z, of_z}
+use Rattle.std.specs.Prelude.{int_lt, nat_lt, if◌then◌else◌}
+use Rattle.std.specs.Int.{int_min}
 use Rattle.std.proofs.lemmas.Bool.{le-ltb, ltb-false, ltb-true, lt-ltb}
-use Rattle.std.proofs.lemmas.Int.{ints, fits_signed_from_abs, to_z-of_z, unsigned_abs-mul}
+use Rattle.std.proofs.lemmas.Int.{fits_signed_from_abs, unsigned_abs-mul}
 use Rattle.std.proofs.Math.IntN.{*ℤ-one, zero-*ℤ}
 use Rattle.std.proofs.Math.Nat.{mul-le-mul_right, pow-le-pow_right}
-use Rattle.decimal.specs.Number.{Number, IsDecimal, mantissa_at}
-use Rattle.dbc_sheet.specs.declared.signal.Signal.{Signal}
+use Rattle.decimal.specs.Number.{IsDecimal, mantissa_at}
 use Rattle.dbc_lint.specs.Numbers.{are_among, is_above, is_among, physical, scaled_at, scaled_of, short, written}
 use Rattle.dbc_lint.specs.declared.range.Scaled.{Scaled}
 

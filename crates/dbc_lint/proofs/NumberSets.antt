@@ -1,13 +1,10 @@
 -- What a set of decimals has after one more.
-use Rattle.std.proofs.Common.{◌≡◌, ◌∙◌, ◌&&◌, ◌||◌, ◌<◌, ◌+◌, ◌++◌, ◌∷◌, ℕ, Bool, true, false, List, cond, not, refl}
-use Rattle.std.proofs.Common.{ap, drop, get_or, length, sym, take}
-use Rattle.std.proofs.lemmas.List.{append_assoc}
+use Rattle.dbc_lint.proofs.Common.{◌≡◌, ◌∙◌, ◌&&◌, ◌||◌, ◌<◌, ◌+◌, ◌++◌, ◌∷◌, ℕ, Bool, true, false, List, cond, not}
+use Rattle.dbc_lint.proofs.Common.{refl, ap, drop, get_or, length, sym, take, append_assoc, is_eq, Number, ValueText}
 use Rattle.std.proofs.lemmas.List.Folds.{list_any_more}
-use Rattle.std.specs.Ordering.{is_eq, ordering_then}
+use Rattle.std.specs.Ordering.{ordering_then}
 use Rattle.std.specs.declared.cmp.Ordering.{Ordering}
 use Rattle.std.specs.declared.cmp.Ordering.TheVariants.{Less, Equal, Greater}
-use Rattle.decimal.specs.Number.{Number}
-use Rattle.dbc_sheet.specs.declared.value_texts.ValueText.{ValueText}
 use Rattle.dbc_lint.specs.NumberSet.{HasValuesOf, holds_number}
 use Rattle.dbc_lint.specs.OfSignal.{has_value, remark_twice, same_number, values_twice}
 use Rattle.dbc_lint.specs.declared.number_set.NumberSet.{NumberSet}

@@ -1,5 +1,7 @@
 -- Worked examples of the definitions: rows for each kind of remark, worked out by hand.
-use Rattle.std.proofs.Common.{◌≡◌, ◌++◌, true, false, ℕ, List, [], ◌∷◌, Option, Some, None, refl, replicate}
+use Rattle.dbc_lint.proofs.Common.{◌≡◌, ◌++◌, true, false, ℕ, List, [], ◌∷◌, Option, Some, None, refl, Number, Message}
+use Rattle.dbc_lint.proofs.Common.{Node, Sheet, Signal, ValueText}
+use Rattle.std.proofs.Common.{replicate}
 use Rattle.std.specs.Fmt.{digits}
 use Rattle.std.specs.Prelude.{ℤ, codes, pos, neg_ℤ}
 use Rattle.bitlayout.specs.declared.layout.Order.TheVariants.{Intel}
@@ -7,15 +9,9 @@ use Rattle.bitlayout.specs.declared.place.Mux.{Mux}
 use Rattle.bitlayout.specs.declared.place.Mux.TheVariants.{Always, Multiplexor, Under}
 use Rattle.can_id.specs.declared.ident.Ident.{Ident}
 use Rattle.can_id.specs.declared.ident.Ident.TheVariants.{Std, Ext}
-use Rattle.decimal.specs.Number.{Number}
 use Rattle.decimal.specs.Printing.{unsigned_text}
 use Rattle.dbc_words.specs.declared.value_type.ValueType.{ValueType}
 use Rattle.dbc_words.specs.declared.value_type.ValueType.TheVariants.{Integer, Float, Double}
-use Rattle.dbc_sheet.specs.declared.message.Message.{Message}
-use Rattle.dbc_sheet.specs.declared.node.Node.{Node}
-use Rattle.dbc_sheet.specs.declared.sheet.Sheet.{Sheet}
-use Rattle.dbc_sheet.specs.declared.signal.Signal.{Signal}
-use Rattle.dbc_sheet.specs.declared.value_texts.ValueText.{ValueText}
 use Rattle.dbc_lint.specs.Kind.{first_unknown, is_chosen}
 use Rattle.dbc_lint.specs.Numbers.{has_range_outside, holds_value, is_above, written}
 use Rattle.dbc_lint.specs.OfMessage.{of_message}

@@ -1,7 +1,5 @@
 -- The names of a list of borrowed ones.
-use Rattle.std.proofs.Common.{◌≡◌, ◌||◌, ◌∷◌, ℕ, List, [], Bor, ap, map, refl}
-use Rattle.std.specs.Str.{bytes_eq}
-use Rattle.dbc_words.specs.Named.{has_name}
+use Rattle.dbc_lint.proofs.Common.{◌≡◌, ◌||◌, ◌∷◌, ℕ, List, [], Bor, ap, map, refl, bytes_eq, has_name}
 use Rattle.dbc_lint.specs.OfNode.{has_text}
 use Rattle.dbc_lint.specs.Whole.{text_of}
 

@@ -1,12 +1,9 @@
 -- Definitions that come after something was cited, and the second reading, which gathers all else.
-use Rattle.std.proofs.Common.{◌≡◌, ◌∙◌, ◌++◌, ℕ, true, List, [], ◌∷◌, length, map, replicate, Some, None, refl, sym, ap}
-use Rattle.std.proofs.Common.{append_assoc, append-nil, subst, true≢false}
-use Rattle.std.specs.Prelude.{unwrap_or}
-use Rattle.dbc_words.specs.declared.keyword.Keyword.{Keyword}
-use Rattle.dbc_grammar.specs.Parsing.{statements_at}
-use Rattle.dbc_grammar.specs.Saying.{messages_of, node_names_of}
+use Rattle.dbc_read.proofs.Common.{◌≡◌, ◌∙◌, ◌++◌, ℕ, true, List, [], ◌∷◌, length, map, replicate, Some, None, refl}
+use Rattle.dbc_read.proofs.Common.{sym, ap, append_assoc, append-nil, subst, true≢false, unwrap_or, Keyword}
+use Rattle.dbc_read.proofs.Common.{statements_at, messages_of, node_names_of, Token, content_of, message_of, names_of}
+use Rattle.dbc_read.proofs.Common.{statement_of, Content, MessageLine, NodeName, Statement}
 use Rattle.dbc_grammar.specs.Statement as dbc
-use Rattle.dbc_grammar.specs.Token.{Token}
 use Rattle.dbc_read.specs.Attaching.{in_signals, with_attached}
 use Rattle.dbc_read.specs.Finding.{FindsAll}
 use Rattle.dbc_read.specs.Gathered.{AreGathered}
@@ -19,12 +16,7 @@ use Rattle.dbc_read.specs.declared.settling.Settled.TheVariants as settled
 use Rattle.dbc_read.proofs.Gathering.{content_gathered, nothing_gathered}
 use Rattle.dbc_read.proofs.OneByOne.{begin_with_rest, is_nothing}
 use Rattle.dbc_read.proofs.Settled.{begun_with, finds_same, gathered_with}
-use Rattle.dbc_statements.specs.Statement.{content_of, message_of, names_of, statement_of}
-use Rattle.dbc_statements.specs.declared.statement.Content.{Content}
 use Rattle.dbc_statements.specs.declared.statement.Content.TheVariants as content
-use Rattle.dbc_statements.specs.declared.statement.MessageLine.{MessageLine}
-use Rattle.dbc_statements.specs.declared.statement.NodeName.{NodeName}
-use Rattle.dbc_statements.specs.declared.statement.Statement.{Statement}
 
 pub same_stated : (tokens : List Token) (a b : List dbc.Statement) → statements_at tokens ≡ Some a
     → statements_at tokens ≡ Some b → a ≡ b

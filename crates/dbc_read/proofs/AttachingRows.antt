@@ -1,12 +1,9 @@
 -- Computed rows of the definitions of indices.
-use Rattle.std.proofs.Common.{◌≡◌, ◌+◌, ℕ, List, [], ◌∷◌, None, Some, refl, arith}
-use Rattle.std.specs.Prelude.{codes}
+use Rattle.dbc_read.proofs.Common.{◌≡◌, ◌+◌, ℕ, List, [], ◌∷◌, None, Some, refl, arith, codes, Signal, CitedSignal}
+use Rattle.dbc_read.proofs.Common.{MessageLine}
 use Rattle.can_id.specs.declared.ident.Ident.TheVariants.{Std}
-use Rattle.dbc_sheet.specs.declared.signal.Signal.{Signal}
 use Rattle.dbc_read.specs.Attaching.{CitesSignalAt, at_index, changed_at, index_after}
-use Rattle.dbc_statements.specs.declared.statement.CitedSignal.{CitedSignal}
 use Rattle.dbc_statements.specs.declared.statement.Content.TheVariants as content
-use Rattle.dbc_statements.specs.declared.statement.MessageLine.{MessageLine}
 
 -- the second of three is changed, and none past the end
 second_changes : at_index (λ n. n + 5) (1 ∷ 2 ∷ 3 ∷ []) 1 ≡ 1 ∷ 7 ∷ 3 ∷ []

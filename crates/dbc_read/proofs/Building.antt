@@ -1,14 +1,11 @@
 -- Messages built of lines: the signals of these have what is attached to them.
-use Rattle.std.proofs.Common.{◌≡◌, ◌∙◌, ◌++◌, ℕ, List, [], ◌∷◌, Option, length, map, replicate, IsPermutation, refl}
-use Rattle.std.proofs.Common.{sym, ap, subst}
+use Rattle.dbc_read.proofs.Common.{◌≡◌, ◌∙◌, ◌++◌, ℕ, List, [], ◌∷◌, Option, length, map, replicate, IsPermutation}
+use Rattle.dbc_read.proofs.Common.{refl, sym, ap, subst, AllByRecursion, Integer, Message, Sheet, Signal, message_with}
+use Rattle.dbc_read.proofs.Common.{HasNothingAttached, HaveNothingAttached, message_of, signals_of, Content}
+use Rattle.dbc_read.proofs.Common.{MessageLine}
 use Rattle.std.specs.Prelude.{drop}
-use Rattle.std.specs.List.{AllByRecursion}
 use Rattle.std.proofs.lemmas.List.Sorted.{IsPermutation-map}
-use Rattle.dbc_words.specs.declared.value_type.ValueType.TheVariants.{Integer}
 use Rattle.dbc_grammar.specs.Statement as dbc
-use Rattle.dbc_sheet.specs.declared.message.Message.{Message}
-use Rattle.dbc_sheet.specs.declared.sheet.Sheet.{Sheet}
-use Rattle.dbc_sheet.specs.declared.signal.Signal.{Signal}
 use Rattle.dbc_read.specs.Attaching.{all_signals, commented, each_fed, feeds_of, in_signals, line_signals}
 use Rattle.dbc_read.specs.Attaching.{messages_of_lines, messages_with}
 use Rattle.dbc_read.specs.Built.{CanBeSheet, IsBuilt, feeds_after, feeds_in, first_or, messages_from, messages_in}
@@ -18,13 +15,9 @@ use Rattle.dbc_read.specs.Gathered.{gathered_after}
 use Rattle.dbc_read.specs.Gathering.{AreBare, HaveNothing}
 use Rattle.dbc_read.specs.declared.feed.Feeds.{Feeds}
 use Rattle.dbc_read.specs.declared.gathered.Gathered.{Gathered}
-use Rattle.dbc_statements.specs.Parts.{message_with}
 use Rattle.dbc_read.specs.declared.passed.Passed.{Passed}
-use Rattle.dbc_statements.specs.Statement.{HasNothingAttached, HaveNothingAttached, NothingIsAttached, message_of}
-use Rattle.dbc_statements.specs.Statement.{signals_of}
-use Rattle.dbc_statements.specs.declared.statement.Content.{Content}
+use Rattle.dbc_statements.specs.Statement.{NothingIsAttached}
 use Rattle.dbc_statements.specs.declared.statement.Content.TheVariants as content
-use Rattle.dbc_statements.specs.declared.statement.MessageLine.{MessageLine}
 
 -- the messages take what is attached, message by message
 pub each_takes : (ms : List dbc.MessageLine) (comments : List (List ℕ)) (f : Feeds)

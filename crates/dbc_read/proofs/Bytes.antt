@@ -1,7 +1,5 @@
 -- Equality of bytes goes both ways.
-use Rattle.std.proofs.Common.{◌≡◌, ◌&&◌, ℕ, List, [], ◌∷◌, refl}
-use Rattle.std.specs.Str.{bytes_eq}
-use Rattle.dbc_grammar.proofs.SheetStated.{nat_flip}
+use Rattle.dbc_read.proofs.Common.{◌≡◌, ◌&&◌, ℕ, List, [], ◌∷◌, refl, bytes_eq, nat_flip}
 
 pub bytes_flip : (xs ys : List ℕ) → bytes_eq xs ys ≡ bytes_eq ys xs
 bytes_flip [] [] = refl

@@ -1,8 +1,7 @@
 -- Items of a list that are changed in place, one after the other, so that each has a property.
-use Rattle.std.proofs.Common.{◌<◌, ◌+◌, ◌++◌, ℕ, List, [], ◌∷◌, length, slice_set, sym, subst}
+use Rattle.dbc_read.proofs.Common.{◌<◌, ◌+◌, ◌++◌, ℕ, List, [], ◌∷◌, length, slice_set, sym, subst, AllByRecursion}
+use Rattle.dbc_read.proofs.Common.{take_more_set}
 use Rattle.std.specs.Prelude.{take}
-use Rattle.std.specs.List.{AllByRecursion}
-use Rattle.std.proofs.lemmas.List.{take_more_set}
 
 with_one : {A : Type 0} (P : A → Type 0) (xs : List A) (y : A) → AllByRecursion P xs → P y
     → AllByRecursion P (xs ++ y ∷ [])

@@ -1,10 +1,8 @@
 -- Computed rows of what a statement defines, and of too many texts.
-use Rattle.std.proofs.Common.{◌≡◌, ℕ, true, false, nat_lt, List, [], ◌∷◌, append-nil, length, refl, subst, sym}
-use Rattle.dbc_words.specs.declared.keyword.Keyword.TheVariants.{Nodes}
+use Rattle.dbc_read.proofs.Common.{◌≡◌, ℕ, true, false, nat_lt, List, [], ◌∷◌, append-nil, length, refl, subst, sym}
+use Rattle.dbc_read.proofs.Common.{Nodes, Cited, ValueText}
 use Rattle.dbc_grammar.specs.Parsing.{statements_at}
 use Rattle.dbc_grammar.specs.Statement as dbc
-use Rattle.dbc_grammar.specs.Statement.{Cited}
-use Rattle.dbc_sheet.specs.declared.value_texts.ValueText.{ValueText}
 use Rattle.dbc_read.specs.Definitions.{AreDefinitions, DefineFurther, has_many_texts, is_definition}
 use Rattle.dbc_read.specs.declared.gathered.Gathered.{Gathered}
 

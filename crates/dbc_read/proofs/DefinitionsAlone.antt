@@ -1,28 +1,16 @@
 -- Definitions that are gathered without what other statements say: a fault of them is one of the whole text.
-use Rattle.std.proofs.Common.{◌≡◌, ◌∙◌, ◌++◌, ℕ, nat_eq, nat_lt, Bool, true, false, if◌then◌else◌, List, [], ◌∷◌}
-use Rattle.std.proofs.Common.{length, map, Option, Some, None, refl, sym, ap, append_assoc, append-nil, arith, subst}
-use Rattle.std.proofs.Common.{true≢false}
-use Rattle.std.specs.Prelude.{IfSome, unwrap_or}
-use Rattle.std.specs.List.{AllByRecursion, cons_option, flat_map, last_or}
-use Rattle.std.specs.Option.{option_map}
-use Rattle.std.specs.Str.{bytes_eq}
-use Rattle.std.proofs.lemmas.Bool.Decides.{nat_tests}
+use Rattle.dbc_read.proofs.Common.{◌≡◌, ◌∙◌, ◌++◌, ℕ, nat_eq, nat_lt, Bool, true, false, if◌then◌else◌, List, [], ◌∷◌}
+use Rattle.dbc_read.proofs.Common.{length, map, Option, Some, None, refl, sym, ap, append_assoc, append-nil, arith}
+use Rattle.dbc_read.proofs.Common.{subst, true≢false, IfSome, unwrap_or, AllByRecursion, cons_option, flat_map, last_or}
+use Rattle.dbc_read.proofs.Common.{option_map, bytes_eq, nat_tests, map-append, filter_map-append, value_text_limit}
+use Rattle.dbc_read.proofs.Common.{Keyword, Integer, SignalKey, comment_in, each_in, last_at, last_value_of}
+use Rattle.dbc_read.proofs.Common.{message_comment_in, message_in, messages_of, node_comment_in, node_names_of}
+use Rattle.dbc_read.proofs.Common.{nodes_in, numbers_of, passed_by, same_signal, signal_comment_in, signal_keys_of}
+use Rattle.dbc_read.proofs.Common.{spn_in, table_in, value_texts_in, value_type_in, version_in, statements_at, Token}
+use Rattle.dbc_read.proofs.Common.{AreFewTexts, ValueText, ReadFault, IsDivided, table_of, content_of, message_of}
+use Rattle.dbc_read.proofs.Common.{names_of, statement_of, Content, NodeName, Statement}
 use Rattle.std.proofs.lemmas.Grind.{flat_map-append}
-use Rattle.std.proofs.lemmas.List.{map-append}
-use Rattle.std.proofs.lemmas.List.Elements.{filter_map-append}
-use Rattle.dbc_words.specs.Limits.{value_text_limit}
-use Rattle.dbc_words.specs.declared.keyword.Keyword.{Keyword}
-use Rattle.dbc_words.specs.declared.value_type.ValueType.TheVariants.{Integer}
-use Rattle.dbc_grammar.specs.Saying.{SignalKey, comment_in, each_in, last_at, last_value_of, message_comment_in}
-use Rattle.dbc_grammar.specs.Saying.{message_in, messages_of, node_comment_in, node_names_of, nodes_in, numbers_of}
-use Rattle.dbc_grammar.specs.Saying.{passed_by, same_signal, signal_comment_in, signal_keys_of, spn_in, table_in}
-use Rattle.dbc_grammar.specs.Saying.{value_texts_in, value_type_in, version_in}
-use Rattle.dbc_grammar.specs.Parsing.{statements_at}
 use Rattle.dbc_grammar.specs.Statement as dbc
-use Rattle.dbc_grammar.specs.Token.{Token}
-use Rattle.dbc_sheet.specs.WellFormed.{AreFewTexts}
-use Rattle.dbc_sheet.specs.declared.value_texts.ValueText.{ValueText}
-use Rattle.dbc_lex.specs.declared.fault.ReadFault.{ReadFault}
 use Rattle.dbc_read.specs.Definitions.{AreDefinitions, HaveFewTexts, IsDefinitionFault, TokensHaveManyTexts}
 use Rattle.dbc_read.specs.Definitions.{has_many_texts, is_definition}
 use Rattle.dbc_read.specs.Faults.{AreDefined, IsFaultOfDefinitions}
@@ -35,13 +23,7 @@ use Rattle.dbc_read.specs.declared.gathered.Gathered.{Gathered}
 use Rattle.dbc_read.specs.declared.passed.Passed.{Passed}
 use Rattle.dbc_read.proofs.Faultless.{can_be_sheet}
 use Rattle.dbc_read.proofs.Refused.{each_middle}
-use Rattle.dbc_statements.specs.Division.{IsDivided}
-use Rattle.dbc_statements.specs.Parts.{table_of}
-use Rattle.dbc_statements.specs.Statement.{content_of, message_of, names_of, statement_of}
-use Rattle.dbc_statements.specs.declared.statement.Content.{Content}
 use Rattle.dbc_statements.specs.declared.statement.Content.TheVariants as content
-use Rattle.dbc_statements.specs.declared.statement.NodeName.{NodeName}
-use Rattle.dbc_statements.specs.declared.statement.Statement.{Statement}
 
 -- Statements one by one.
 

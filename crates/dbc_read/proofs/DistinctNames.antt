@@ -1,17 +1,9 @@
 -- Nodes, messages and signals that are built have names and numbers of their own only where their lines have.
-use Rattle.std.proofs.Common.{◌≡◌, ◌==◌, ℕ, Bool, false, nat_eq, List, [], ◌∷◌, map}
-use Rattle.std.specs.List.{AllByRecursion, IsDistinct, flat_map}
-use Rattle.std.specs.Str.{bytes_eq}
-use Rattle.can_id.specs.Ident.{dbc_number}
-use Rattle.dbc_words.specs.Named.{AreNamedApart}
-use Rattle.dbc_sheet.specs.Messages.{number_of}
-use Rattle.dbc_grammar.specs.Saying.{keys_of, same_signal}
-use Rattle.dbc_sheet.specs.Sheet.{node_name}
-use Rattle.dbc_sheet.specs.Signals.{signal_name}
-use Rattle.dbc_grammar.specs.Statement.{MessageLine, SignalLine}
-use Rattle.dbc_sheet.specs.declared.message.Message.{Message}
-use Rattle.dbc_sheet.specs.declared.node.Node.{Node}
-use Rattle.dbc_sheet.specs.declared.signal.Signal.{Signal}
+use Rattle.dbc_read.proofs.Common.{◌≡◌, ◌==◌, ℕ, Bool, false, nat_eq, List, [], ◌∷◌, map, AllByRecursion, flat_map}
+use Rattle.dbc_read.proofs.Common.{bytes_eq, dbc_number, AreNamedApart, number_of, keys_of, same_signal, node_name}
+use Rattle.dbc_read.proofs.Common.{signal_name, SignalLine, Message, Node, Signal}
+use Rattle.std.specs.List.{IsDistinct}
+use Rattle.dbc_grammar.specs.Statement.{MessageLine}
 use Rattle.dbc_grammar.proofs.SignalKeys.{keys_distinct}
 use Rattle.dbc_read.specs.Built.{feeds_after, messages_from, nodes_from, rest_of, signals_from}
 use Rattle.dbc_read.specs.declared.feed.Feeds.{Feeds}

@@ -1,26 +1,21 @@
 -- What a text that is divided into statements reads as.
-use Rattle.std.proofs.Common.{◌≡◌, ◌∙◌, ℕ, List, Option, None, Some, Result, Ok, map, ap, refl, sym, subst}
-use Rattle.std.specs.Prelude.{IfOk, IfSome}
-use Rattle.std.proofs.lemmas.Option.{IfSome_then}
+use Rattle.dbc_read.proofs.Common.{◌≡◌, ◌∙◌, ℕ, List, Option, None, Some, Result, map, ap, refl, sym, subst, IfSome}
+use Rattle.dbc_read.proofs.Common.{IfSome_then, Keyword, lexed, statements_at, Says, passed_by, Token}
+use Rattle.dbc_read.proofs.Common.{tokens_without_fault, Sheet, ReadFault, IsDivided, no_tokens}
+use Rattle.std.proofs.Common.{Ok}
+use Rattle.std.specs.Prelude.{IfOk}
 use Rattle.std.proofs.lemmas.Result.{IfOk-at_ok}
-use Rattle.dbc_words.specs.declared.keyword.Keyword.{Keyword}
 use Rattle.dbc_grammar.specs.Division.{Divides}
-use Rattle.dbc_grammar.specs.Lexing.{Lexed, lexed}
-use Rattle.dbc_grammar.specs.Parsing.{statements_at}
+use Rattle.dbc_grammar.specs.Lexing.{Lexed}
 use Rattle.dbc_grammar.specs.Reads.{ReadsAs, ReadsAsOneAtMost, ReadsOnlyAs}
-use Rattle.dbc_grammar.specs.Saying.{Says, passed_by}
 use Rattle.dbc_grammar.specs.Statement.{Statement}
-use Rattle.dbc_grammar.specs.Token.{Token}
-use Rattle.dbc_grammar.specs.TokenLaw.{tokens_without_fault}
-use Rattle.dbc_sheet.specs.declared.sheet.Sheet.{Sheet}
 use Rattle.dbc_grammar.proofs.Divisions.{one_division, reading_is_exact}
 use Rattle.dbc_grammar.proofs.OneReading.{reads_only}
 use Rattle.dbc_grammar.proofs.TokenExact.{exact}
 use Rattle.dbc_grammar.proofs.TokensOnce.{tokens_once}
-use Rattle.dbc_lex.specs.declared.fault.ReadFault.{ReadFault}
-use Rattle.dbc_statements.specs.Division.{HasNoDivision, IsDivided}
+use Rattle.dbc_statements.specs.Division.{HasNoDivision}
 use Rattle.dbc_statements.specs.Tokens.{EndsWith}
-use Rattle.dbc_statements.proofs.WholeText.{no_tokens, whole}
+use Rattle.dbc_statements.proofs.WholeText.{whole}
 use Rattle.dbc_read.specs.Built.{CanBeSheet, IsBuilt}
 use Rattle.dbc_read.specs.Faults.{IsFault}
 use Rattle.dbc_read.specs.Gathered.{AreGathered}

@@ -1,14 +1,8 @@
 -- Lists of entries, of which some may be too many, as a loop goes through them.
-use Rattle.std.proofs.Common.{◌≡◌, ◌∙◌, ◌⊎◌, ◌<◌, ◌++◌, ◌∷◌, true, false, List, [], Option, Some, None, is_some, length}
-use Rattle.std.proofs.Common.{nat_lt, inl, inr, refl, sym, ap, append_assoc, arith}
-use Rattle.std.specs.Prelude.{IfNone, IfSome}
-use Rattle.std.specs.List.{AllByRecursion}
-use Rattle.std.proofs.lemmas.Bool.Decides.{nat_tests}
-use Rattle.dbc_words.specs.Limits.{value_text_limit}
-use Rattle.dbc_sheet.specs.WellFormed.{AreFewTexts}
-use Rattle.dbc_sheet.specs.declared.value_texts.ValueText.{ValueText}
-use Rattle.dbc_lex.specs.declared.fault.ReadCode.TheVariants.{TooMany}
-use Rattle.dbc_lex.specs.declared.fault.ReadFault.{ReadFault}
+use Rattle.dbc_read.proofs.Common.{◌≡◌, ◌∙◌, ◌<◌, ◌++◌, ◌∷◌, true, false, List, [], Option, Some, None, is_some, length}
+use Rattle.dbc_read.proofs.Common.{nat_lt, inl, inr, refl, sym, ap, append_assoc, arith, IfNone, IfSome, AllByRecursion}
+use Rattle.dbc_read.proofs.Common.{nat_tests, value_text_limit, AreFewTexts, ValueText, TooMany, ReadFault}
+use Rattle.std.proofs.Common.{◌⊎◌}
 use Rattle.dbc_read.specs.Faults.{IsEntriesFault}
 
 -- the fault of one of the lists, or none if none is too long

@@ -1,19 +1,11 @@
 -- Where no item is at fault, all that is gathered can be in one sheet; and only there.
-use Rattle.std.proofs.Common.{◌≡◌, ◌∙◌, ◌≤◌, ◌&&◌, ℕ, Bool, arith, false, nat_eq, List, [], ◌∷◌, length, map, drop}
-use Rattle.std.proofs.Common.{refl, sym, ap, subst}
-use Rattle.std.specs.List.{AllByRecursion, IsDistinct}
-use Rattle.std.specs.Str.{bytes_eq}
-use Rattle.std.proofs.lemmas.List.{length-map}
-use Rattle.bitlayout.specs.Mux.{is_multiplexor}
+use Rattle.dbc_read.proofs.Common.{◌≡◌, ◌∙◌, ◌≤◌, ◌&&◌, ℕ, Bool, arith, false, nat_eq, List, [], ◌∷◌, length, map, drop}
+use Rattle.dbc_read.proofs.Common.{refl, sym, ap, subst, AllByRecursion, bytes_eq, length-map, is_multiplexor}
+use Rattle.dbc_read.proofs.Common.{message_limit, roster_limit, message_name, number_of, node_name, table_name}
+use Rattle.dbc_read.proofs.Common.{signal_name, AreFewTexts, Signal, ValueTable, ValueText, table_of, message_of}
+use Rattle.dbc_read.proofs.Common.{names_of, signals_of, MessageLine, NodeName, TableLine}
+use Rattle.std.specs.List.{IsDistinct}
 use Rattle.bitlayout.specs.declared.place.Mux.{Mux}
-use Rattle.dbc_words.specs.Limits.{message_limit, roster_limit}
-use Rattle.dbc_sheet.specs.Messages.{message_name, number_of}
-use Rattle.dbc_sheet.specs.Sheet.{node_name, table_name}
-use Rattle.dbc_sheet.specs.Signals.{signal_name}
-use Rattle.dbc_sheet.specs.WellFormed.{AreFewTexts}
-use Rattle.dbc_sheet.specs.declared.signal.Signal.{Signal}
-use Rattle.dbc_sheet.specs.declared.value_table.ValueTable.{ValueTable}
-use Rattle.dbc_sheet.specs.declared.value_texts.ValueText.{ValueText}
 use Rattle.dbc_read.specs.Built.{CanBeSheet, feeds_after, feeds_in, first_or, messages_from, nodes_from, rest_of}
 use Rattle.dbc_read.specs.Built.{signals_from}
 use Rattle.dbc_read.specs.Described.{Described, described, described_with, own_offsets}
@@ -22,12 +14,7 @@ use Rattle.dbc_read.specs.Fit.{IsFit}
 use Rattle.dbc_read.specs.declared.feed.Feeds.{Feeds}
 use Rattle.dbc_read.specs.declared.gathered.Gathered.{Gathered}
 use Rattle.dbc_read.proofs.DistinctNames.{apart_mapped}
-use Rattle.dbc_statements.specs.Parts.{table_of}
-use Rattle.dbc_statements.specs.Statement.{message_of, names_of, signals_of}
-use Rattle.dbc_statements.specs.declared.statement.MessageLine.{MessageLine}
-use Rattle.dbc_statements.specs.declared.statement.NodeName.{NodeName}
 use Rattle.dbc_statements.specs.declared.statement.SignalOffsets.{SignalOffsets}
-use Rattle.dbc_statements.specs.declared.statement.TableLine.{TableLine}
 
 -- Things that have the keys of others are as distinct as those, and as many.
 module _ {A B K : Type 0} (same : K → K → Bool) (f : A → K) (g : B → K) where

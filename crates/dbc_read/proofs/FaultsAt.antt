@@ -1,11 +1,8 @@
 -- The fault at an item of a list.
-use Rattle.std.proofs.Common.{◌≡◌, ◌<◌, ◌+◌, ℕ, List, Option, Some, None, length, take, drop, get_or}
-use Rattle.std.specs.Prelude.{IfNone, IfSome}
-use Rattle.dbc_lex.specs.declared.fault.ReadCode.{ReadCode}
-use Rattle.dbc_lex.specs.declared.fault.ReadFault.{ReadFault}
+use Rattle.dbc_read.proofs.Common.{◌≡◌, ◌<◌, ◌+◌, ℕ, List, Option, Some, None, length, take, drop, get_or, IfNone}
+use Rattle.dbc_read.proofs.Common.{IfSome, ReadCode, ReadFault, MessageLine}
 use Rattle.dbc_read.specs.Described.{described}
 use Rattle.dbc_read.specs.Faults.{HaveSignalLines, IsFaultAt, IsFaultOfSignals, IsSignalsFault}
-use Rattle.dbc_statements.specs.declared.statement.MessageLine.{MessageLine}
 use Rattle.dbc_read.proofs.IteratorItems.{item_parts}
 
 module _ {A : Type 0} (offset : A → ℕ) (IsRefused : List A → A → ReadCode → Type 0) (items : List A) where

@@ -1,29 +1,19 @@
 -- What is gathered with a fault can't be in one sheet.
-use Rattle.std.proofs.Common.{◌≡◌, ◌∙◌, ◌≤◌, ◌+◌, ◌++◌, ◌&&◌, ◌||◌, ◌==◌, ℕ, Bool, true, false, List, [], ◌∷◌, length}
-use Rattle.std.proofs.Common.{length-append, refl, sym, subst, arith, true≢false}
-use Rattle.std.specs.List.{AllByRecursion, list_any}
-use Rattle.std.specs.Str.{bytes_eq}
-use Rattle.bitlayout.specs.Mux.{is_multiplexor}
-use Rattle.dbc_words.specs.Limits.{message_limit, roster_limit}
-use Rattle.dbc_words.specs.Named.{has_name}
+use Rattle.dbc_read.proofs.Common.{◌≡◌, ◌∙◌, ◌≤◌, ◌+◌, ◌++◌, ◌&&◌, ◌||◌, ◌==◌, ℕ, Bool, true, false, List, [], ◌∷◌}
+use Rattle.dbc_read.proofs.Common.{length, length-append, refl, sym, subst, arith, true≢false, AllByRecursion, list_any}
+use Rattle.dbc_read.proofs.Common.{bytes_eq, is_multiplexor, message_limit, roster_limit, has_name, AreFewTexts}
+use Rattle.dbc_read.proofs.Common.{ValueText, ReadCode, TooMany, ReadFault, MessageLine, NodeName, TableLine}
 use Rattle.dbc_grammar.specs.Statement.{Statement}
-use Rattle.dbc_sheet.specs.WellFormed.{AreFewTexts}
-use Rattle.dbc_sheet.specs.declared.value_texts.ValueText.{ValueText}
-use Rattle.dbc_lex.specs.declared.fault.ReadCode.{ReadCode}
-use Rattle.dbc_lex.specs.declared.fault.ReadCode.TheVariants.{DoubleName, DoubleNumber, TooMany, TwoMultiplexors}
-use Rattle.dbc_lex.specs.declared.fault.ReadFault.{ReadFault}
+use Rattle.dbc_lex.specs.declared.fault.ReadCode.TheVariants.{DoubleName, DoubleNumber, TwoMultiplexors}
 use Rattle.dbc_read.specs.Built.{CanBeSheet}
 use Rattle.dbc_read.specs.Described.{Described, described}
 use Rattle.dbc_read.specs.Faults as faults
 use Rattle.dbc_read.specs.Faults.{AreDefined, AreMessageLines, AreNamedWithin, AreNumbered, AreSignalLines}
 use Rattle.dbc_read.specs.Faults.{HaveOneMultiplexor, HaveSignalLines, IsEntriesFault, IsFault, IsFaultAt}
 use Rattle.dbc_read.specs.Faults.{IsFaultOfDefinitions, IsFaultOfMessages, IsFaultOfSignals, IsMultiplexorRefused}
-use Rattle.dbc_read.specs.Faults.{IsNameRefused, IsNumberRefused, IsSignalsFault, entries_of, line_number}
+use Rattle.dbc_read.specs.Faults.{IsNameRefused, IsNumberRefused, entries_of, line_number}
 use Rattle.dbc_read.specs.Gathered.{AreGathered}
 use Rattle.dbc_read.specs.declared.gathered.Gathered.{Gathered}
-use Rattle.dbc_statements.specs.declared.statement.MessageLine.{MessageLine}
-use Rattle.dbc_statements.specs.declared.statement.NodeName.{NodeName}
-use Rattle.dbc_statements.specs.declared.statement.TableLine.{TableLine}
 use Rattle.dbc_read.proofs.Faultless.{defined_if_sheet}
 use Rattle.dbc_read.proofs.Refused.{each_middle, none_before}
 use Rattle.dbc_read.proofs.SheetsStated.{values_few}

@@ -1,9 +1,10 @@
 -- Items of a list that are changed in place, one after the other, by what is left of something.
-use Rattle.std.proofs.Common.{◌≡◌, ◌<◌, ◌+◌, ◌∙◌, ◌++◌, ℕ, zero, suc, List, [], ◌∷◌, length, map, map-id}
-use Rattle.std.proofs.Common.{slice_index_or, slice_set, refl, sym, ap, subst, append_assoc, arith}
+use Rattle.dbc_read.proofs.Common.{◌≡◌, ◌<◌, ◌+◌, ◌∙◌, ◌++◌, ℕ, zero, suc, List, [], ◌∷◌, length, map, slice_index_or}
+use Rattle.dbc_read.proofs.Common.{slice_set, refl, sym, ap, subst, append_assoc, arith, AllByRecursion, drop_more}
+use Rattle.dbc_read.proofs.Common.{map-append, take_more_set}
+use Rattle.std.proofs.Common.{map-id}
 use Rattle.std.specs.Prelude.{drop, take}
-use Rattle.std.specs.List.{AllByRecursion}
-use Rattle.std.proofs.lemmas.List.{drop-set-lt, drop_more, map-append, take_more_set}
+use Rattle.std.proofs.lemmas.List.{drop-set-lt}
 use Rattle.dbc_read.specs.Refusal.{Unless}
 use Rattle.dbc_read.specs.declared.refusal.Refusal.{Refusal}
 use Rattle.dbc_read.proofs.Refused.{each_middle, unless}

@@ -1,16 +1,13 @@
 -- Loops that look for the first item that is above a limit, or has the key of an earlier one: the items that they
 -- passed, and the set of their keys.
-use Rattle.std.proofs.Common.{◌≡◌, ◌≤◌, ◌<◌, ◌+◌, ◌∙◌, ◌||◌, ℕ, Bool, true, false, cond, not, List, [], ◌∷◌, ◌++◌}
-use Rattle.std.proofs.Common.{length, take, refl, sym, ap, arith, true≢false}
+use Rattle.dbc_read.proofs.Common.{◌≡◌, ◌≤◌, ◌<◌, ◌+◌, ◌∙◌, ◌||◌, ℕ, Bool, true, false, cond, not, List, [], ◌∷◌, ◌++◌}
+use Rattle.dbc_read.proofs.Common.{length, take, refl, sym, ap, arith, true≢false, AllByRecursion, list_any, is_eq}
+use Rattle.dbc_read.proofs.Common.{Ordering, list_any-append, has_name}
 use Rattle.std.specs.BTreeSet.{BTreeSet, IsEmpty, Updates, btree_set_len, contains}
-use Rattle.std.specs.List.{AllByRecursion, IsDistinct, list_any}
-use Rattle.std.specs.Ordering.{is_eq}
-use Rattle.std.specs.declared.cmp.Ordering.{Ordering}
+use Rattle.std.specs.List.{IsDistinct}
 use Rattle.std.proofs.Math.Bool.{or_comm}
 use Rattle.std.proofs.lemmas.Bool.{or_parts}
 use Rattle.std.proofs.lemmas.List.{length-append}
-use Rattle.std.proofs.lemmas.List.Folds.{list_any-append}
-use Rattle.dbc_words.specs.Named.{has_name}
 
 each_and_last : {A : Type 0} (P : A → Type 0) (xs : List A) (x : A) → AllByRecursion P xs → P x
     → AllByRecursion P (xs ++ x ∷ [])

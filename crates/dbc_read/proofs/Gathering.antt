@@ -1,24 +1,22 @@
 -- A loop that gathers what one statement after the other says: what is gathered so far and what is left to say is all
 -- that the statements say.
-use Rattle.std.proofs.Common.{◌≡◌, ◌==◌, ◌&&◌, ◌||◌, ◌++◌, ◌∙◌, ℕ, zero, suc, Bool, true, false, not, cond, List, []}
-use Rattle.std.proofs.Common.{◌∷◌, length, map, filter, replicate, Option, Some, None, is_some, if◌then◌else◌, nat_eq}
-use Rattle.std.proofs.Common.{refl, sym, ap, append_assoc, append-nil, subst, true≢false}
-use Rattle.std.specs.Prelude.{drop, slice_get, unwrap_or}
+use Rattle.dbc_read.proofs.Common.{◌≡◌, ◌==◌, ◌&&◌, ◌||◌, ◌++◌, ◌∙◌, ℕ, zero, suc, Bool, true, false, not, cond, List}
+use Rattle.dbc_read.proofs.Common.{[], ◌∷◌, length, map, replicate, Option, Some, None, is_some, if◌then◌else◌, nat_eq}
+use Rattle.dbc_read.proofs.Common.{refl, sym, ap, append_assoc, append-nil, subst, true≢false, slice_get, unwrap_or}
+use Rattle.dbc_read.proofs.Common.{AllByRecursion, cons_option, last_or, list_any, bytes_eq, map-append, Keyword}
+use Rattle.dbc_read.proofs.Common.{Integer, SignalKey, comment_in, each_in, last_at, message_comment_in, messages_of}
+use Rattle.dbc_read.proofs.Common.{node_comment_in, node_names_of, numbers_of, passed_by, same_signal}
+use Rattle.dbc_read.proofs.Common.{signal_comment_in, signal_keys_of, spn_in, table_in, value_texts_in, value_type_in}
+use Rattle.dbc_read.proofs.Common.{version_in, Cited, ValueText, table_of, content_of, message_of, names_of}
+use Rattle.dbc_read.proofs.Common.{statement_of, Content, NodeName, Statement}
+use Rattle.std.proofs.Common.{filter}
+use Rattle.std.specs.Prelude.{drop}
 use Rattle.std.specs.Cmp.{IsEquivalence, nat_eq_equiv}
 use Rattle.std.specs.Cmp.Lexicographic.{lists_equiv}
-use Rattle.std.specs.List.{AllByRecursion, IsDistinct, cons_option, last_or, list_any}
-use Rattle.std.specs.Str.{bytes_eq}
-use Rattle.std.proofs.lemmas.List.{map-append}
-use Rattle.dbc_words.specs.declared.keyword.Keyword.{Keyword}
+use Rattle.std.specs.List.{IsDistinct}
 use Rattle.dbc_words.specs.declared.value_type.ValueType.{ValueType}
-use Rattle.dbc_words.specs.declared.value_type.ValueType.TheVariants.{Integer}
-use Rattle.dbc_grammar.specs.Saying.{SignalKey, comment_in, each_in, has_message, has_signal, is_passed, last_at}
-use Rattle.dbc_grammar.specs.Saying.{message_comment_in, messages_of, node_comment_in, node_names_of, numbers_of}
-use Rattle.dbc_grammar.specs.Saying.{passed_by, same_signal, signal_comment_in, signal_keys_of, spn_in, table_in}
-use Rattle.dbc_grammar.specs.Saying.{value_texts_in, value_type_in, version_in, with_signal_key}
+use Rattle.dbc_grammar.specs.Saying.{has_message, has_signal, is_passed, with_signal_key}
 use Rattle.dbc_grammar.specs.Statement as dbc
-use Rattle.dbc_grammar.specs.Statement.{Cited}
-use Rattle.dbc_sheet.specs.declared.value_texts.ValueText.{ValueText}
 use Rattle.dbc_read.specs.Built.{first_or}
 use Rattle.dbc_read.specs.Lookup.{IsIndexIn}
 use Rattle.dbc_read.specs.Gathering.{Gathers, finished, passed_in, passed_pair}
@@ -27,12 +25,7 @@ use Rattle.dbc_read.specs.Passed.{start_and_keyword}
 use Rattle.dbc_read.specs.Lookups.{AreCitedIndices, IsCitedIndex, IsMessageIndex, IsSignalIndex}
 use Rattle.dbc_read.specs.declared.gathered.Gathered.{Gathered}
 use Rattle.dbc_read.specs.declared.passed.Passed.{Passed}
-use Rattle.dbc_statements.specs.Parts.{table_of}
-use Rattle.dbc_statements.specs.Statement.{content_of, message_of, names_of, statement_of}
-use Rattle.dbc_statements.specs.declared.statement.Content.{Content}
 use Rattle.dbc_statements.specs.declared.statement.Content.TheVariants as content
-use Rattle.dbc_statements.specs.declared.statement.NodeName.{NodeName}
-use Rattle.dbc_statements.specs.declared.statement.Statement.{Statement}
 
 pub some_true : (b : Bool) → Some b ≡ Some true → b ≡ true
 some_true b e = ap (λ o. unwrap_or o false) e

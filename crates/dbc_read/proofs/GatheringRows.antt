@@ -1,7 +1,5 @@
 -- Computed rows of what is gathered.
-use Rattle.std.proofs.Common.{◌≡◌, ℕ, [], ◌∷◌, None, Some, nat_eq, refl}
-use Rattle.std.specs.Prelude.{codes}
-use Rattle.dbc_words.specs.declared.keyword.Keyword.TheVariants.{Nodes}
+use Rattle.dbc_read.proofs.Common.{◌≡◌, ℕ, [], ◌∷◌, None, Some, nat_eq, refl, codes, Nodes, MessageLine}
 use Rattle.dbc_grammar.specs.Parsing.{statements_at}
 use Rattle.dbc_grammar.specs.Statement as dbc
 use Rattle.dbc_read.specs.Attaching.{commented}
@@ -12,7 +10,6 @@ use Rattle.dbc_read.specs.declared.gathered.Gathered.{Gathered}
 use Rattle.dbc_read.specs.declared.passed.Passed.{Passed}
 use Rattle.dbc_read.specs.declared.settling.Settled.TheVariants as settled
 use Rattle.dbc_statements.specs.declared.statement.Content.TheVariants as content
-use Rattle.dbc_statements.specs.declared.statement.MessageLine.{MessageLine}
 
 -- nothing is gathered
 abbrev pub nothing : Gathered

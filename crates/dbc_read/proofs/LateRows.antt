@@ -1,7 +1,6 @@
 -- Computed rows of definitions that come after something was cited.
-use Rattle.std.proofs.Common.{◌≡◌, ◌++◌, true, List, [], ◌∷◌, None, refl, sym, append-nil, subst}
-use Rattle.std.specs.Prelude.{codes}
-use Rattle.dbc_words.specs.declared.keyword.Keyword.TheVariants.{Nodes}
+use Rattle.dbc_read.proofs.Common.{◌≡◌, ◌++◌, true, List, [], ◌∷◌, None, refl, sym, append-nil, subst, codes, Nodes}
+use Rattle.dbc_read.proofs.Common.{content_of, statement_of, MessageLine, Statement}
 use Rattle.dbc_grammar.specs.Parsing.{statements_at}
 use Rattle.dbc_grammar.specs.Statement as dbc
 use Rattle.dbc_read.specs.Definitions.{AreDefinitions}
@@ -14,9 +13,6 @@ use Rattle.dbc_read.specs.declared.one_by_one.Found.TheVariants as found
 use Rattle.dbc_read.proofs.Apart.{none_apart, skipped_apart}
 use Rattle.dbc_read.proofs.DefinitionsAlone.{one_gathered}
 use Rattle.dbc_read.proofs.GatheringRows.{nothing}
-use Rattle.dbc_statements.specs.Statement.{content_of, statement_of}
-use Rattle.dbc_statements.specs.declared.statement.MessageLine.{MessageLine}
-use Rattle.dbc_statements.specs.declared.statement.Statement.{Statement}
 
 pub nothing_is_stated : AreGathered [] nothing
 nothing_is_stated = record {

@@ -1,3 +1,4 @@
+pub mod Common
 pub mod IteratorItems
 pub mod LookingUp
 pub mod Ordered

@@ -1,16 +1,12 @@
 -- What a binary search finds in a look-up.
-use Rattle.std.proofs.Common.{◌≡◌, ◌<◌, ◌∙◌, ◌||◌, ◌++◌, ℕ, zero, suc, Bool, true, false, List, [], ◌∷◌, length, get_or}
-use Rattle.std.proofs.Common.{map, Option, Some, None, refl, sym, ap, subst, inl, inr, append_assoc, arith}
-use Rattle.std.specs.Prelude.{slice_get}
+use Rattle.dbc_read.proofs.Common.{◌≡◌, ◌<◌, ◌∙◌, ◌||◌, ◌++◌, ℕ, zero, suc, Bool, true, false, List, [], ◌∷◌, length}
+use Rattle.dbc_read.proofs.Common.{get_or, map, Option, Some, None, refl, sym, ap, subst, inl, inr, append_assoc, arith}
+use Rattle.dbc_read.proofs.Common.{slice_get, All, AllByRecursion, HoldsAt, list_any, IsNonDecreasingBy}
+use Rattle.dbc_read.proofs.Common.{IsPartitionPoint, is_eq, ordering_index, Ordering, Less, Equal, Greater, cases_lt}
+use Rattle.dbc_read.proofs.Common.{All-permutation, IsPermutation-sym, searchable_from_sorted}
 use Rattle.std.specs.Cmp.{IsTotalOrder}
-use Rattle.std.specs.List.{All, AllByRecursion, HoldsAt, list_any}
-use Rattle.std.specs.List.Sorted.{IsNonDecreasingBy, IsPartitionPoint}
-use Rattle.std.specs.Ordering.{eq_by_cmp, is_eq, ordering_index}
-use Rattle.std.specs.declared.cmp.Ordering.{Ordering}
-use Rattle.std.specs.declared.cmp.Ordering.TheVariants.{Less, Equal, Greater}
-use Rattle.std.proofs.lemmas.Bool.{cases_lt}
+use Rattle.std.specs.Ordering.{eq_by_cmp}
 use Rattle.std.proofs.lemmas.List.Elements.{All-from_recursion, recursion_from_All}
-use Rattle.std.proofs.lemmas.List.Sorted.{All-permutation, IsPermutation-sym, searchable_from_sorted}
 use Rattle.dbc_read.specs.Lookup.{IsLookupOf, IsIndexIn, with_indices}
 use Rattle.dbc_read.specs.declared.lookup.Lookup.{Lookup}
 

@@ -1,6 +1,7 @@
 -- Signals of which one at most is the multiplexor, as a loop goes through them.
-use Rattle.std.proofs.Common.{◌≡◌, ◌∙◌, ◌&&◌, ◌||◌, Bool, true, false, List, [], ◌∷◌, ◌++◌, refl, sym, ap}
-use Rattle.std.specs.List.{IsDistinct, list_any}
+use Rattle.dbc_read.proofs.Common.{◌≡◌, ◌∙◌, ◌&&◌, ◌||◌, Bool, true, false, List, [], ◌∷◌, ◌++◌, refl, sym, ap}
+use Rattle.dbc_read.proofs.Common.{list_any}
+use Rattle.std.specs.List.{IsDistinct}
 use Rattle.dbc_read.proofs.FirstRefused.{any_and_last, apart_and_last}
 
 module _ {A : Type 0} (test : A → Bool) where

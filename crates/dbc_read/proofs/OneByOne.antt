@@ -1,15 +1,11 @@
 -- Statements that are gathered as they come: first those that cite nothing, and then those that define nothing that
 -- could be cited, which Settled.antt goes on with.
-use Rattle.std.proofs.Common.{◌≡◌, ◌∙◌, ◌++◌, ℕ, true, false, List, [], ◌∷◌, length, map, Option, Some, None, refl, sym}
-use Rattle.std.proofs.Common.{ap, append_assoc, append-nil, subst, true≢false}
-use Rattle.std.specs.List.{cons_option, flat_map}
-use Rattle.std.specs.Option.{option_map}
-use Rattle.std.proofs.lemmas.List.Elements.{filter_map-append}
-use Rattle.dbc_grammar.specs.Parsing.{statements_at}
-use Rattle.dbc_grammar.specs.Saying.{each_in, message_in, messages_of, node_names_of, nodes_in, numbers_of}
-use Rattle.dbc_grammar.specs.Saying.{signal_keys_of}
+use Rattle.dbc_read.proofs.Common.{◌≡◌, ◌∙◌, ◌++◌, ℕ, true, false, List, [], ◌∷◌, length, map, Option, Some, None, refl}
+use Rattle.dbc_read.proofs.Common.{sym, ap, append_assoc, append-nil, subst, true≢false, cons_option, flat_map}
+use Rattle.dbc_read.proofs.Common.{option_map, filter_map-append, statements_at, each_in, message_in, messages_of}
+use Rattle.dbc_read.proofs.Common.{node_names_of, nodes_in, numbers_of, signal_keys_of, Token, content_of, message_of}
+use Rattle.dbc_read.proofs.Common.{names_of, statement_of, Content, MessageLine, NodeName, Statement}
 use Rattle.dbc_grammar.specs.Statement as dbc
-use Rattle.dbc_grammar.specs.Token.{Token}
 use Rattle.dbc_read.specs.Gathered.{IsNothing, gathered_after, passed_of}
 use Rattle.dbc_read.specs.Gathering.{BeginWith, DefineNothing, Gathers, IsDefining, IsEmpty, cites, defines}
 use Rattle.dbc_read.specs.Gathering.{with_definitions, with_empty, with_nothing_attached}
@@ -18,12 +14,7 @@ use Rattle.dbc_read.specs.declared.gathered.Gathered.{Gathered}
 use Rattle.dbc_read.specs.declared.passed.Passed.{Passed}
 use Rattle.dbc_read.proofs.Gathering.{nothing_gathered, one_gathered}
 use Rattle.dbc_statements.specs.Left.{BeginsWith}
-use Rattle.dbc_statements.specs.Statement.{content_of, message_of, names_of, statement_of}
-use Rattle.dbc_statements.specs.declared.statement.Content.{Content}
 use Rattle.dbc_statements.specs.declared.statement.Content.TheVariants as content
-use Rattle.dbc_statements.specs.declared.statement.MessageLine.{MessageLine}
-use Rattle.dbc_statements.specs.declared.statement.NodeName.{NodeName}
-use Rattle.dbc_statements.specs.declared.statement.Statement.{Statement}
 
 -- Tokens that begin with statements.
 

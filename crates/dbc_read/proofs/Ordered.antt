@@ -1,23 +1,13 @@
 -- What a binary search finds in an order of names, and the orders of the signals of lines.
-use Rattle.std.proofs.Common.{◌≡◌, ◌<◌, ◌∙◌, ◌||◌, ℕ, zero, suc, Bool, true, false, List, [], ◌∷◌, length, get_or, map}
-use Rattle.std.proofs.Common.{Option, Some, Box, Global, refl, sym, ap, subst, inl, inr, arith}
-use Rattle.std.specs.Prelude.{slice_get}
-use Rattle.std.specs.Cmp.Lexicographic.{nat_list_cmp_total, texts_ties}
-use Rattle.std.specs.List.{All, HoldsAt, list_any, range_with_len}
-use Rattle.std.specs.List.Sorted.{IsNonDecreasingBy, IsPartitionPoint}
-use Rattle.std.specs.Ordering.{is_eq, ordering_index}
-use Rattle.std.specs.Str.{bytes_eq}
-use Rattle.std.specs.declared.cmp.Ordering.TheVariants.{Less, Equal, Greater}
-use Rattle.std.proofs.lemmas.Bool.{cases_lt}
+use Rattle.dbc_read.proofs.Common.{◌≡◌, ◌<◌, ◌∙◌, ◌||◌, ℕ, zero, suc, Bool, true, false, List, [], ◌∷◌, length, get_or}
+use Rattle.dbc_read.proofs.Common.{map, Option, Some, Box, Global, refl, sym, ap, subst, inl, inr, arith, slice_get}
+use Rattle.dbc_read.proofs.Common.{nat_list_cmp_total, texts_ties, All, HoldsAt, list_any, range_with_len}
+use Rattle.dbc_read.proofs.Common.{IsNonDecreasingBy, IsPartitionPoint, is_eq, ordering_index, bytes_eq, Less, Equal}
+use Rattle.dbc_read.proofs.Common.{Greater, cases_lt, All-permutation, IsPermutation-sym, searchable_from_sorted}
+use Rattle.dbc_read.proofs.Common.{text_cmp, SignalLine, Signal, message_of, signals_of, MessageLine}
 use Rattle.std.proofs.lemmas.List.FromFn.{get_or-range_with_len, length-range_with_len}
-use Rattle.std.proofs.lemmas.List.Sorted.{All-permutation, IsPermutation-sym, searchable_from_sorted}
-use Rattle.base.specs.Keyed.{text_cmp}
-use Rattle.dbc_grammar.specs.Statement.{SignalLine}
-use Rattle.dbc_sheet.specs.declared.signal.Signal.{Signal}
 use Rattle.dbc_read.specs.Orders.{AreOrdersOf, IsAscending, IsOrderOf, signal_names}
 use Rattle.dbc_read.specs.declared.orders.Order.{Order}
-use Rattle.dbc_statements.specs.Statement.{message_of, signals_of}
-use Rattle.dbc_statements.specs.declared.statement.MessageLine.{MessageLine}
 
 module _ {K : Type 0} (d : K) (test : K → Bool) where
   passes_at : (keys : List K) (i : ℕ) → i < length keys → test (get_or keys i d) ≡ true

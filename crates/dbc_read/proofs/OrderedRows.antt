@@ -1,8 +1,6 @@
 -- Computed rows of the definitions of orders.
-use Rattle.std.proofs.Common.{◌≡◌, ◌<◌, ◌≤◌, ◌+◌, ℕ, zero, suc, false, List, [], ◌∷◌, Global, None, get_or, refl}
-use Rattle.std.proofs.Common.{true≢false, arith}
-use Rattle.std.specs.Ordering.{is_lt}
-use Rattle.base.specs.Keyed.{text_cmp}
+use Rattle.dbc_read.proofs.Common.{◌≡◌, ◌<◌, ◌≤◌, ◌+◌, ℕ, zero, suc, false, List, [], ◌∷◌, Global, None, get_or, refl}
+use Rattle.dbc_read.proofs.Common.{true≢false, arith, is_lt, text_cmp}
 use Rattle.dbc_read.specs.Orders.{IsAscending, IsOrderOf}
 
 -- the names b and a

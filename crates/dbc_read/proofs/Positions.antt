@@ -1,10 +1,10 @@
 -- The first position at which a test passes is an index.
-use Rattle.std.proofs.Common.{◌≡◌, ◌<◌, ◌≤◌, ◌+◌, ◌∙◌, ◌||◌, ◌++◌, ℕ, zero, suc, Bool, true, false, not, cond, List, []}
-use Rattle.std.proofs.Common.{◌∷◌, length, map, nat_lt, position, Option, Some, None, refl, sym, ap, subst, arith}
-use Rattle.std.specs.Prelude.{slice_get}
-use Rattle.std.specs.List.{list_any, position_or_len}
+use Rattle.dbc_read.proofs.Common.{◌≡◌, ◌<◌, ◌≤◌, ◌+◌, ◌∙◌, ◌||◌, ◌++◌, ℕ, zero, suc, Bool, true, false, not, cond}
+use Rattle.dbc_read.proofs.Common.{List, [], ◌∷◌, length, map, nat_lt, Option, Some, None, refl, sym, ap, subst, arith}
+use Rattle.dbc_read.proofs.Common.{slice_get, list_any, list_any-append}
+use Rattle.std.proofs.Common.{position}
+use Rattle.std.specs.List.{position_or_len}
 use Rattle.std.proofs.lemmas.Bool.{ltb-false, ltb-true}
-use Rattle.std.proofs.lemmas.List.Folds.{list_any-append}
 use Rattle.dbc_read.specs.Lookup.{IsIndexIn}
 use Rattle.dbc_read.proofs.Gathering.{none_true}
 

@@ -1,15 +1,12 @@
 -- A list that an item is put into has it and those that it had.
-use Rattle.std.proofs.Common.{◌≡◌, ◌==◌, ◌∙◌, ◌||◌, ◌++◌, Bool, true, false, List, [], ◌∷◌, refl, sym, IsPermutation}
-use Rattle.std.proofs.Common.{true≢false}
-use Rattle.std.specs.declared.cmp.Ordering.TheVariants.{Equal}
-use Rattle.std.proofs.lemmas.Bool.Decides.{Decides-eqb}
+use Rattle.dbc_read.proofs.Common.{◌≡◌, ◌==◌, ◌∙◌, ◌++◌, true, false, List, [], ◌∷◌, sym, IsPermutation, true≢false}
+use Rattle.dbc_read.proofs.Common.{Equal, Decides-eqb, IsPermutation-trans, IsPermutation-sym, put, by_number}
+use Rattle.dbc_read.proofs.Common.{number_of, Message}
 use Rattle.std.proofs.lemmas.Cmp.{ranked}
 use Rattle.std.proofs.lemmas.List.Sorted.{IsPermutation-append_left, IsPermutation-cons, IsPermutation-middle}
-use Rattle.std.proofs.lemmas.List.Sorted.{IsPermutation-refl, IsPermutation-trans, IsPermutation-sym}
-use Rattle.base.specs.Keyed.{put}
+use Rattle.std.proofs.lemmas.List.Sorted.{IsPermutation-refl}
 use Rattle.base.proofs.PutKeeps.{put_cases}
-use Rattle.dbc_sheet.specs.Messages.{by_number, has_number, number_of}
-use Rattle.dbc_sheet.specs.declared.message.Message.{Message}
+use Rattle.dbc_sheet.specs.Messages.{has_number}
 use Rattle.dbc_read.proofs.Gathering.{or_parts}
 
 equal_numbers : (m n : Message) → by_number m n ≡ Equal → number_of n == number_of m ≡ true

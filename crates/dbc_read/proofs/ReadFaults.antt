@@ -1,9 +1,7 @@
 -- The fault that `read` gives.
-use Rattle.std.proofs.Common.{◌≡◌, ◌≢◌, ◌≤◌, ℕ, List, length, Some, Result, Err}
-use Rattle.dbc_grammar.specs.Lexing.{LexFault, lexed}
-use Rattle.dbc_lex.specs.Fault.{fault_of}
+use Rattle.dbc_read.proofs.Common.{◌≡◌, ◌≤◌, ℕ, List, length, Some, Result, Err, LexFault, lexed, fault_of, ReadFault}
+use Rattle.std.proofs.Common.{◌≢◌}
 use Rattle.dbc_lex.specs.declared.fault.ReadCode.TheVariants.{Memory}
-use Rattle.dbc_lex.specs.declared.fault.ReadFault.{ReadFault}
 use Rattle.dbc_read.specs.Reading.{IsReadFault, ReadsAsNothing}
 use Rattle.dbc_read.specs.declared.reading.Reading.{Reading}
 

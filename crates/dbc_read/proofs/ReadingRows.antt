@@ -1,25 +1,19 @@
 -- Computed rows of the faults of a text.
-use Rattle.std.proofs.Common.{◌≡◌, ℕ, List, [], ◌∷◌, Some, inl, inr, refl, arith}
-use Rattle.std.specs.Prelude.{codes}
+use Rattle.dbc_read.proofs.Common.{◌≡◌, ℕ, List, [], ◌∷◌, Some, inl, inr, refl, arith, codes, Nodes, StrayByte, Token}
+use Rattle.dbc_read.proofs.Common.{tokens_without_fault, ReadFault, NodeName, is_divided, no_tokens}
 use Rattle.std.specs.List.{IsDistinct}
 use Rattle.dbc_words.specs.Name.{is_name}
-use Rattle.dbc_words.specs.declared.keyword.Keyword.TheVariants.{Nodes}
-use Rattle.dbc_grammar.specs.Lexing.{StrayByte, first_token, lexed, lexed_in, token_at, word_len}
+use Rattle.dbc_grammar.specs.Lexing.{first_token, lexed, lexed_in, token_at, word_len}
 use Rattle.dbc_grammar.specs.Parsing.{further_at, line_at, nodes_at, nodes_line_at, no_names_at, some_names_at}
 use Rattle.dbc_grammar.specs.Parsing.{statement_at, statements_at}
 use Rattle.dbc_grammar.specs.Statement as dbc
-use Rattle.dbc_grammar.specs.Token.{Token}
-use Rattle.dbc_grammar.specs.TokenLaw.{tokens_without_fault}
 use Rattle.dbc_grammar.specs.declared.token.TokenKind.TheVariants.{Mark, Name}
 use Rattle.dbc_lex.specs.declared.fault.ReadCode.TheVariants as code
-use Rattle.dbc_lex.specs.declared.fault.ReadFault.{ReadFault}
 use Rattle.dbc_read.specs.Faults.{IsFault, definition, node}
 use Rattle.dbc_read.specs.Gathered.{AreGathered}
 use Rattle.dbc_read.specs.Reading.{HasFault, IsFaultOfText}
 use Rattle.dbc_read.specs.declared.gathered.Gathered.{Gathered}
 use Rattle.dbc_read.proofs.GatheringRows.{nothing}
-use Rattle.dbc_statements.specs.declared.statement.NodeName.{NodeName}
-use Rattle.dbc_statements.proofs.WholeText.{is_divided, no_tokens}
 
 -- no token begins with the only byte of this text, so it isn't a sequence of statements
 stray_byte : HasFault (codes "#") (record { code = code.StrayByte; at = 0 })

@@ -1,11 +1,10 @@
 -- What is refused because a test holds, where none would hold in a sheet.
-use Rattle.std.proofs.Common.{◌≡◌, ◌∙◌, ◌||◌, Bool, true, false, List, [], ◌∷◌, ◌++◌, Option, Some, None, is_some, refl}
-use Rattle.std.proofs.Common.{sym, ap, true≢false, ℕ, ◌≤◌, ◌<◌, ◌+◌, nat_le, length, length-append, arith}
-use Rattle.std.proofs.lemmas.Bool.Decides.{nat_tests}
-use Rattle.std.specs.List.{AllByRecursion, IsDistinct, list_any}
-use Rattle.base.specs.Refusing.{Test, first_refusal}
-use Rattle.dbc_words.specs.Fault.{IsRefusal}
-use Rattle.dbc_words.specs.declared.fault.SheetCode.{SheetCode}
+use Rattle.dbc_read.proofs.Common.{◌≡◌, ◌∙◌, ◌||◌, Bool, true, false, List, [], ◌∷◌, ◌++◌, Option, Some, None, is_some}
+use Rattle.dbc_read.proofs.Common.{refl, sym, ap, true≢false, ℕ, ◌≤◌, ◌<◌, ◌+◌, length, length-append, arith, nat_tests}
+use Rattle.dbc_read.proofs.Common.{AllByRecursion, list_any, first_refusal, IsRefusal, SheetCode}
+use Rattle.std.proofs.Common.{nat_le}
+use Rattle.std.specs.List.{IsDistinct}
+use Rattle.base.specs.Refusing.{Test}
 use Rattle.dbc_words.specs.declared.fault.SheetCode.TheVariants as sheets
 use Rattle.dbc_read.specs.Refusal.{Unless, refusal_of}
 use Rattle.dbc_read.specs.declared.refusal.Refusal.{Refusal}

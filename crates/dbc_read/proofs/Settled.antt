@@ -1,17 +1,11 @@
 -- Statements that are gathered one by one after all definitions. What they attach to signals is in the messages' lines.
-use Rattle.std.proofs.Common.{◌≡◌, ◌∙◌, ◌++◌, ℕ, suc, false, true, List, [], ◌∷◌, length, map, replicate, Option, Some}
-use Rattle.std.proofs.Common.{None, refl, sym, ap, append_assoc, append-nil, subst, true≢false}
-use Rattle.std.specs.Prelude.{IfSome}
-use Rattle.std.specs.List.{flat_map}
-use Rattle.std.proofs.lemmas.List.{length-map}
-use Rattle.can_id.specs.Ident.{dbc_number}
-use Rattle.dbc_words.specs.declared.keyword.Keyword.{Keyword}
-use Rattle.dbc_words.specs.declared.value_type.ValueType.TheVariants.{Integer}
-use Rattle.dbc_grammar.specs.Saying.{keys_of, messages_of, node_names_of, numbers_of, signal_keys_of}
+use Rattle.dbc_read.proofs.Common.{◌≡◌, ◌∙◌, ◌++◌, ℕ, suc, false, true, List, [], ◌∷◌, length, map, replicate, Option}
+use Rattle.dbc_read.proofs.Common.{Some, None, refl, sym, ap, append_assoc, append-nil, subst, true≢false, IfSome}
+use Rattle.dbc_read.proofs.Common.{flat_map, length-map, dbc_number, Keyword, Integer, keys_of, messages_of}
+use Rattle.dbc_read.proofs.Common.{node_names_of, numbers_of, signal_keys_of, Cited, Token, Signal, content_of}
+use Rattle.dbc_read.proofs.Common.{message_of, names_of, signal_of, statement_of, CitedSignal, Content, MessageLine}
+use Rattle.dbc_read.proofs.Common.{NodeName, Statement}
 use Rattle.dbc_grammar.specs.Statement as dbc
-use Rattle.dbc_grammar.specs.Statement.{Cited}
-use Rattle.dbc_grammar.specs.Token.{Token}
-use Rattle.dbc_sheet.specs.declared.signal.Signal.{Signal}
 use Rattle.dbc_read.specs.Attaching.{AreIndicesOf, CitesSignalAt, IsAttached, all_signals, with_attachment, attaching}
 use Rattle.dbc_read.specs.Attaching.{changed_at, cites_signal, in_signals, with_attached}
 use Rattle.dbc_read.specs.Finding.{Finds, FindsAll, FindsSignals}
@@ -34,13 +28,7 @@ use Rattle.dbc_read.proofs.Gathering.{all_gathered, one_gathered}
 use Rattle.dbc_read.proofs.OneByOne.{begin_with_both, begin_with_rest, cited_defines_nothing, defined_either_way}
 use Rattle.dbc_read.proofs.OneByOne.{defined_messages, defined_names, nothing_defined, same_messages, same_names}
 use Rattle.dbc_read.proofs.SignalIndices.{change_leaves, change_sets, numbers_of_lines}
-use Rattle.dbc_statements.specs.Statement.{content_of, message_of, names_of, signal_of, statement_of}
-use Rattle.dbc_statements.specs.declared.statement.CitedSignal.{CitedSignal}
-use Rattle.dbc_statements.specs.declared.statement.Content.{Content}
 use Rattle.dbc_statements.specs.declared.statement.Content.TheVariants as content
-use Rattle.dbc_statements.specs.declared.statement.MessageLine.{MessageLine}
-use Rattle.dbc_statements.specs.declared.statement.NodeName.{NodeName}
-use Rattle.dbc_statements.specs.declared.statement.Statement.{Statement}
 
 -- What finds definitions finds them in lines of the same messages.
 

@@ -1,7 +1,6 @@
 -- Computed rows of how far statements are settled.
-use Rattle.std.proofs.Common.{List, [], ◌∷◌, refl}
+use Rattle.dbc_read.proofs.Common.{List, [], ◌∷◌, refl, Token, statement_of, MessageLine, Statement}
 use Rattle.dbc_grammar.specs.Parsing.{statements_at}
-use Rattle.dbc_grammar.specs.Token.{Token}
 use Rattle.dbc_read.specs.Gathering.{BeginWith, Settles}
 use Rattle.dbc_read.specs.Settling.{AreSettled, ReadUpTo, SettlesTo}
 use Rattle.dbc_read.specs.declared.finding.Finders.{Finders}
@@ -10,9 +9,6 @@ use Rattle.dbc_read.specs.declared.settling.Settled.TheVariants as settled
 use Rattle.dbc_read.proofs.GatheringRows.{nothing}
 use Rattle.dbc_read.proofs.LateRows.{nothing_is_stated}
 use Rattle.dbc_read.proofs.Settled.{none_settled}
-use Rattle.dbc_statements.specs.Statement.{statement_of}
-use Rattle.dbc_statements.specs.declared.statement.MessageLine.{MessageLine}
-use Rattle.dbc_statements.specs.declared.statement.Statement.{Statement}
 
 -- where a late statement is the first of the tokens, none comes before it
 late_is_first : (late : Statement) (tokens rest : List Token) → BeginWith (statement_of late ∷ []) tokens rest

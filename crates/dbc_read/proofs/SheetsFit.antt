@@ -1,22 +1,12 @@
 -- Nodes, value tables and messages that can't be in one sheet.
-use Rattle.std.proofs.Common.{◌≡◌, ◌≤◌, ◌==◌, ℕ, List, [], ◌∷◌, ◌++◌, length-append, arith, Bool, false, sym, subst}
-use Rattle.std.proofs.Common.{IsPermutation}
-use Rattle.std.specs.List.{AllByRecursion, IsDistinct}
-use Rattle.std.specs.Str.{bytes_eq}
-use Rattle.std.proofs.lemmas.List.Sorted.{IsPermutation-append_right, length_permutation}
-use Rattle.std.proofs.lemmas.Map.Keys.{IsDistinct-IsPermutation}
-use Rattle.base.specs.Refusing.{first_refusal}
-use Rattle.dbc_words.specs.Fault.{IsRefusal}
-use Rattle.dbc_words.specs.Limits.{message_limit, roster_limit}
+use Rattle.dbc_read.proofs.Common.{◌≡◌, ◌≤◌, ◌==◌, ℕ, List, [], ◌∷◌, ◌++◌, length-append, arith, Bool, false, sym}
+use Rattle.dbc_read.proofs.Common.{subst, IsPermutation, AllByRecursion, bytes_eq, IsPermutation-append_right}
+use Rattle.dbc_read.proofs.Common.{IsDistinct-IsPermutation, first_refusal, IsRefusal, message_limit, roster_limit}
+use Rattle.dbc_read.proofs.Common.{SheetCode, message_name, message_tests, number_of, table_name, AreFewTexts}
+use Rattle.dbc_read.proofs.Common.{AreRostered, Message, ValueTable, all_permutation, nat_flip}
+use Rattle.std.specs.List.{IsDistinct}
+use Rattle.std.proofs.lemmas.List.Sorted.{length_permutation}
 use Rattle.dbc_words.specs.Named.{roster_tests}
-use Rattle.dbc_words.specs.declared.fault.SheetCode.{SheetCode}
-use Rattle.dbc_sheet.specs.Messages.{message_name, message_tests, number_of}
-use Rattle.dbc_sheet.specs.Sheet.{table_name}
-use Rattle.dbc_sheet.specs.WellFormed.{AreFewTexts, AreRostered}
-use Rattle.dbc_sheet.specs.declared.message.Message.{Message}
-use Rattle.dbc_sheet.specs.declared.value_table.ValueTable.{ValueTable}
-use Rattle.dbc_grammar.proofs.AscendingUnique.{all_permutation}
-use Rattle.dbc_grammar.proofs.SheetStated.{nat_flip}
 use Rattle.dbc_read.specs.Built.{AreAddable}
 use Rattle.dbc_read.specs.Fit.{CanShareSheet, IsFit, TablesFit}
 use Rattle.dbc_read.specs.Refusal.{Unless, refusal_of}

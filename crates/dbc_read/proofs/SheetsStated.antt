@@ -1,26 +1,16 @@
 -- What is gathered of statements: the sheet that is built of it is the one that they say, and if it can't be in one
 -- sheet, they say none.
-use Rattle.std.proofs.Common.{◌≡◌, ◌==◌, ◌∙◌, ◌++◌, ℕ, List, [], ◌∷◌, map, nat_eq, ap, sym, subst, IsPermutation}
-use Rattle.std.specs.Prelude.{unwrap_or}
-use Rattle.std.specs.List.{AllByRecursion, IsDistinct, flat_map}
-use Rattle.std.specs.Str.{bytes_eq}
-use Rattle.std.proofs.lemmas.List.Sorted.{IsPermutation-sym}
-use Rattle.std.proofs.lemmas.Map.Keys.{IsDistinct-IsPermutation}
-use Rattle.can_id.specs.Ident.{dbc_number}
-use Rattle.dbc_words.specs.Named.{AreNamedApart}
+use Rattle.dbc_read.proofs.Common.{◌≡◌, ◌==◌, ◌∙◌, ◌++◌, ℕ, List, [], ◌∷◌, map, nat_eq, ap, sym, subst, IsPermutation}
+use Rattle.dbc_read.proofs.Common.{unwrap_or, AllByRecursion, IsDistinct, flat_map, bytes_eq, IsPermutation-sym}
+use Rattle.dbc_read.proofs.Common.{IsDistinct-IsPermutation, dbc_number, AreNamedApart, number_of, Says, SignalKey}
+use Rattle.dbc_read.proofs.Common.{keys_of, last_value_of, messages_of, node_names_of, numbers_of, same_signal}
+use Rattle.dbc_read.proofs.Common.{signal_keys_of, value_texts_in, whole_message, whole_node, whole_signal, node_name}
+use Rattle.dbc_read.proofs.Common.{signal_name, SignalLine, AreFewTexts, AreRostered, Message, Sheet, ValueText}
+use Rattle.dbc_read.proofs.Common.{all_permutation, message_of, names_of}
 use Rattle.dbc_sheet.specs.Form.{IsSheet}
-use Rattle.dbc_sheet.specs.Messages.{number_of}
-use Rattle.dbc_grammar.specs.Saying.{Says, SignalKey, keys_of, last_value_of, messages_of, node_names_of, numbers_of}
-use Rattle.dbc_grammar.specs.Saying.{same_signal, signal_keys_of, value_texts_in, whole_message, whole_node}
-use Rattle.dbc_grammar.specs.Saying.{whole_signal}
-use Rattle.dbc_sheet.specs.Sheet.{node_name}
-use Rattle.dbc_sheet.specs.Signals.{signal_name}
-use Rattle.dbc_grammar.specs.Statement.{MessageLine, SignalLine, Statement}
-use Rattle.dbc_sheet.specs.WellFormed.{AreFewTexts, AreRostered, IsWellFormedMessage}
-use Rattle.dbc_sheet.specs.declared.message.Message.{Message}
-use Rattle.dbc_sheet.specs.declared.sheet.Sheet.{Sheet}
-use Rattle.dbc_sheet.specs.declared.value_texts.ValueText.{ValueText}
-use Rattle.dbc_grammar.proofs.AscendingUnique.{all_permutation, distinct_if_ascending}
+use Rattle.dbc_grammar.specs.Statement.{MessageLine, Statement}
+use Rattle.dbc_sheet.specs.WellFormed.{IsWellFormedMessage}
+use Rattle.dbc_grammar.proofs.AscendingUnique.{distinct_if_ascending}
 use Rattle.dbc_read.specs.Built.{CanBeSheet, IsBuilt, feeds_in, messages_from, messages_in, nodes_from, nodes_in}
 use Rattle.dbc_read.specs.Built.{tables_in}
 use Rattle.dbc_read.specs.Fit.{CanShareSheet, HaveFewTexts, IsFit, TablesFit}
@@ -28,7 +18,6 @@ use Rattle.dbc_read.specs.Gathered.{AreGathered}
 use Rattle.dbc_read.specs.Sheets.{SaysNothing}
 use Rattle.dbc_read.specs.declared.feed.Feeds.{Feeds}
 use Rattle.dbc_read.specs.declared.gathered.Gathered.{Gathered}
-use Rattle.dbc_statements.specs.Statement.{message_of, names_of}
 use Rattle.dbc_read.proofs.DistinctNames.{keys_apart, line_number, names_apart, numbers_apart}
 use Rattle.dbc_read.proofs.SheetsFit.{number_flip, share_in_any_order}
 use Rattle.dbc_read.proofs.WholeParts.{feeds_stated, message_comment, messages_whole, node_comment, nodes_whole}

@@ -1,18 +1,12 @@
 -- Where a signal is: the index of its message, its own among that message's signals, and that among all signals.
-use Rattle.std.proofs.Common.{◌≡◌, ◌==◌, ◌&&◌, ◌||◌, ◌<◌, ◌∙◌, ◌++◌, ℕ, zero, suc, Bool, true, false, List, [], ◌∷◌}
-use Rattle.std.proofs.Common.{length, map, Some, None, nat_eq, slice_index_or, slice_set, refl, sym, ap, subst}
-use Rattle.std.proofs.Common.{true≢false, arith}
-use Rattle.std.specs.Prelude.{slice_get}
-use Rattle.std.specs.List.{AllByRecursion, IsDistinct, flat_map, list_any}
-use Rattle.std.specs.Str.{bytes_eq}
-use Rattle.std.proofs.lemmas.Bool.Decides.{Decides-eqb}
-use Rattle.std.proofs.lemmas.List.{length-map}
-use Rattle.std.proofs.lemmas.List.Folds.{list_any-append}
+use Rattle.dbc_read.proofs.Common.{◌≡◌, ◌==◌, ◌&&◌, ◌||◌, ◌<◌, ◌∙◌, ◌++◌, ℕ, zero, suc, Bool, true, false, List, []}
+use Rattle.dbc_read.proofs.Common.{◌∷◌, length, map, Some, None, nat_eq, slice_index_or, slice_set, refl, sym, ap}
+use Rattle.dbc_read.proofs.Common.{subst, true≢false, arith, slice_get, AllByRecursion, flat_map, list_any, bytes_eq}
+use Rattle.dbc_read.proofs.Common.{Decides-eqb, length-map, list_any-append, dbc_number, SignalKey, keys_of}
+use Rattle.dbc_read.proofs.Common.{same_signal, Signal, message_of, signal_of, signals_of, MessageLine}
+use Rattle.std.specs.List.{IsDistinct}
 use Rattle.std.proofs.lemmas.Option.{slice_get_within}
-use Rattle.can_id.specs.Ident.{dbc_number}
-use Rattle.dbc_grammar.specs.Saying.{SignalKey, keys_of, same_signal}
 use Rattle.dbc_grammar.specs.Statement as dbc
-use Rattle.dbc_sheet.specs.declared.signal.Signal.{Signal}
 use Rattle.dbc_read.specs.Attaching.{AreIndicesOf, HasSignal, all_signals, at_index, with_attachment, flat_index}
 use Rattle.dbc_read.specs.Attaching.{index_after}
 use Rattle.dbc_read.specs.Faults.{line_number}
@@ -21,8 +15,6 @@ use Rattle.dbc_read.specs.declared.attaching.Attachment.{Attachment}
 use Rattle.dbc_read.specs.declared.attaching.Attachment.TheVariants as what
 use Rattle.dbc_read.proofs.Gathering.{none_true, or_parts, some_true}
 use Rattle.dbc_read.proofs.Positions.{front_stays}
-use Rattle.dbc_statements.specs.Statement.{message_of, signal_of, signals_of}
-use Rattle.dbc_statements.specs.declared.statement.MessageLine.{MessageLine}
 
 -- One item of a list changed.
 module _ {A : Type 0} (f : A → A) where

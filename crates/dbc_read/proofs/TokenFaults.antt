@@ -1,15 +1,13 @@
 -- The fault of a text in which no token begins at some offset: that offset is one of the text.
-use Rattle.std.proofs.Common.{◌≡◌, ◌≤◌, ◌+◌, ◌++◌, ◌∷◌, ℕ, Bool, true, false, List, [], Some, Err, length, min, refl}
-use Rattle.std.proofs.Common.{ap, arith}
+use Rattle.dbc_read.proofs.Common.{◌≡◌, ◌≤◌, ◌+◌, ◌++◌, ◌∷◌, ℕ, Bool, true, false, List, [], Some, Err, length, refl}
+use Rattle.dbc_read.proofs.Common.{ap, arith, LexFault, StrayByte, lexed, Token, fault_of, ReadFault}
+use Rattle.std.proofs.Common.{min}
 use Rattle.std.specs.Prelude.{if◌then◌else◌, Result}
 use Rattle.std.proofs.lemmas.List.{length-append}
-use Rattle.dbc_grammar.specs.Lexing.{LexFault, StrayByte, UnclosedText, lexed}
+use Rattle.dbc_grammar.specs.Lexing.{UnclosedText}
 use Rattle.dbc_grammar.specs.Spelling.{is_quote}
-use Rattle.dbc_grammar.specs.Token.{Token}
 use Rattle.dbc_grammar.specs.TokenLaw.{StopsWith}
 use Rattle.dbc_grammar.proofs.TokenExact.{fault_exact}
-use Rattle.dbc_lex.specs.Fault.{fault_of}
-use Rattle.dbc_lex.specs.declared.fault.ReadFault.{ReadFault}
 
 offset_is : (quote : Bool) (n : ℕ) → (fault_of (if quote then UnclosedText n else StrayByte n)).at ≡ n
 offset_is true n = refl

@@ -1,14 +1,9 @@
 -- Nodes, messages and signals that take what the statements say of them are those that the statements say.
-use Rattle.std.proofs.Common.{◌≡◌, ◌∙◌, ◌++◌, ℕ, nat_eq, List, [], ◌∷◌, map, refl, ap}
-use Rattle.std.specs.List.{flat_map}
-use Rattle.std.specs.Str.{bytes_eq}
-use Rattle.can_id.specs.Ident.{dbc_number}
-use Rattle.dbc_words.specs.declared.value_type.ValueType.TheVariants.{Integer}
-use Rattle.dbc_grammar.specs.Saying.{SignalKey, keys_of, last_value_of, message_comment_in, node_comment_in}
-use Rattle.dbc_grammar.specs.Saying.{same_signal, signal_comment_in, spn_in, value_texts_in, value_type_in}
-use Rattle.dbc_grammar.specs.Saying.{whole_message, whole_node, whole_signal}
-use Rattle.dbc_grammar.specs.Statement.{MessageLine, SignalLine, Statement}
-use Rattle.dbc_sheet.specs.declared.message.Message.{Message}
+use Rattle.dbc_read.proofs.Common.{◌≡◌, ◌∙◌, ◌++◌, ℕ, nat_eq, List, [], ◌∷◌, map, refl, ap, flat_map, bytes_eq}
+use Rattle.dbc_read.proofs.Common.{dbc_number, Integer, SignalKey, keys_of, last_value_of, message_comment_in}
+use Rattle.dbc_read.proofs.Common.{node_comment_in, same_signal, signal_comment_in, spn_in, value_texts_in}
+use Rattle.dbc_read.proofs.Common.{value_type_in, whole_message, whole_node, whole_signal, SignalLine, Message}
+use Rattle.dbc_grammar.specs.Statement.{MessageLine, Statement}
 use Rattle.dbc_read.specs.Built.{feeds_after, messages_from, nodes_from, signals_from}
 use Rattle.dbc_read.specs.declared.feed.Feeds.{Feeds}
 

@@ -1,4 +1,4 @@
-use Rattle.std.proofs.Common.{◌≡◌, ◌++◌, drop, map}
+use Rattle.dbc_advice.proofs.Common.{◌≡◌, ◌++◌, drop, map}
 use Rattle.dbc_advice.specs.Clashes.{bytes_of, clash_sentence}
 use Rattle.dbc_advice.specs.declared.reasons.Reason.{Reason}
 use Rattle.dbc_advice.proofs.clashes.add_sentences.Given as goal

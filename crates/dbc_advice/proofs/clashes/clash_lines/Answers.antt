@@ -1,4 +1,4 @@
-use Rattle.std.proofs.Common.{ℕ, List, ◌++◌, ap, ◌∙◌}
+use Rattle.dbc_advice.proofs.Common.{ℕ, List, ◌++◌, ap, ◌∙◌}
 use Rattle.dbc_advice.specs.Clashes.{IsClashLine}
 use Rattle.dbc_advice.specs.declared.reasons.Reason.{Reason}
 use Rattle.dbc_advice.proofs.ReportedLines.{line_after}

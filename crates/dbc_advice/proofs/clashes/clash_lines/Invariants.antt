@@ -1,4 +1,4 @@
-use Rattle.std.proofs.Common.{take}
+use Rattle.dbc_advice.proofs.Common.{take}
 use Rattle.dbc_advice.specs.Clashes.{IsClashLine}
 use Rattle.dbc_advice.specs.ReportedLine.{AreLinesOf}
 use Rattle.dbc_advice.specs.declared.reasons.Reason.{Reason}

@@ -1,6 +1,6 @@
-use Rattle.std.proofs.Common.{◌≡◌, ◌<◌, ◌≤◌, ◌-◌, ◌++◌, List, length, map, take, get_or, refl, ap, subst, ◌∙◌, arith}
-use Rattle.std.proofs.lemmas.List.{length-append, length-map}
-use Rattle.dbc_sheet.specs.declared.message.Message.{Message}
+use Rattle.dbc_advice.proofs.Common.{◌≡◌, ◌<◌, ◌≤◌, ◌-◌, ◌++◌, List, length, map, take, get_or, refl, ap, subst, ◌∙◌}
+use Rattle.dbc_advice.proofs.Common.{arith, length-map, Message}
+use Rattle.std.proofs.lemmas.List.{length-append}
 use Rattle.dbc_advice.specs.Clashes.{bytes_of, clash_sentence}
 use Rattle.dbc_advice.specs.Limits.{clashes_reported, reasons_reported}
 use Rattle.dbc_advice.specs.declared.reasons.Reason.{Reason}

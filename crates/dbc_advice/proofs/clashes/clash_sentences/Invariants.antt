@@ -1,4 +1,4 @@
-use Rattle.std.proofs.Common.{◌≡◌, ◌≤◌, length, map, take}
+use Rattle.dbc_advice.proofs.Common.{◌≡◌, ◌≤◌, length, map, take}
 use Rattle.dbc_advice.specs.Clashes.{bytes_of, clash_sentence, clashes_of}
 use Rattle.dbc_advice.specs.Limits.{clashes_reported}
 use Rattle.dbc_advice.proofs.clashes.clash_sentences.Given as goal

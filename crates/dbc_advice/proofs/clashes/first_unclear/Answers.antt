@@ -1,6 +1,4 @@
-use Rattle.std.proofs.Common.{◌≡◌, ◌<◌, ◌∙◌, List, Some, length, get_or, sym, ap, subst}
-use Rattle.std.specs.Prelude.{slice_get}
-use Rattle.dbc_sheet.specs.declared.message.Message.{Message}
+use Rattle.dbc_advice.proofs.Common.{◌≡◌, ◌<◌, ◌∙◌, List, Some, length, get_or, sym, ap, subst, slice_get, Message}
 use Rattle.dbc_advice.specs.declared.reasons.Reason.{Reason}
 use Rattle.dbc_advice.proofs.FirstClash.{first_found}
 use Rattle.dbc_advice.proofs.clashes.first_unclear.Goals as goal

@@ -1,4 +1,4 @@
-use Rattle.std.proofs.Common.{◌≡◌, [], take}
+use Rattle.dbc_advice.proofs.Common.{◌≡◌, [], take}
 use Rattle.dbc_advice.specs.Clashes.{clashes_of}
 use Rattle.dbc_advice.proofs.clashes.first_unclear.Given as goal
 

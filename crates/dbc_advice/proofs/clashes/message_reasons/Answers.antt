@@ -1,7 +1,5 @@
-use Rattle.std.proofs.Common.{◌≡◌, None, not, sym, ap, ◌∙◌}
+use Rattle.dbc_advice.proofs.Common.{◌≡◌, None, not, sym, ap, ◌∙◌, first_clash_of, places_of}
 use Rattle.bitlayout.proofs.Collisions.{none_from_test}
-use Rattle.bitlayout.specs.Clash.{first_clash_of}
-use Rattle.dbc_sheet.specs.Signals.{places_of}
 use Rattle.dbc_advice.proofs.ClearReasons.{no_reasons}
 use Rattle.dbc_advice.proofs.clashes.message_reasons.Goals as goal
 

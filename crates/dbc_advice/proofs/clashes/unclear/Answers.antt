@@ -1,5 +1,5 @@
-use Rattle.std.proofs.Common.{◌≡◌, ◌<◌, ◌-◌, ℕ, List, ◌++◌, length, take, get_or, refl, ap, subst, ◌∙◌, arith}
-use Rattle.dbc_sheet.specs.declared.message.Message.{Message}
+use Rattle.dbc_advice.proofs.Common.{◌≡◌, ◌<◌, ◌-◌, ℕ, List, ◌++◌, length, take, get_or, refl, ap, subst, ◌∙◌, arith}
+use Rattle.dbc_advice.proofs.Common.{Message}
 use Rattle.dbc_advice.specs.Clashes.{IsClashLine}
 use Rattle.dbc_advice.specs.Limits.{clashes_reported}
 use Rattle.dbc_advice.specs.ReportedLine.{AreLinesOf}

@@ -1,4 +1,4 @@
-use Rattle.std.proofs.Common.{◌≡◌, ◌≤◌, length, take}
+use Rattle.dbc_advice.proofs.Common.{◌≡◌, ◌≤◌, length, take}
 use Rattle.dbc_advice.specs.Clashes.{IsClashLine, clashes_of}
 use Rattle.dbc_advice.specs.Limits.{clashes_reported}
 use Rattle.dbc_advice.specs.ReportedLine.{AreLinesOf}

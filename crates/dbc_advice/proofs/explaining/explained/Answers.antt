@@ -1,4 +1,4 @@
-use Rattle.std.proofs.Common.{ℕ, List, ◌++◌, ap, subst, ◌∙◌}
+use Rattle.dbc_advice.proofs.Common.{ℕ, List, ◌++◌, ap, subst, ◌∙◌}
 use Rattle.dbc_advice.specs.Explained.{AreFaultLines}
 use Rattle.dbc_advice.specs.declared.findings.Reported.{Reported}
 use Rattle.dbc_advice.proofs.explaining.explained.Goals as goal

@@ -1,4 +1,4 @@
-use Rattle.std.proofs.Common.{take}
+use Rattle.dbc_advice.proofs.Common.{take}
 use Rattle.dbc_advice.specs.Explained.{AreFaultLines}
 use Rattle.dbc_advice.proofs.explaining.fault_lines.Given as goal
 

@@ -1,4 +1,4 @@
-use Rattle.std.proofs.Common.{◌≤◌, ◌-◌, length}
+use Rattle.dbc_advice.proofs.Common.{◌≤◌, ◌-◌, length}
 use Rattle.dbc_advice.proofs.faulty_lines.keyword_line_between.Given as goal
 
 abbrev pub invariant-loop-before : goal.invariant-loop-before

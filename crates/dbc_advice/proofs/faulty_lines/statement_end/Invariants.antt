@@ -1,4 +1,4 @@
-use Rattle.std.proofs.Common.{◌≤◌, ◌-◌, length}
+use Rattle.dbc_advice.proofs.Common.{◌≤◌, ◌-◌, length}
 use Rattle.dbc_advice.proofs.faulty_lines.statement_end.Given as goal
 
 abbrev pub invariant-loop-end : goal.invariant-loop-end

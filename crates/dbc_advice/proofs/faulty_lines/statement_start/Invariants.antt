@@ -1,4 +1,4 @@
-use Rattle.std.proofs.Common.{◌≤◌}
+use Rattle.dbc_advice.proofs.Common.{◌≤◌}
 use Rattle.dbc_advice.proofs.faulty_lines.statement_start.Given as goal
 
 abbrev pub invariant-loop-start : goal.invariant-loop-start

@@ -1,4 +1,4 @@
-use Rattle.std.proofs.Common.{◌≡◌, ◌+◌, length, sym, ◌∙◌, arith}
+use Rattle.dbc_advice.proofs.Common.{◌≡◌, ◌+◌, length, sym, ◌∙◌, arith}
 use Rattle.dbc_advice.specs.Findings.{IsReported}
 use Rattle.dbc_advice.proofs.ReportedMore.{is_reported, one_longer, reported_after, unchanged}
 use Rattle.dbc_advice.proofs.findings.reported_faults.Goals as goal

@@ -1,4 +1,4 @@
-use Rattle.std.proofs.Common.{◌≡◌, length}
+use Rattle.dbc_advice.proofs.Common.{◌≡◌, length}
 use Rattle.dbc_advice.specs.Findings.{AreReported}
 use Rattle.dbc_advice.proofs.findings.reported_faults.Given as goal
 

@@ -1,5 +1,4 @@
-use Rattle.std.proofs.Common.{refl}
-use Rattle.dbc_read.proofs.ReadFaults.{read_fault}
+use Rattle.dbc_advice.proofs.Common.{refl, read_fault}
 use Rattle.dbc_advice.proofs.findings.reported_next.Goals as goal
 
 pub reported_of-requires : goal.reported_of-requires

@@ -1,4 +1,4 @@
-use Rattle.std.proofs.Common.{◌≡◌, sym, ◌∙◌}
+use Rattle.dbc_advice.proofs.Common.{◌≡◌, sym, ◌∙◌}
 use Rattle.dbc_advice.specs.Pieces.{statement_before}
 use Rattle.dbc_advice.proofs.findings.wanted_at.Goals as goal
 

@@ -1,4 +1,4 @@
-use Rattle.std.proofs.Common.{◌≡◌, inr, subst}
+use Rattle.dbc_advice.proofs.Common.{inr, subst}
 use Rattle.dbc_advice.specs.Findings.{IsNext}
 use Rattle.dbc_advice.proofs.first.first_stated.Goals as goal
 

@@ -1,4 +1,4 @@
-use Rattle.std.proofs.Common.{◌++◌, ℕ, List, sym, ap, ◌∙◌}
+use Rattle.dbc_advice.proofs.Common.{◌++◌, ℕ, List, sym, ap, ◌∙◌}
 use Rattle.dbc_advice.specs.LeftOut.{has_keyword}
 use Rattle.dbc_advice.proofs.PassedKinds.{keywords_added, keywords_kept, line_added, line_kept}
 use Rattle.dbc_advice.proofs.leaving.kind_lines.Goals as goal

@@ -1,4 +1,4 @@
-use Rattle.std.proofs.Common.{◌≡◌, ◌++◌}
+use Rattle.dbc_advice.proofs.Common.{◌≡◌, ◌++◌}
 use Rattle.dbc_advice.specs.LeftOut.{kinds_text}
 use Rattle.dbc_advice.proofs.PassedKinds.{HaveKeywords}
 use Rattle.dbc_advice.proofs.leaving.kind_lines.Given as goal

@@ -1,4 +1,4 @@
-use Rattle.std.proofs.Common.{ℕ, List, ◌++◌, ap, ◌∙◌, arith}
+use Rattle.dbc_advice.proofs.Common.{ℕ, List, ◌++◌, ap, ◌∙◌, arith}
 use Rattle.dbc_advice.specs.Citation.{cited_of}
 use Rattle.dbc_advice.proofs.PartedMore.{cited_after, other_after}
 use Rattle.dbc_advice.proofs.leaving.parted.Goals as goal

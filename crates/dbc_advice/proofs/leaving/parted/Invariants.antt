@@ -1,4 +1,4 @@
-use Rattle.std.proofs.Common.{◌≤◌, take}
+use Rattle.dbc_advice.proofs.Common.{◌≤◌, take}
 use Rattle.dbc_advice.proofs.PartedMore.{Reported}
 use Rattle.dbc_advice.proofs.leaving.parted.Given as goal
 

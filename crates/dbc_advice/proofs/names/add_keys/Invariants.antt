@@ -1,7 +1,4 @@
-use Rattle.std.proofs.Common.{◌≡◌, ◌++◌, drop, map}
-use Rattle.dbc_sheet.specs.Messages.{number_of}
-use Rattle.dbc_sheet.specs.declared.signal.Signal.{Signal}
-use Rattle.dbc_read.specs.Keys.{key_of}
+use Rattle.dbc_advice.proofs.Common.{◌≡◌, ◌++◌, drop, map, number_of, Signal, key_of}
 use Rattle.dbc_advice.specs.Names.{keys_of}
 use Rattle.dbc_advice.proofs.names.add_keys.Given as goal
 

@@ -1,6 +1,4 @@
-use Rattle.std.proofs.Common.{◌≡◌, ◌++◌, drop, map}
-use Rattle.std.specs.List.{flat_map}
-use Rattle.dbc_read.specs.Keys.{key_of}
+use Rattle.dbc_advice.proofs.Common.{◌≡◌, ◌++◌, drop, map, flat_map, key_of}
 use Rattle.dbc_advice.specs.Names.{keys_of}
 use Rattle.dbc_advice.proofs.names.keys_of_signals.Given as goal
 

@@ -1,6 +1,4 @@
-use Rattle.std.proofs.Common.{◌≡◌, ◌++◌, drop, map}
-use Rattle.dbc_sheet.specs.Sheet.{node_name}
-use Rattle.dbc_read.specs.Keys.{text_of}
+use Rattle.dbc_advice.proofs.Common.{◌≡◌, ◌++◌, drop, map, node_name, text_of}
 use Rattle.dbc_advice.proofs.names.names_of_nodes.Given as goal
 
 abbrev pub invariant-loop-node : goal.invariant-loop-node

@@ -1,10 +1,9 @@
-use Rattle.std.proofs.Common.{encode_utf8_all, ◌∙◌, ap, sym, map-id, append-nil, subst}
-use Rattle.std.proofs.lemmas.Grind.{flat_map-append}
+use Rattle.dbc_advice.proofs.Common.{encode_utf8_all, ◌∙◌, ap, sym, append-nil, subst, flat_map-append, is_control}
+use Rattle.dbc_advice.proofs.Common.{NoCharPasses}
+use Rattle.std.proofs.Common.{map-id}
 use Rattle.std.proofs.lemmas.Iterator.{YieldsList-from_chars}
 use Rattle.std.proofs.lemmas.Iterator.Consumers.{YieldsList-end}
 use Rattle.std.proofs.lemmas.Str.{encodes-append}
-use Rattle.std.specs.Char.{is_control}
-use Rattle.std.specs.Str.{NoCharPasses}
 use Rattle.dbc_advice.specs.ShownPath.{shown_character, shown_characters}
 use Rattle.dbc_advice.proofs.ShownPaths.{plain_is_same, shown_is_plain}
 use Rattle.dbc_advice.proofs.paths.shown_path.Goals as goal

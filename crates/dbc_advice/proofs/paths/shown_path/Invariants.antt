@@ -1,4 +1,5 @@
-use Rattle.std.proofs.Common.{string_bytes, ◌≡◌, encode_utf8_all}
+use Rattle.dbc_advice.proofs.Common.{◌≡◌, encode_utf8_all}
+use Rattle.std.proofs.Common.{string_bytes}
 use Rattle.dbc_advice.specs.ShownPath.{shown_characters}
 use Rattle.dbc_advice.proofs.paths.shown_path.Given as goal
 

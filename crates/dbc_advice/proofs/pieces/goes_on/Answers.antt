@@ -1,5 +1,4 @@
-use Rattle.std.proofs.Common.{◌≡◌, length, refl, arith}
-use Rattle.dbc_read.proofs.ReadFaults.{read_fault}
+use Rattle.dbc_advice.proofs.Common.{◌≡◌, length, refl, arith, read_fault}
 use Rattle.dbc_advice.specs.GoesOn.{ends, reads}
 use Rattle.dbc_advice.proofs.pieces.goes_on.Goals as goal
 

@@ -1,5 +1,4 @@
-use Rattle.std.proofs.Common.{◌≡◌, ◌++◌, drop}
-use Rattle.std.specs.List.{enumerate_from, flat_map}
+use Rattle.dbc_advice.proofs.Common.{◌≡◌, ◌++◌, drop, enumerate_from, flat_map}
 use Rattle.dbc_advice.specs.Reasons.{overlap_reason, overlap_reasons}
 use Rattle.dbc_advice.proofs.reasons.overlap_reasons.Given as goal
 

@@ -1,4 +1,4 @@
-use Rattle.std.proofs.Common.{◌≡◌, ◌++◌}
+use Rattle.dbc_advice.proofs.Common.{◌≡◌, ◌++◌}
 use Rattle.dbc_advice.specs.Reasons.{reasons_from}
 use Rattle.dbc_advice.proofs.reasons.reasons_of.Given as goal
 

@@ -1,4 +1,4 @@
-use Rattle.std.proofs.Common.{length}
+use Rattle.dbc_advice.proofs.Common.{length}
 use Rattle.dbc_advice.proofs.sentences.+listed.Given as goal
 
 abbrev pub decreases-listed : goal.decreases-listed

@@ -1,4 +1,5 @@
-use Rattle.std.proofs.Common.{◌≡◌, ◌≤◌, take}
+use Rattle.dbc_compare.proofs.Common.{◌≡◌, take}
+use Rattle.std.proofs.Common.{◌≤◌}
 use Rattle.std.specs.Prelude.{count_by}
 use Rattle.dbc_compare.specs.List.{breaks}
 use Rattle.dbc_compare.proofs.list.breaking_count.Given as goal

@@ -1,4 +1,4 @@
-use Rattle.std.proofs.Common.{◌≡◌, map, take}
+use Rattle.dbc_compare.proofs.Common.{◌≡◌, map, take}
 use Rattle.dbc_compare.specs.List.{difference_row}
 use Rattle.dbc_compare.proofs.list.differences_table.Given as goal
 

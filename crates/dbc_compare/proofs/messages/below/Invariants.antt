@@ -1,4 +1,4 @@
-use Rattle.std.proofs.Common.{◌≡◌, ◌+◌, drop}
+use Rattle.dbc_compare.proofs.Common.{◌≡◌, ◌+◌, drop}
 use Rattle.dbc_compare.specs.Differences.{below}
 use Rattle.dbc_compare.proofs.messages.below.Given as goal
 

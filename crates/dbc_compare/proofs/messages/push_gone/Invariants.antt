@@ -1,6 +1,4 @@
-use Rattle.std.proofs.Common.{◌≡◌, ◌++◌, take}
-use Rattle.std.specs.List.{flat_map}
-use Rattle.dbc_sheet.specs.Pairs.{partner}
+use Rattle.dbc_compare.proofs.Common.{◌≡◌, ◌++◌, take, flat_map, partner}
 use Rattle.dbc_compare.specs.Differences.{gone_message}
 use Rattle.dbc_compare.proofs.messages.push_gone.Given as goal
 

@@ -1,8 +1,5 @@
-use Rattle.std.proofs.Common.{◌≡◌, ◌+◌, ◌++◌, ◌∙◌, List, ◌∷◌, suc, drop, get_or, sym, ap, add-one, drop-cons}
-use Rattle.std.specs.List.{flat_map}
-use Rattle.std.specs.Option.{option_copied}
-use Rattle.dbc_sheet.specs.Pairs.{partner}
-use Rattle.dbc_sheet.specs.declared.message.Message.{Message}
+use Rattle.dbc_compare.proofs.Common.{◌≡◌, ◌+◌, ◌++◌, ◌∙◌, List, ◌∷◌, suc, drop, sym, ap, flat_map, partner, Message}
+use Rattle.std.proofs.Common.{add-one, drop-cons}
 use Rattle.dbc_compare.specs.Differences.{below, by_numbers, gone_message, message_differences, shown_message}
 use Rattle.dbc_compare.specs.declared.difference.Difference.{Difference}
 use Rattle.dbc_compare.proofs.MessageWalk.{one_passed}

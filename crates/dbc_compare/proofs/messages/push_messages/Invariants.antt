@@ -1,5 +1,4 @@
-use Rattle.std.proofs.Common.{◌≡◌, ◌++◌, drop}
-use Rattle.dbc_sheet.specs.Pairs.{partner}
+use Rattle.dbc_compare.proofs.Common.{◌≡◌, ◌++◌, drop, partner}
 use Rattle.dbc_compare.specs.Differences.{by_numbers, gone_message, message_differences, shown_message}
 use Rattle.dbc_compare.proofs.messages.push_messages.Given as goal
 

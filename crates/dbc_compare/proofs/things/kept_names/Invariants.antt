@@ -1,4 +1,4 @@
-use Rattle.std.proofs.Common.{◌≡◌, take}
+use Rattle.dbc_compare.proofs.Common.{◌≡◌, take}
 use Rattle.dbc_compare.specs.Differences.{kept_names}
 use Rattle.dbc_compare.proofs.things.kept_names.Given as goal
 

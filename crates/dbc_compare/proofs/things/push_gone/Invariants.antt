@@ -1,5 +1,4 @@
-use Rattle.std.proofs.Common.{◌≡◌, ◌++◌, take}
-use Rattle.std.specs.List.{flat_map}
+use Rattle.dbc_compare.proofs.Common.{◌≡◌, ◌++◌, take, flat_map}
 use Rattle.dbc_compare.specs.Differences.{gone_thing}
 use Rattle.dbc_compare.proofs.things.push_gone.Given as goal
 

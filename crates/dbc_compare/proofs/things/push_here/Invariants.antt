@@ -1,4 +1,4 @@
-use Rattle.std.proofs.Common.{◌≡◌, ◌++◌, None, take}
+use Rattle.dbc_compare.proofs.Common.{◌≡◌, ◌++◌, None, take}
 use Rattle.dbc_compare.specs.Differences.{differences_about}
 use Rattle.dbc_compare.proofs.things.push_here.Given as goal
 

@@ -1,4 +1,4 @@
-use Rattle.std.proofs.Common.{◌≡◌, ◌++◌, Some, take}
+use Rattle.dbc_compare.proofs.Common.{◌≡◌, ◌++◌, Some, take}
 use Rattle.dbc_compare.specs.Differences.{differences_about}
 use Rattle.dbc_compare.proofs.things.push_named.Given as goal
 

@@ -1,5 +1,4 @@
-use Rattle.std.proofs.Common.{◌≡◌, drop}
-use Rattle.dbc_words.specs.Named.{thing_named}
+use Rattle.dbc_compare.proofs.Common.{◌≡◌, drop, thing_named}
 use Rattle.dbc_compare.proofs.things.thing_named.Given as goal
 
 -- the one that is looked for is among those that are left

@@ -1,4 +1,4 @@
-use Rattle.std.proofs.Common.{◌≡◌, take}
+use Rattle.dbc_compare.proofs.Common.{◌≡◌, take}
 use Rattle.dbc_compare.specs.Value.{later_entries}
 use Rattle.dbc_compare.proofs.values.later_entries.Given as goal
 

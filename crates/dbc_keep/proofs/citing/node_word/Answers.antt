@@ -1,4 +1,4 @@
-use Rattle.std.proofs.Common.{sym, ◌∙◌}
+use Rattle.dbc_keep.proofs.Common.{sym, ◌∙◌}
 use Rattle.dbc_keep.specs.Staying.{seen}
 use Rattle.dbc_keep.proofs.Absent.{name_cited, no_name_cited, none_cited}
 use Rattle.dbc_keep.proofs.citing.node_word.Goals as goal

@@ -1,5 +1,4 @@
-use Rattle.std.proofs.Common.{sym, ◌∙◌}
-use Rattle.dbc_keep_law.specs.Staying.{node_cited}
+use Rattle.dbc_keep.proofs.Common.{sym, ◌∙◌, node_cited}
 use Rattle.dbc_keep.proofs.Absent.{next_of}
 use Rattle.dbc_keep.proofs.citing.node_words.Goals as goal
 

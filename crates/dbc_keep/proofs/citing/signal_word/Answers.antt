@@ -1,4 +1,4 @@
-use Rattle.std.proofs.Common.{sym, ◌∙◌}
+use Rattle.dbc_keep.proofs.Common.{sym, ◌∙◌}
 use Rattle.dbc_keep.specs.Staying.{seen}
 use Rattle.dbc_keep.proofs.Absent.{no_signal_cited, signal_named}
 use Rattle.dbc_keep.proofs.citing.signal_word.Goals as goal

@@ -1,7 +1,5 @@
-use Rattle.std.proofs.Common.{◌≡◌, length}
-use Rattle.std.specs.List.{flat_map}
+use Rattle.dbc_keep.proofs.Common.{◌≡◌, length, flat_map, first_absent, signal_cited}
 use Rattle.dbc_keep.specs.Staying.{all_seen}
-use Rattle.dbc_keep_law.specs.Staying.{first_absent, signal_cited}
 use Rattle.dbc_keep.proofs.citing.signal_words.Given as goal
 
 abbrev pub invariant-loop-left : goal.invariant-loop-left

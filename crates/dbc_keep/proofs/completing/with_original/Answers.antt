@@ -1,6 +1,4 @@
-use Rattle.std.proofs.Common.{refl}
-use Rattle.std.proofs.lemmas.Result.{err_from_is_err_and}
-use Rattle.dbc_read.proofs.ReadFaults.{read_fault}
+use Rattle.dbc_keep.proofs.Common.{refl, err_from_is_err_and, read_fault}
 use Rattle.dbc_keep.proofs.completing.with_original.Goals as goal
 
 pub returns-in_err-reading-clause-fault : goal.returns-in_err-reading-clause-fault

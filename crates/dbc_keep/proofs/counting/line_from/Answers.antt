@@ -1,4 +1,4 @@
-use Rattle.std.proofs.Common.{◌+◌, ap, ◌∙◌}
+use Rattle.dbc_keep.proofs.Common.{◌+◌, ap, ◌∙◌}
 use Rattle.dbc_keep.specs.LeftOut.{line_at}
 use Rattle.dbc_keep.proofs.Counted.{line_more}
 use Rattle.dbc_keep.proofs.counting.line_from.Goals as goal

@@ -1,5 +1,4 @@
-use Rattle.std.proofs.Common.{◌≡◌, ◌++◌, take}
-use Rattle.std.specs.List.{flat_map}
+use Rattle.dbc_keep.proofs.Common.{◌≡◌, ◌++◌, take, flat_map}
 use Rattle.dbc_keep.specs.J1939.{format_value}
 use Rattle.dbc_keep.proofs.j1939.format_values.Given as goal
 

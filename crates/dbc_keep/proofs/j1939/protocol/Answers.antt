@@ -1,4 +1,4 @@
-use Rattle.std.proofs.Common.{sym, ◌∙◌}
+use Rattle.dbc_keep.proofs.Common.{sym, ◌∙◌}
 use Rattle.dbc_keep.proofs.Appended.{three}
 use Rattle.dbc_keep.proofs.j1939.protocol.Goals as goal
 

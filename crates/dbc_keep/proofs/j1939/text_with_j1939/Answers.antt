@@ -1,5 +1,4 @@
-use Rattle.std.proofs.Common.{inl, inr}
-use Rattle.std.proofs.lemmas.Result.{err_from_is_err_and}
+use Rattle.dbc_keep.proofs.Common.{inl, inr, err_from_is_err_and}
 use Rattle.dbc_keep.proofs.j1939.text_with_j1939.Goals as goal
 
 pub returns-in_err-reading-clause-none : goal.returns-in_err-reading-clause-none

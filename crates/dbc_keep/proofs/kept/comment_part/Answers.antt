@@ -1,4 +1,4 @@
-use Rattle.dbc_write.proofs.Adds.{also}
+use Rattle.dbc_keep.proofs.Common.{also}
 use Rattle.dbc_keep.proofs.kept.comment_part.Goals as goal
 
 pub returns : goal.returns

@@ -1,7 +1,4 @@
-use Rattle.std.proofs.Common.{◌≡◌, true, false, sym, ◌∙◌}
-use Rattle.dbc_grammar.specs.Canon.{line_text}
-use Rattle.dbc_keep_law.specs.Kept.{has_spn}
-use Rattle.dbc_write.proofs.Adds.{none}
+use Rattle.dbc_keep.proofs.Common.{◌≡◌, true, false, sym, ◌∙◌, line_text, has_spn, none}
 use Rattle.dbc_keep.proofs.kept.default_if_needed.Goals as goal
 
 pub returns-then-not-has_spn : goal.returns-then-not-has_spn

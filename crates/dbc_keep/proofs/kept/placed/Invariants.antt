@@ -1,5 +1,4 @@
-use Rattle.std.proofs.Common.{take}
-use Rattle.dbc_grammar.specs.Canon.{line_text}
+use Rattle.dbc_keep.proofs.Common.{take, line_text}
 use Rattle.dbc_keep.specs.Finding.{lines_there}
 use Rattle.dbc_keep.specs.Places.{place_number}
 use Rattle.dbc_write.specs.Adding.{Adds}

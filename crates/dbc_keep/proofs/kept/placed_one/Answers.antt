@@ -1,6 +1,5 @@
-use Rattle.std.proofs.Common.{◌++◌, sym, ap, ◌∙◌}
-use Rattle.dbc_grammar.specs.Canon.{line_text}
-use Rattle.dbc_write.proofs.Adds.{line, none}
+use Rattle.dbc_keep.proofs.Common.{◌++◌, sym, ap, ◌∙◌, line_text, none}
+use Rattle.dbc_write.proofs.Adds.{line}
 use Rattle.dbc_keep.proofs.kept.placed_one.Goals as goal
 
 pub returns-then-not-has : goal.returns-then-not-has

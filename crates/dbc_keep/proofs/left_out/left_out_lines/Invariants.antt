@@ -1,4 +1,4 @@
-use Rattle.std.proofs.Common.{◌≡◌, ◌≤◌, length, take}
+use Rattle.dbc_keep.proofs.Common.{◌≡◌, ◌≤◌, length, take}
 use Rattle.dbc_keep.specs.LeftOut.{left_out_lines, line_at}
 use Rattle.dbc_keep.proofs.left_out.left_out_lines.Given as goal
 

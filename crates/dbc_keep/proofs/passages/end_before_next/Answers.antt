@@ -1,6 +1,4 @@
-use Rattle.std.proofs.Common.{sym, ap, ◌∙◌}
-use Rattle.dbc_grammar.specs.Lexing.{Lexed}
-use Rattle.dbc_lex.specs.Token.{token_of}
+use Rattle.dbc_keep.proofs.Common.{sym, ap, ◌∙◌, Lexed, token_of}
 use Rattle.dbc_keep.proofs.Ending.{fewer, next_go, next_none, next_stop}
 use Rattle.dbc_keep.proofs.passages.end_before_next.Goals as goal
 

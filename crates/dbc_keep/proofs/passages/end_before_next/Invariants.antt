@@ -1,6 +1,5 @@
-use Rattle.std.proofs.Common.{◌≡◌, length}
+use Rattle.dbc_keep.proofs.Common.{◌≡◌, length, before_next}
 use Rattle.dbc_keep.specs.Finding.{last_end}
-use Rattle.dbc_keep_law.specs.Found.{before_next}
 use Rattle.dbc_keep.proofs.passages.end_before_next.Given as goal
 
 abbrev pub invariant-tokens : goal.invariant-tokens

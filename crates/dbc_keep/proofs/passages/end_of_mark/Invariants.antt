@@ -1,6 +1,5 @@
-use Rattle.std.proofs.Common.{◌≡◌, length}
+use Rattle.dbc_keep.proofs.Common.{◌≡◌, length, to_mark}
 use Rattle.dbc_keep.specs.Finding.{last_end}
-use Rattle.dbc_keep_law.specs.Found.{to_mark}
 use Rattle.dbc_keep.proofs.passages.end_of_mark.Given as goal
 
 abbrev pub invariant-tokens : goal.invariant-tokens

@@ -1,7 +1,4 @@
-use Rattle.std.proofs.Common.{◌≡◌, ◌∷◌, [], slice_range, sym, ap, ◌∙◌}
-use Rattle.dbc_grammar.specs.Lexing.{Lexed}
-use Rattle.dbc_lex.specs.Token.{token_of}
-use Rattle.dbc_keep_law.specs.Found.{tokens_at}
+use Rattle.dbc_keep.proofs.Common.{◌≡◌, ◌∷◌, [], slice_range, sym, ap, ◌∙◌, Lexed, token_of, tokens_at}
 use Rattle.dbc_keep.proofs.Slices.{bytes_there, end_within, nothing_there, start_before_end}
 use Rattle.dbc_keep.proofs.passages.passage.Goals as goal
 

@@ -1,8 +1,5 @@
-use Rattle.std.proofs.Common.{◌≡◌, drop, refl, sym, ap, ◌∙◌}
-use Rattle.dbc_grammar.specs.Lexing.{Lexed}
-use Rattle.dbc_grammar.specs.Rules.{starts}
+use Rattle.dbc_keep.proofs.Common.{◌≡◌, drop, refl, sym, ap, ◌∙◌, Lexed, starts, tokens_at}
 use Rattle.dbc_keep.specs.Finding.{has_text}
-use Rattle.dbc_keep_law.specs.Found.{tokens_at}
 use Rattle.dbc_keep.proofs.Saying.{no_default, default_named, default_text, spn_text}
 use Rattle.dbc_keep.proofs.said.defaults_spn.Goals as goal
 

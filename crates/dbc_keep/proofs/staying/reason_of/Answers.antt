@@ -1,6 +1,5 @@
-use Rattle.std.proofs.Common.{List, sym, ap, ◌∙◌}
+use Rattle.dbc_keep.proofs.Common.{List, sym, ap, ◌∙◌, Word, reason_by}
 use Rattle.dbc_keep.proofs.StayingTexts.{message_stays, reason_there}
-use Rattle.dbc_keep_law.specs.Staying.{Word, reason_by}
 use Rattle.dbc_keep.proofs.staying.reason_of.Goals as goal
 
 pub returns-in-Message : goal.returns-in-Message

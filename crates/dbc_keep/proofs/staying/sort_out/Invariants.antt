@@ -1,4 +1,4 @@
-use Rattle.std.proofs.Common.{◌≡◌, take}
+use Rattle.dbc_keep.proofs.Common.{◌≡◌, take}
 use Rattle.dbc_keep.specs.Staying.{left_out, staying}
 use Rattle.dbc_keep.proofs.staying.sort_out.Given as goal
 

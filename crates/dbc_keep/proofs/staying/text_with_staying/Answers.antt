@@ -1,6 +1,4 @@
-use Rattle.std.proofs.Common.{◌≡◌, ◌++◌, ap, ◌∙◌}
-use Rattle.std.specs.List.{flat_map}
-use Rattle.dbc_grammar.specs.Canon.{line_text}
+use Rattle.dbc_keep.proofs.Common.{◌≡◌, ◌++◌, ap, ◌∙◌, flat_map, line_text}
 use Rattle.dbc_keep.specs.Parts.{all_lines}
 use Rattle.dbc_keep.specs.Staying.{staying}
 use Rattle.dbc_keep.proofs.StayingTexts.{keeps_staying, reads_only}

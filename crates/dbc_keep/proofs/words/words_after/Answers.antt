@@ -1,9 +1,6 @@
-use Rattle.std.proofs.Common.{◌≡◌, List, map, drop, ap, subst, ◌∙◌}
+use Rattle.dbc_keep.proofs.Common.{◌≡◌, List, map, drop, ap, subst, ◌∙◌, Lexed, Token, to_mark, tokens_at}
 use Rattle.std.specs.Prelude.{IfOk}
-use Rattle.dbc_grammar.specs.Lexing.{Lexed}
-use Rattle.dbc_grammar.specs.Token.{Token}
 use Rattle.dbc_keep.specs.Staying.{all_seen, token_word}
-use Rattle.dbc_keep_law.specs.Found.{to_mark, tokens_at}
 use Rattle.dbc_keep.proofs.words.words_after.Goals as goal
 
 pub returns : goal.returns

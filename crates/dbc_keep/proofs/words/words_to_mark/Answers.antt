@@ -1,6 +1,4 @@
-use Rattle.std.proofs.Common.{sym, ap, ◌∙◌}
-use Rattle.dbc_grammar.specs.Lexing.{Lexed}
-use Rattle.dbc_lex.specs.Token.{token_of}
+use Rattle.dbc_keep.proofs.Common.{sym, ap, ◌∙◌, Lexed, token_of}
 use Rattle.dbc_keep.proofs.Ending.{fewer}
 use Rattle.dbc_keep.proofs.WordsRead.{no_word, word_goes, word_stops}
 use Rattle.dbc_keep.proofs.words.words_to_mark.Goals as goal

@@ -1,6 +1,5 @@
-use Rattle.std.proofs.Common.{◌≡◌, ◌++◌, length, map}
+use Rattle.dbc_keep.proofs.Common.{◌≡◌, ◌++◌, length, map, to_mark}
 use Rattle.dbc_keep.specs.Staying.{all_seen, token_word}
-use Rattle.dbc_keep_law.specs.Found.{to_mark}
 use Rattle.dbc_keep.proofs.words.words_to_mark.Given as goal
 
 -- the words so far, and those that are left

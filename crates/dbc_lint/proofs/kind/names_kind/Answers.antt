@@ -1,7 +1,5 @@
-use Rattle.std.proofs.Common.{lit<, rules, tests}
-use Rattle.std.specs.Str.{bytes_eq}
+use Rattle.dbc_lint.proofs.Common.{lit<, rules, tests, bytes_eq, YieldsList-from_str_split}
 use Rattle.std.proofs.lemmas.Iterator.Search.{any_from_yields_List}
-use Rattle.std.proofs.lemmas.Iterator.Splits.{YieldsList-from_str_split}
 use Rattle.dbc_lint.specs.Kind.{kind_name}
 use Rattle.dbc_lint.proofs.kind.names_kind.Goals as goal
 

@@ -1,6 +1,5 @@
-use Rattle.std.proofs.Common.{lit<, rules, tests}
+use Rattle.dbc_lint.proofs.Common.{lit<, rules, tests, YieldsList-from_str_split}
 use Rattle.std.proofs.lemmas.Iterator.Search.{find_from_yields_List}
-use Rattle.std.proofs.lemmas.Iterator.Splits.{YieldsList-from_str_split}
 use Rattle.dbc_lint.specs.Kind.{is_unknown}
 use Rattle.dbc_lint.proofs.kind.unknown_part.Goals as goal
 

@@ -1,4 +1,4 @@
-use Rattle.std.proofs.Common.{◌≡◌, ◌++◌, drop}
+use Rattle.dbc_lint.proofs.Common.{◌≡◌, ◌++◌, drop}
 use Rattle.dbc_statements.specs.Statement.{statements_of}
 use Rattle.dbc_lint.specs.OfFile.{of_statements}
 use Rattle.dbc_lint.proofs.linting.remarks_of.Given as goal

@@ -1,4 +1,4 @@
-use Rattle.std.proofs.Common.{◌≡◌, ◌≤◌, ◌+◌}
+use Rattle.dbc_lint.proofs.Common.{◌≡◌, ◌≤◌, ◌+◌}
 use Rattle.dbc_advice.specs.Position.{position_at}
 use Rattle.dbc_lint.proofs.listing.position_from.Given as goal
 

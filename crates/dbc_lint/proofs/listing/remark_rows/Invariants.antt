@@ -1,4 +1,4 @@
-use Rattle.std.proofs.Common.{◌≡◌, ◌++◌, drop}
+use Rattle.dbc_lint.proofs.Common.{◌≡◌, ◌++◌, drop}
 use Rattle.dbc_lint.specs.Listing.{remark_rows}
 use Rattle.dbc_lint.specs.Reached.{IsReached}
 use Rattle.dbc_lint.proofs.listing.remark_rows.Given as goal

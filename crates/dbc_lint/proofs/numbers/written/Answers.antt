@@ -1,5 +1,4 @@
-use Rattle.std.proofs.Common.{◌≡◌, ◌-ℤ◌, unsigned_abs, arith}
-use Rattle.std.proofs.lemmas.Int.{ints}
+use Rattle.dbc_lint.proofs.Common.{◌≡◌, ◌-ℤ◌, unsigned_abs, arith, ints}
 use Rattle.dbc_lint.proofs.LongNumbers.{as_written}
 use Rattle.dbc_lint.proofs.numbers.written.Goals as goal
 

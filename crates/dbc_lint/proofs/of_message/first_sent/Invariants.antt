@@ -1,5 +1,4 @@
-use Rattle.std.proofs.Common.{◌≡◌, drop}
-use Rattle.std.specs.Prelude.{find}
+use Rattle.dbc_lint.proofs.Common.{◌≡◌, drop, find}
 use Rattle.dbc_lint.specs.OfMessage.{is_sent_from}
 use Rattle.dbc_lint.proofs.of_message.first_sent.Given as goal
 

@@ -1,5 +1,4 @@
-use Rattle.std.proofs.Common.{◌≡◌, ◌++◌, drop}
-use Rattle.std.specs.List.{flat_map}
+use Rattle.dbc_lint.proofs.Common.{◌≡◌, ◌++◌, drop, flat_map}
 use Rattle.dbc_lint.specs.OfSignal.{unknown_node}
 use Rattle.dbc_lint.proofs.of_signal.add_unknown_nodes.Given as goal
 

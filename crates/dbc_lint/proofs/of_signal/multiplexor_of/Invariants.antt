@@ -1,4 +1,4 @@
-use Rattle.std.proofs.Common.{◌≡◌, drop}
+use Rattle.dbc_lint.proofs.Common.{◌≡◌, drop}
 use Rattle.dbc_lint.specs.OfSignal.{multiplexor_of}
 use Rattle.dbc_lint.proofs.of_signal.multiplexor_of.Given as goal
 

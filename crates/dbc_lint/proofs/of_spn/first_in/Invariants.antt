@@ -1,4 +1,4 @@
-use Rattle.std.proofs.Common.{◌≡◌, drop, map}
+use Rattle.dbc_lint.proofs.Common.{◌≡◌, drop, map}
 use Rattle.dbc_lint.specs.OfSpn.{first_place, place_of, places_in}
 use Rattle.dbc_lint.proofs.of_spn.first_in.Given as goal
 

@@ -1,6 +1,4 @@
-use Rattle.std.proofs.Common.{◌≡◌, ◌∙◌, ◌+◌, ◌∷◌, ap, drop, sym}
-use Rattle.std.proofs.lemmas.List.{drop_more}
-use Rattle.dbc_sheet.specs.declared.signal.Signal.{Signal}
+use Rattle.dbc_lint.proofs.Common.{◌≡◌, ◌∙◌, ◌+◌, ◌∷◌, ap, drop, sym, drop_more, Signal}
 use Rattle.dbc_lint.proofs.EachSignal.{signals_more}
 use Rattle.dbc_lint.proofs.of_statement.add_of_signals.Goals as goal
 

@@ -1,4 +1,4 @@
-use Rattle.std.proofs.Common.{◌≡◌, ◌++◌, drop}
+use Rattle.dbc_lint.proofs.Common.{◌≡◌, ◌++◌, drop}
 use Rattle.dbc_lint.specs.OfFile.{of_signals}
 use Rattle.dbc_lint.proofs.of_statement.add_of_signals.Given as goal
 

@@ -1,5 +1,4 @@
-use Rattle.std.proofs.Common.{◌≡◌, ◌++◌, drop}
-use Rattle.std.specs.List.{flat_map}
+use Rattle.dbc_lint.proofs.Common.{◌≡◌, ◌++◌, drop, flat_map}
 use Rattle.dbc_lint.specs.OfSignal.{value_outside}
 use Rattle.dbc_lint.proofs.of_values.add_values_outside.Given as goal
 

@@ -1,6 +1,4 @@
-use Rattle.std.proofs.Common.{◌≡◌, ◌∙◌, ◌+◌, ◌∷◌, ap, drop, sym}
-use Rattle.std.proofs.lemmas.List.{drop_more}
-use Rattle.dbc_sheet.specs.declared.value_texts.ValueText.{ValueText}
+use Rattle.dbc_lint.proofs.Common.{◌≡◌, ◌∙◌, ◌+◌, ◌∷◌, ap, drop, sym, drop_more, ValueText}
 use Rattle.dbc_lint.proofs.NumberSets.{remarked_more, seen_more}
 use Rattle.dbc_lint.proofs.of_values.add_values_twice.Goals as goal
 

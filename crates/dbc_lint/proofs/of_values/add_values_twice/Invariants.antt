@@ -1,4 +1,4 @@
-use Rattle.std.proofs.Common.{◌≡◌, ◌++◌, drop, take}
+use Rattle.dbc_lint.proofs.Common.{◌≡◌, ◌++◌, drop, take}
 use Rattle.dbc_lint.specs.NumberSet.{HasValuesOf}
 use Rattle.dbc_lint.specs.OfSignal.{values_twice}
 use Rattle.dbc_lint.proofs.of_values.add_values_twice.Given as goal

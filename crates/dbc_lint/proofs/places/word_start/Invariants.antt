@@ -1,4 +1,4 @@
-use Rattle.std.proofs.Common.{◌≡◌, length}
+use Rattle.dbc_lint.proofs.Common.{◌≡◌, length}
 use Rattle.dbc_lint.specs.OfFile.{from_word}
 use Rattle.dbc_lint.proofs.places.word_start.Given as goal
 

@@ -1,7 +1,4 @@
-use Rattle.std.proofs.Common.{◌∙◌, rules}
-use Rattle.std.specs.Prelude.{FitsSigned}
-use Rattle.std.specs.Int.{w16}
-use Rattle.std.proofs.lemmas.Int.{to_z-of_z}
+use Rattle.dbc_lint.proofs.Common.{◌∙◌, rules, FitsSigned, w16, to_z-of_z}
 use Rattle.dbc_lint.proofs.LongNumbers.{lesser_passes}
 use Rattle.dbc_lint.proofs.range.common_exponent.Goals as goal
 

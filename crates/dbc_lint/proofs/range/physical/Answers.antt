@@ -1,6 +1,4 @@
-use Rattle.std.proofs.Common.{rules}
-use Rattle.std.specs.Prelude.{FitsSigned}
-use Rattle.std.specs.Int.{w128}
+use Rattle.dbc_lint.proofs.Common.{rules, FitsSigned, w128}
 use Rattle.dbc_lint.proofs.LongNumbers.{as_physical}
 use Rattle.dbc_lint.proofs.range.physical.Goals as goal
 

@@ -1,6 +1,4 @@
-use Rattle.std.proofs.Common.{rules}
-use Rattle.std.specs.Prelude.{FitsSigned}
-use Rattle.std.specs.Int.{w16}
+use Rattle.dbc_lint.proofs.Common.{rules, FitsSigned, w16}
 use Rattle.dbc_lint.specs.Numbers.{common_exponent}
 use Rattle.dbc_lint.proofs.LongNumbers.{as_scaled}
 use Rattle.dbc_lint.proofs.range.scaled_numbers.Goals as goal

@@ -1,6 +1,4 @@
-use Rattle.std.proofs.Common.{◌≡◌, ◌++◌, drop, map}
-use Rattle.std.specs.List.{flat_map}
-use Rattle.dbc_sheet.specs.declared.signal.Signal.{Signal}
+use Rattle.dbc_lint.proofs.Common.{◌≡◌, ◌++◌, drop, map, flat_map, Signal}
 use Rattle.dbc_lint.specs.Whole.{text_of}
 use Rattle.dbc_lint.proofs.whole.add_receivers.Given as goal
 

@@ -1,4 +1,4 @@
-use Rattle.std.proofs.Common.{arith}
+use Rattle.dbc_lint.proofs.Common.{arith}
 use Rattle.dbc_lint.proofs.LongMessages.{counted_more}
 use Rattle.dbc_lint.proofs.whole.count_over_8.Goals as goal
 

@@ -1,5 +1,4 @@
-use Rattle.std.proofs.Common.{◌≡◌, ◌≤◌, take}
-use Rattle.std.specs.Prelude.{count_by}
+use Rattle.dbc_lint.proofs.Common.{◌≡◌, ◌≤◌, take, count_by}
 use Rattle.dbc_lint.specs.OfMessage.{is_over_8}
 use Rattle.dbc_lint.proofs.whole.count_over_8.Given as goal
 

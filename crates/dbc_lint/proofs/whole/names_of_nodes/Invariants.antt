@@ -1,6 +1,4 @@
-use Rattle.std.proofs.Common.{take}
-use Rattle.dbc_words.specs.Named.{HasNamesOf}
-use Rattle.dbc_sheet.specs.Sheet.{node_name}
+use Rattle.dbc_lint.proofs.Common.{take, HasNamesOf, node_name}
 use Rattle.dbc_lint.proofs.whole.names_of_nodes.Given as goal
 
 abbrev pub invariant-loop-node : goal.invariant-loop-node

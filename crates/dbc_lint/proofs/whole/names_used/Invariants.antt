@@ -1,4 +1,4 @@
-use Rattle.std.proofs.Common.{◌≡◌, ◌++◌, drop, map}
+use Rattle.dbc_lint.proofs.Common.{◌≡◌, ◌++◌, drop, map}
 use Rattle.dbc_lint.specs.OfNode.{names_used}
 use Rattle.dbc_lint.specs.Whole.{text_of}
 use Rattle.dbc_lint.proofs.whole.names_used.Given as goal

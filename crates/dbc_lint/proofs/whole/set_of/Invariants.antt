@@ -1,5 +1,4 @@
-use Rattle.std.proofs.Common.{take}
-use Rattle.dbc_words.specs.Named.{HasNamesOf}
+use Rattle.dbc_lint.proofs.Common.{take, HasNamesOf}
 use Rattle.dbc_lint.specs.Whole.{text_of}
 use Rattle.dbc_lint.proofs.whole.set_of.Given as goal
 

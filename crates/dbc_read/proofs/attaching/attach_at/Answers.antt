@@ -1,11 +1,8 @@
-use Rattle.std.proofs.Common.{◌≡◌, ◌<◌, ◌∙◌, List, ap, length, slice_index_or, subst, sym}
+use Rattle.dbc_read.proofs.Common.{◌≡◌, ◌<◌, ◌∙◌, List, ap, length, slice_index_or, subst, sym, with_items_is, Signal}
+use Rattle.dbc_read.proofs.Common.{message_of, signal_of, signals_of, MessageLine}
 use Rattle.std.specs.Vec.{with_items}
-use Rattle.std.proofs.lemmas.List.{with_items_is}
-use Rattle.dbc_sheet.specs.declared.signal.Signal.{Signal}
 use Rattle.dbc_read.specs.Attaching.{at_index, with_attachment}
 use Rattle.dbc_read.proofs.SignalIndices.{attached_leaves, change_leaves, lines_stay, signal_changed, signal_within}
-use Rattle.dbc_statements.specs.Statement.{message_of, signal_of, signals_of}
-use Rattle.dbc_statements.specs.declared.statement.MessageLine.{MessageLine}
 use Rattle.dbc_read.proofs.attaching.attach_at.Goals as goal
 
 pub attach_in-requires : goal.attach_in-requires

@@ -1,4 +1,4 @@
-use Rattle.std.proofs.Common.{◌∙◌, ap, slice_set}
+use Rattle.dbc_read.proofs.Common.{◌∙◌, ap, slice_set}
 use Rattle.dbc_read.specs.Attaching.{with_attachment}
 use Rattle.dbc_read.proofs.SignalIndices.{set_is_change}
 use Rattle.dbc_read.proofs.attaching.attach_in.Goals as goal

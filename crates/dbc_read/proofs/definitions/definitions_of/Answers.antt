@@ -1,6 +1,4 @@
-use Rattle.std.proofs.Common.{[]}
-use Rattle.std.proofs.lemmas.Option.{IfSome_then}
-use Rattle.std.proofs.lemmas.Result.{IfOk-weaker}
+use Rattle.dbc_read.proofs.Common.{[], IfSome_then, IfOk-weaker}
 use Rattle.dbc_read.proofs.DefinitionsAlone.{none_defined}
 use Rattle.dbc_read.proofs.definitions.definitions_of.Goals as goal
 

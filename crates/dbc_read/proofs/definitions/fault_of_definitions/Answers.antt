@@ -1,7 +1,4 @@
-use Rattle.std.proofs.Common.{◌≡◌, ◌∙◌}
-use Rattle.std.proofs.lemmas.Option.{IfSome_then}
-use Rattle.std.proofs.lemmas.Result.{err_from_is_err_and}
-use Rattle.dbc_statements.proofs.WholeText.{is_divided, no_division}
+use Rattle.dbc_read.proofs.Common.{◌≡◌, ◌∙◌, IfSome_then, err_from_is_err_and, is_divided, no_division}
 use Rattle.dbc_read.proofs.DefinitionsAlone.{fault_is_found, fault_of_text}
 use Rattle.dbc_read.proofs.Divided.{all_tokens, no_tokens_left, stated_at}
 use Rattle.dbc_read.proofs.FaultsAt.{none_weaker}

@@ -1,10 +1,9 @@
-use Rattle.std.proofs.Common.{◌∙◌, ◌++◌, List, [], ◌∷◌, append_assoc, append-nil, refl, subst, sym}
-use Rattle.std.proofs.lemmas.Result.{err_from_is_err_and}
+use Rattle.dbc_read.proofs.Common.{◌∙◌, ◌++◌, List, [], ◌∷◌, append_assoc, append-nil, refl, subst, sym}
+use Rattle.dbc_read.proofs.Common.{err_from_is_err_and, statement_of}
 use Rattle.dbc_grammar.specs.Statement as dbc
 use Rattle.dbc_read.specs.Definitions.{AreDefinitions}
 use Rattle.dbc_read.proofs.DefinitionsAlone.{few_with_one, many_stated}
 use Rattle.dbc_read.proofs.OneByOne.{begin_with_all, begin_with_more, begin_without, none_read, one_read}
-use Rattle.dbc_statements.specs.Statement.{statement_of}
 use Rattle.dbc_read.proofs.definitions.further_definitions.Goals as goal
 
 pub statements-init : goal.statements-init

@@ -1,4 +1,4 @@
-use Rattle.std.proofs.Common.{◌≡◌, ◌++◌, List, length}
+use Rattle.dbc_read.proofs.Common.{◌≡◌, ◌++◌, List, length}
 use Rattle.dbc_grammar.specs.Statement as dbc
 use Rattle.dbc_read.specs.Definitions.{AreDefinitions, HaveFewTexts}
 use Rattle.dbc_read.proofs.OneByOne.{ReadSoFar}

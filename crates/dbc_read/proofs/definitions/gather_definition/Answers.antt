@@ -1,5 +1,4 @@
-use Rattle.std.proofs.Common.{◌∙◌, sym}
-use Rattle.std.proofs.lemmas.Result.{on_ok_weaker}
+use Rattle.dbc_read.proofs.Common.{◌∙◌, sym, on_ok_weaker}
 use Rattle.dbc_read.proofs.DefinitionsAlone.{one_dropped, one_gathered}
 use Rattle.dbc_read.proofs.definitions.gather_definition.Goals as goal
 

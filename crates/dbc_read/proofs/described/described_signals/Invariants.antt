@@ -1,4 +1,4 @@
-use Rattle.std.proofs.Common.{◌≡◌, ◌++◌, drop}
+use Rattle.dbc_read.proofs.Common.{◌≡◌, ◌++◌, drop}
 use Rattle.dbc_read.specs.Described.{described, described_with, own_offsets}
 use Rattle.dbc_read.proofs.described.described_signals.Given as goal
 

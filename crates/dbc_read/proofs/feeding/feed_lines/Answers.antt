@@ -1,14 +1,10 @@
-use Rattle.std.proofs.Common.{◌<◌, ◌∙◌, ◌+◌, ◌++◌, ap, drop, length, map, refl, slice_index_or, sym, take, arith}
-use Rattle.std.specs.List.{AllByRecursion}
-use Rattle.std.proofs.lemmas.List.{drop_more}
-use Rattle.std.proofs.lemmas.Result.{err_from_is_err_and}
+use Rattle.dbc_read.proofs.Common.{◌<◌, ◌∙◌, ◌+◌, ◌++◌, ap, drop, length, map, refl, slice_index_or, sym, take, arith}
+use Rattle.dbc_read.proofs.Common.{AllByRecursion, drop_more, err_from_is_err_and, message_of, signals_of, MessageLine}
 use Rattle.dbc_read.specs.Attaching.{each_fed, line_signals}
 use Rattle.dbc_read.specs.Built.{feeds_after, signals_from}
 use Rattle.dbc_read.specs.Fit.{HaveFewTexts}
 use Rattle.dbc_read.specs.declared.feed.Feeds.{Feeds}
 use Rattle.dbc_read.proofs.Fed.{one_fed, one_refused, set_leaves}
-use Rattle.dbc_statements.specs.Statement.{message_of, signals_of}
-use Rattle.dbc_statements.specs.declared.statement.MessageLine.{MessageLine}
 use Rattle.dbc_read.proofs.feeding.feed_lines.Goals as goal
 
 pub loop-at-preserved : goal.loop-at-preserved

@@ -1,6 +1,5 @@
-use Rattle.std.proofs.Common.{◌≡◌, ◌++◌, drop, map, take}
+use Rattle.dbc_read.proofs.Common.{◌≡◌, ◌++◌, drop, map, take, message_of}
 use Rattle.dbc_read.specs.Attaching.{each_fed, line_signals}
-use Rattle.dbc_statements.specs.Statement.{message_of}
 use Rattle.dbc_read.proofs.feeding.feed_lines.Given as goal
 
 abbrev pub invariant-loop-at : goal.invariant-loop-at

@@ -1,12 +1,9 @@
-use Rattle.std.proofs.Common.{◌<◌, ◌∙◌, ◌+◌, ◌++◌, ap, drop, length, refl, slice_index_or, sym, take, arith}
-use Rattle.std.proofs.lemmas.List.{drop_more}
-use Rattle.std.proofs.lemmas.Result.{err_from_is_err_and}
-use Rattle.dbc_sheet.specs.declared.signal.Signal.{Signal}
+use Rattle.dbc_read.proofs.Common.{◌<◌, ◌∙◌, ◌+◌, ◌++◌, ap, drop, length, refl, slice_index_or, sym, take, arith}
+use Rattle.dbc_read.proofs.Common.{drop_more, err_from_is_err_and, Signal, signal_of, signals_of}
 use Rattle.dbc_read.specs.Built.{feeds_after, next_signal, rest_of, signals_from}
 use Rattle.dbc_read.specs.Fit.{HaveFewTexts}
 use Rattle.dbc_read.specs.declared.feed.Feeds.{Feeds}
 use Rattle.dbc_read.proofs.Fed.{one_fed_itself, one_left, one_refused, set_leaves}
-use Rattle.dbc_statements.specs.Statement.{signal_of, signals_of}
 use Rattle.dbc_read.proofs.feeding.feed_signals.Goals as goal
 
 pub loop-at-preserved : goal.loop-at-preserved

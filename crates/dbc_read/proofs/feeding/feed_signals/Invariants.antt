@@ -1,6 +1,5 @@
-use Rattle.std.proofs.Common.{◌≡◌, ◌++◌, drop, take}
+use Rattle.dbc_read.proofs.Common.{◌≡◌, ◌++◌, drop, take, signals_of}
 use Rattle.dbc_read.specs.Built.{feeds_after, signals_from}
-use Rattle.dbc_statements.specs.Statement.{signals_of}
 use Rattle.dbc_read.proofs.feeding.feed_signals.Given as goal
 
 abbrev pub invariant-loop-at : goal.invariant-loop-at

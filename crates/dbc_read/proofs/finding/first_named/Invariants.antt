@@ -1,7 +1,4 @@
-use Rattle.std.proofs.Common.{◌≡◌, false, take}
-use Rattle.std.specs.List.{list_any}
-use Rattle.std.specs.Str.{bytes_eq}
-use Rattle.dbc_sheet.specs.declared.signal.Signal.{Signal}
+use Rattle.dbc_read.proofs.Common.{◌≡◌, false, take, list_any, bytes_eq, Signal}
 use Rattle.dbc_read.proofs.finding.first_named.Given as goal
 
 abbrev pub invariant-loop-index : goal.invariant-loop-index

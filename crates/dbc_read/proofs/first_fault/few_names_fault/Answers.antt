@@ -1,6 +1,5 @@
-use Rattle.std.proofs.Common.{◌≡◌, ◌∙◌, true, false, length, take, arith, refl}
+use Rattle.dbc_read.proofs.Common.{◌≡◌, ◌∙◌, true, false, length, take, arith, refl, bytes_eq}
 use Rattle.std.specs.List.{IsDistinct}
-use Rattle.std.specs.Str.{bytes_eq}
 use Rattle.std.proofs.lemmas.List.{length-take-le}
 use Rattle.dbc_read.specs.Faults.{IsNameRefused}
 use Rattle.dbc_read.proofs.FaultsAt.{fault_at}

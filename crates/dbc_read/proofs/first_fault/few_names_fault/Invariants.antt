@@ -1,5 +1,4 @@
-use Rattle.std.proofs.Common.{◌≡◌, ◌≤◌, take}
-use Rattle.dbc_words.specs.Named.{AreNamedApart}
+use Rattle.dbc_read.proofs.Common.{◌≡◌, ◌≤◌, take, AreNamedApart}
 use Rattle.dbc_read.proofs.first_fault.few_names_fault.Given as goal
 
 abbrev pub invariant-loop-item : goal.invariant-loop-item

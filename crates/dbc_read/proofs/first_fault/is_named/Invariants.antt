@@ -1,5 +1,4 @@
-use Rattle.std.proofs.Common.{◌≡◌, false, take}
-use Rattle.dbc_words.specs.Named.{has_name}
+use Rattle.dbc_read.proofs.Common.{◌≡◌, false, take, has_name}
 use Rattle.dbc_read.proofs.first_fault.is_named.Given as goal
 
 abbrev pub invariant-loop-item : goal.invariant-loop-item

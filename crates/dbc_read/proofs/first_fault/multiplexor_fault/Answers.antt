@@ -1,7 +1,4 @@
-use Rattle.std.proofs.Common.{◌∙◌, ◌&&◌, Bool, List, refl, subst, sym, take}
-use Rattle.std.specs.List.{IsDistinct}
-use Rattle.std.proofs.lemmas.List.{take_all}
-use Rattle.bitlayout.specs.Mux.{is_multiplexor}
+use Rattle.dbc_read.proofs.Common.{◌∙◌, ◌&&◌, Bool, List, refl, subst, sym, take, IsDistinct, take_all, is_multiplexor}
 use Rattle.dbc_read.specs.Described.{Described}
 use Rattle.dbc_read.specs.Faults.{IsMultiplexorRefused}
 use Rattle.dbc_read.proofs.FaultsAt.{fault_at}

@@ -1,5 +1,4 @@
-use Rattle.std.proofs.Common.{take}
-use Rattle.bitlayout.specs.Mux.{is_multiplexor}
+use Rattle.dbc_read.proofs.Common.{take, is_multiplexor}
 use Rattle.dbc_read.specs.Described.{Described}
 use Rattle.dbc_read.proofs.Multiplexors.{PassOnce}
 use Rattle.dbc_read.proofs.first_fault.multiplexor_fault.Given as goal

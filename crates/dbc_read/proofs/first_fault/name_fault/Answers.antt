@@ -1,8 +1,4 @@
-use Rattle.std.proofs.Common.{◌≡◌, ◌∙◌, List, take, arith, subst, sym}
-use Rattle.std.specs.Cmp.Lexicographic.{texts_ties}
-use Rattle.std.specs.Str.{bytes_eq}
-use Rattle.std.proofs.lemmas.List.{take_all}
-use Rattle.base.specs.Keyed.{text_cmp}
+use Rattle.dbc_read.proofs.Common.{◌≡◌, ◌∙◌, List, take, arith, subst, sym, texts_ties, bytes_eq, take_all, text_cmp}
 use Rattle.dbc_read.specs.Faults.{AreNamedWithin, IsNameRefused}
 use Rattle.dbc_read.proofs.FaultsAt.{fault_at}
 use Rattle.dbc_read.proofs.IteratorItems.{item_taken}

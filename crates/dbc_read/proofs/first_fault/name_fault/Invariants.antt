@@ -1,6 +1,4 @@
-use Rattle.std.proofs.Common.{take}
-use Rattle.std.specs.Str.{bytes_eq}
-use Rattle.base.specs.Keyed.{text_cmp}
+use Rattle.dbc_read.proofs.Common.{take, bytes_eq, text_cmp}
 use Rattle.dbc_read.proofs.FirstRefused.{ArePassed}
 use Rattle.dbc_read.proofs.first_fault.name_fault.Given as goal
 

@@ -1,12 +1,10 @@
-use Rattle.std.proofs.Common.{◌∙◌, nat_cmp, nat_eq, refl, take, arith, subst, sym}
+use Rattle.dbc_read.proofs.Common.{◌∙◌, nat_cmp, nat_eq, refl, take, arith, subst, sym, take_all, message_limit}
+use Rattle.dbc_read.proofs.Common.{MessageLine}
 use Rattle.std.specs.Cmp.{unsigned_ties}
-use Rattle.std.proofs.lemmas.List.{take_all}
-use Rattle.dbc_words.specs.Limits.{message_limit}
 use Rattle.dbc_read.specs.Faults.{AreNumbered, IsNumberRefused, line_number}
 use Rattle.dbc_read.proofs.FaultsAt.{fault_at}
 use Rattle.dbc_read.proofs.IteratorItems.{item_taken}
 use Rattle.dbc_read.proofs.FirstRefused.{none_passed, one_passed, was_there}
-use Rattle.dbc_statements.specs.declared.statement.MessageLine.{MessageLine}
 use Rattle.dbc_read.proofs.first_fault.number_fault.Goals as goal
 
 pub loop-message-init : goal.loop-message-init

@@ -1,5 +1,4 @@
-use Rattle.std.proofs.Common.{nat_cmp, nat_eq, take}
-use Rattle.dbc_words.specs.Limits.{message_limit}
+use Rattle.dbc_read.proofs.Common.{nat_cmp, nat_eq, take, message_limit}
 use Rattle.dbc_read.specs.Faults.{line_number}
 use Rattle.dbc_read.proofs.FirstRefused.{ArePassed}
 use Rattle.dbc_read.proofs.first_fault.number_fault.Given as goal

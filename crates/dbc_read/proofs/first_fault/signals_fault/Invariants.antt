@@ -1,4 +1,4 @@
-use Rattle.std.proofs.Common.{take}
+use Rattle.dbc_read.proofs.Common.{take}
 use Rattle.dbc_read.specs.Faults.{HaveSignalLines}
 use Rattle.dbc_read.proofs.first_fault.signals_fault.Given as goal
 

@@ -1,4 +1,4 @@
-use Rattle.std.proofs.Common.{take}
+use Rattle.dbc_read.proofs.Common.{take}
 use Rattle.dbc_read.specs.Faults.{entries_of}
 use Rattle.dbc_read.proofs.EntryLimits.{IsFirstExcess}
 use Rattle.dbc_read.proofs.first_fault.tables_fault.Given as goal

@@ -1,6 +1,6 @@
 use Rattle.dbc_read.proofs.EntryLimits.{one_more}
 use Rattle.dbc_read.proofs.IteratorItems.{item_taken}
-use Rattle.std.proofs.Common.{take}
+use Rattle.dbc_read.proofs.Common.{take}
 use Rattle.dbc_read.proofs.first_fault.values_fault.Goals as goal
 
 pub loop-entries-preserved : goal.loop-entries-preserved

@@ -1,4 +1,4 @@
-use Rattle.std.proofs.lemmas.Result.{on_ok_weaker}
+use Rattle.dbc_read.proofs.Common.{on_ok_weaker}
 use Rattle.dbc_read.proofs.gathered.gather.Goals as goal
 
 pub returns-in-NodeComment : goal.returns-in-NodeComment

@@ -1,4 +1,4 @@
-use Rattle.std.proofs.Common.{◌∙◌, ◌++◌, append-nil, ap, sym}
+use Rattle.dbc_read.proofs.Common.{◌∙◌, ◌++◌, append-nil, ap, sym}
 use Rattle.dbc_read.proofs.IteratorItems.{nothing_left}
 use Rattle.dbc_read.proofs.gathered.gather_nodes.Goals as goal
 

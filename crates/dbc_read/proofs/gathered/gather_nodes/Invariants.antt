@@ -1,5 +1,4 @@
-use Rattle.std.proofs.Common.{◌≡◌, ◌++◌}
-use Rattle.std.specs.Vec.Iter.{into_iter_items}
+use Rattle.dbc_read.proofs.Common.{◌≡◌, ◌++◌, into_iter_items}
 use Rattle.dbc_read.proofs.gathered.gather_nodes.Given as goal
 
 abbrev pub invariant-loop-node : goal.invariant-loop-node

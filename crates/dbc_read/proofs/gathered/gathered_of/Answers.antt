@@ -1,10 +1,8 @@
-use Rattle.std.proofs.Common.{◌∙◌, subst, sym}
-use Rattle.std.specs.Vec.Iter.{into_iter_items}
+use Rattle.dbc_read.proofs.Common.{◌∙◌, subst, sym, into_iter_items, content_of, statements_of, statement_of}
 use Rattle.dbc_read.specs.Lookups.{AreCitedIndices, IsCitedIndex}
 use Rattle.dbc_read.specs.Gathering.{Gathers}
 use Rattle.dbc_read.proofs.Gathering.{all_gathered, next_index, nothing_gathered, one_gathered}
 use Rattle.dbc_read.proofs.IteratorItems.{nothing_left}
-use Rattle.dbc_statements.specs.Statement.{content_of, statements_of, statement_of}
 use Rattle.dbc_read.proofs.gathered.gathered_of.Goals as goal
 
 pub loop-statement-init : goal.loop-statement-init

@@ -1,7 +1,6 @@
-use Rattle.std.specs.Vec.Iter.{into_iter_items}
+use Rattle.dbc_read.proofs.Common.{into_iter_items, statements_of}
 use Rattle.dbc_read.specs.Lookups.{AreCitedIndices}
 use Rattle.dbc_read.specs.Gathering.{Gathers}
-use Rattle.dbc_statements.specs.Statement.{statements_of}
 use Rattle.dbc_read.proofs.gathered.gathered_of.Given as goal
 
 abbrev pub invariant-loop-statement : goal.invariant-loop-statement

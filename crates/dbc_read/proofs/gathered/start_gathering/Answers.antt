@@ -1,13 +1,10 @@
-use Rattle.std.proofs.Common.{◌≡◌, ◌∙◌, [], ap, length, replicate, subst, sym}
-use Rattle.std.proofs.lemmas.List.{length-map}
-use Rattle.dbc_words.specs.declared.value_type.ValueType.TheVariants.{Integer}
-use Rattle.dbc_grammar.specs.Saying.{node_names_of, numbers_of, signal_keys_of}
+use Rattle.dbc_read.proofs.Common.{◌≡◌, ◌∙◌, [], ap, length, replicate, subst, sym, length-map, Integer, node_names_of}
+use Rattle.dbc_read.proofs.Common.{numbers_of, signal_keys_of, statements_of}
 use Rattle.dbc_read.specs.Gathered.{IsNothing}
 use Rattle.dbc_read.specs.Gathering.{with_empty, with_nothing_attached}
 use Rattle.dbc_read.specs.Keys.{key_of, text_of}
 use Rattle.dbc_read.specs.declared.gathered.Gathered.{Gathered}
 use Rattle.dbc_read.proofs.OneByOne.{is_nothing}
-use Rattle.dbc_statements.specs.Statement.{statements_of}
 use Rattle.dbc_read.proofs.gathered.start_gathering.Goals as goal
 
 pub returns : goal.returns

@@ -1,9 +1,5 @@
-use Rattle.std.proofs.Common.{◌≡◌, ◌++◌, drop, map}
-use Rattle.can_id.specs.Ident.{dbc_number}
-use Rattle.dbc_grammar.specs.Saying.{keys_of}
-use Rattle.dbc_grammar.specs.Statement.{SignalLine}
+use Rattle.dbc_read.proofs.Common.{◌≡◌, ◌++◌, drop, map, dbc_number, keys_of, SignalLine, message_of, signals_of}
 use Rattle.dbc_read.specs.Keys.{key_of}
-use Rattle.dbc_statements.specs.Statement.{message_of, signals_of}
 use Rattle.dbc_read.proofs.keys.add_keys.Given as goal
 
 abbrev pub invariant-loop-signal : goal.invariant-loop-signal

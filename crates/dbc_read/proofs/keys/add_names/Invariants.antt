@@ -1,6 +1,5 @@
-use Rattle.std.proofs.Common.{◌≡◌, ◌++◌, drop, map}
+use Rattle.dbc_read.proofs.Common.{◌≡◌, ◌++◌, drop, map, names_of}
 use Rattle.dbc_read.specs.Keys.{text_of}
-use Rattle.dbc_statements.specs.Statement.{names_of}
 use Rattle.dbc_read.proofs.keys.add_names.Given as goal
 
 abbrev pub invariant-loop-node : goal.invariant-loop-node

@@ -1,7 +1,5 @@
-use Rattle.std.proofs.Common.{◌≡◌, ◌++◌, drop, map}
-use Rattle.dbc_grammar.specs.Saying.{node_names_of, numbers_of, signal_keys_of}
+use Rattle.dbc_read.proofs.Common.{◌≡◌, ◌++◌, drop, map, node_names_of, numbers_of, signal_keys_of, statements_of}
 use Rattle.dbc_read.specs.Keys.{key_of, text_of}
-use Rattle.dbc_statements.specs.Statement.{statements_of}
 use Rattle.dbc_read.proofs.keys.keys_of.Given as goal
 
 abbrev pub invariant-loop-statement : goal.invariant-loop-statement

@@ -1,7 +1,4 @@
-use Rattle.std.proofs.Common.{◌++◌, [], ◌∷◌}
-use Rattle.std.proofs.lemmas.Option.{IfSome_then}
-use Rattle.std.proofs.lemmas.Result.{IfOk-weaker}
-use Rattle.dbc_statements.specs.Statement.{statement_of}
+use Rattle.dbc_read.proofs.Common.{◌++◌, [], ◌∷◌, IfSome_then, IfOk-weaker, statement_of}
 use Rattle.dbc_read.proofs.late.all_definitions.Goals as goal
 
 pub returns-clause-ok : goal.returns-clause-ok

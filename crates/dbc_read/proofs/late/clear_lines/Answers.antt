@@ -1,8 +1,6 @@
-use Rattle.std.proofs.Common.{◌<◌, ◌∙◌, length, arith}
+use Rattle.dbc_read.proofs.Common.{◌<◌, ◌∙◌, length, arith, HaveNothingAttached, message_of, MessageLine}
 use Rattle.dbc_read.proofs.Cleared.{one_more}
 use Rattle.dbc_read.proofs.Fed.{set_leaves}
-use Rattle.dbc_statements.specs.Statement.{HaveNothingAttached, message_of}
-use Rattle.dbc_statements.specs.declared.statement.MessageLine.{MessageLine}
 use Rattle.dbc_read.proofs.late.clear_lines.Goals as goal
 
 pub loop-at-preserved : goal.loop-at-preserved

@@ -1,6 +1,5 @@
-use Rattle.std.proofs.Common.{◌≡◌, map, take}
+use Rattle.dbc_read.proofs.Common.{◌≡◌, map, take, message_of}
 use Rattle.dbc_read.specs.Gathering.{AreBare}
-use Rattle.dbc_statements.specs.Statement.{message_of}
 use Rattle.dbc_read.proofs.late.clear_lines.Given as goal
 
 abbrev pub invariant-loop-at : goal.invariant-loop-at

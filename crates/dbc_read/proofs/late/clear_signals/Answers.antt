@@ -1,7 +1,6 @@
-use Rattle.std.proofs.Common.{◌<◌, ◌∙◌, length, arith}
+use Rattle.dbc_read.proofs.Common.{◌<◌, ◌∙◌, length, arith, HasNothingAttached, signal_of}
 use Rattle.dbc_read.proofs.Cleared.{one_more}
 use Rattle.dbc_read.proofs.Fed.{set_leaves}
-use Rattle.dbc_statements.specs.Statement.{HasNothingAttached, signal_of}
 use Rattle.dbc_read.proofs.late.clear_signals.Goals as goal
 
 pub loop-at-preserved : goal.loop-at-preserved

@@ -1,5 +1,4 @@
-use Rattle.std.proofs.Common.{◌≡◌, take}
-use Rattle.dbc_statements.specs.Statement.{HaveNothingAttached, signals_of}
+use Rattle.dbc_read.proofs.Common.{◌≡◌, take, HaveNothingAttached, signals_of}
 use Rattle.dbc_read.proofs.late.clear_signals.Given as goal
 
 abbrev pub invariant-loop-at : goal.invariant-loop-at

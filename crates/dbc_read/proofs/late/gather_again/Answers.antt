@@ -1,4 +1,4 @@
-use Rattle.std.proofs.lemmas.Result.{IfOk-weaker}
+use Rattle.dbc_read.proofs.Common.{IfOk-weaker}
 use Rattle.dbc_read.proofs.Apart.{all_apart}
 use Rattle.dbc_read.proofs.Building.{have_nothing}
 use Rattle.dbc_read.proofs.late.gather_again.Goals as goal

@@ -1,8 +1,6 @@
-use Rattle.std.proofs.Common.{◌∙◌, ◌++◌, append-nil, ap, rules, subst, sym}
+use Rattle.dbc_read.proofs.Common.{◌∙◌, ◌++◌, append-nil, ap, rules, subst, sym, is_lt, drop_of_length-le, ranks_by}
 use Rattle.std.specs.Prelude.{IsPermutation, length}
-use Rattle.std.specs.Ordering.{is_lt}
-use Rattle.std.proofs.Math.ListN.{drop_of_length-le}
-use Rattle.std.proofs.lemmas.List.Sorted.{answers_always, ranks_by}
+use Rattle.std.proofs.lemmas.List.Sorted.{answers_always}
 use Rattle.dbc_read.specs.Lookup.{with_indices}
 use Rattle.dbc_read.proofs.lookup.lookup_of.Goals as goal
 

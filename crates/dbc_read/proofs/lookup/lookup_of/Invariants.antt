@@ -1,4 +1,4 @@
-use Rattle.std.proofs.Common.{◌≡◌, ◌++◌, drop, length}
+use Rattle.dbc_read.proofs.Common.{◌≡◌, ◌++◌, drop, length}
 use Rattle.dbc_read.specs.Lookup.{with_indices}
 use Rattle.dbc_read.proofs.lookup.lookup_of.Given as goal
 

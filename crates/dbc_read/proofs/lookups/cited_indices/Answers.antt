@@ -1,8 +1,6 @@
-use Rattle.std.proofs.Common.{◌∷◌, [], append-nil, append_assoc, subst, sym}
-use Rattle.std.proofs.Math.ListN.{drop_of_length-le}
+use Rattle.dbc_read.proofs.Common.{◌∷◌, [], append-nil, append_assoc, subst, sym, drop_of_length-le, statements_of}
 use Rattle.dbc_read.specs.Lookups.{AreCitedIndices}
 use Rattle.dbc_read.proofs.IteratorItems.{drop_item}
-use Rattle.dbc_statements.specs.Statement.{statements_of}
 use Rattle.dbc_read.proofs.lookups.cited_indices.Goals as goal
 
 pub loop-statement-preserved : goal.loop-statement-preserved

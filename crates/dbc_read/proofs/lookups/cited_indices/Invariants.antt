@@ -1,7 +1,6 @@
-use Rattle.std.proofs.Common.{◌++◌, ℕ, List, Option, drop}
+use Rattle.dbc_read.proofs.Common.{◌++◌, ℕ, List, Option, drop, statements_of}
 use Rattle.dbc_grammar.specs.Statement as dbc
 use Rattle.dbc_read.specs.Lookups.{AreCitedIndices, AreLookups}
-use Rattle.dbc_statements.specs.Statement.{statements_of}
 use Rattle.dbc_read.proofs.lookups.cited_indices.Given as goal
 
 abbrev pub invariant-loop-statement : goal.invariant-loop-statement

@@ -1,6 +1,4 @@
-use Rattle.std.proofs.Common.{◌&&◌, ℕ, List, Bor, nat_eq, refl, subst}
-use Rattle.std.specs.Str.{bytes_eq}
-use Rattle.dbc_grammar.specs.Saying.{same_signal}
+use Rattle.dbc_read.proofs.Common.{◌&&◌, ℕ, List, Bor, nat_eq, refl, subst, bytes_eq, same_signal}
 use Rattle.dbc_read.specs.Lookup.{IsIndexIn}
 use Rattle.dbc_read.specs.Keys.{key_of}
 use Rattle.dbc_read.proofs.LookingUp.{index_seen}

@@ -1,5 +1,4 @@
-use Rattle.std.proofs.Common.{◌≡◌, ◌++◌, map}
-use Rattle.std.specs.Vec.Iter.{into_iter_items}
+use Rattle.dbc_read.proofs.Common.{◌≡◌, ◌++◌, map, into_iter_items}
 use Rattle.dbc_read.proofs.messages.apart.Given as goal
 
 abbrev pub invariant-loop-line : goal.invariant-loop-line

@@ -1,5 +1,4 @@
-use Rattle.std.proofs.Common.{◌≡◌, ◌++◌}
-use Rattle.std.specs.Vec.Iter.{into_iter_items}
+use Rattle.dbc_read.proofs.Common.{◌≡◌, ◌++◌, into_iter_items}
 use Rattle.dbc_read.specs.Attaching.{commented}
 use Rattle.dbc_read.proofs.messages.with_comments.Given as goal
 

@@ -1,4 +1,4 @@
-use Rattle.std.proofs.Common.{◌≡◌, ◌++◌, drop}
+use Rattle.dbc_read.proofs.Common.{◌≡◌, ◌++◌, drop}
 use Rattle.dbc_read.specs.Numbers.{line_numbers}
 use Rattle.dbc_read.proofs.numbers.numbers_of.Given as goal
 

@@ -1,5 +1,5 @@
-use Rattle.std.proofs.Common.{◌≡◌, ◌∙◌, ◌++◌, false, [], ◌∷◌, None, ap, refl, subst, sym}
-use Rattle.std.proofs.lemmas.Result.{err_from_is_err_and}
+use Rattle.dbc_read.proofs.Common.{◌≡◌, ◌∙◌, ◌++◌, false, [], ◌∷◌, None, ap, refl, subst, sym, err_from_is_err_and}
+use Rattle.dbc_read.proofs.Common.{content_of, statement_of}
 use Rattle.dbc_grammar.specs.Statement as dbc
 use Rattle.dbc_read.specs.Gathered.{passed_of}
 use Rattle.dbc_read.specs.Gathering.{AreBare, IsDefining, cites}
@@ -8,7 +8,6 @@ use Rattle.dbc_read.proofs.Building.{bare_after}
 use Rattle.dbc_read.proofs.OneByOne.{begin_with_more, begin_with_nothing, begin_without, none_read, one_defined}
 use Rattle.dbc_read.proofs.OneByOne.{one_read}
 use Rattle.dbc_statements.specs.Left.{Left}
-use Rattle.dbc_statements.specs.Statement.{content_of, statement_of}
 use Rattle.dbc_read.proofs.one_by_one.gather_definitions.Goals as goal
 
 pub statements-init : goal.statements-init

@@ -1,4 +1,4 @@
-use Rattle.std.proofs.Common.{◌≡◌, [], length}
+use Rattle.dbc_read.proofs.Common.{◌≡◌, [], length}
 use Rattle.dbc_read.specs.Gathering.{AreBare, IsDefining}
 use Rattle.dbc_read.proofs.OneByOne.{ReadSoFar}
 use Rattle.dbc_read.proofs.one_by_one.gather_definitions.Given as goal

@@ -1,5 +1,4 @@
-use Rattle.std.proofs.lemmas.Option.{IfSome_then}
-use Rattle.std.proofs.lemmas.Result.{IfOk-weaker}
+use Rattle.dbc_read.proofs.Common.{IfSome_then, IfOk-weaker}
 use Rattle.dbc_read.proofs.Building.{have_nothing}
 use Rattle.dbc_read.proofs.Settled.{all_follow, finds_signals_same}
 use Rattle.dbc_read.proofs.one_by_one.gather_found.Goals as goal

@@ -1,13 +1,10 @@
-use Rattle.std.proofs.Common.{◌≡◌, ◌∙◌, ◌++◌, List, sym, subst}
-use Rattle.std.proofs.lemmas.List.{with_items_is}
-use Rattle.std.proofs.lemmas.Option.{IfSome_then}
-use Rattle.std.proofs.lemmas.Result.{err_from_is_err_and}
+use Rattle.dbc_read.proofs.Common.{◌≡◌, ◌∙◌, ◌++◌, List, sym, subst, with_items_is, IfSome_then, err_from_is_err_and}
+use Rattle.dbc_read.proofs.Common.{MessageLine}
 use Rattle.dbc_read.specs.Attaching.{in_signals}
 use Rattle.dbc_read.specs.Gathering.{AreBare, one_or_none, with_definitions}
 use Rattle.dbc_read.specs.Settling.{AreSettled}
 use Rattle.dbc_read.proofs.OneByOne.{begin_without}
 use Rattle.dbc_read.proofs.Settled.{all_settled}
-use Rattle.dbc_statements.specs.declared.statement.MessageLine.{MessageLine}
 use Rattle.dbc_read.proofs.one_by_one.gather_up_to.Goals as goal
 
 pub gather_others-requires-clause-bare : goal.gather_others-requires-clause-bare

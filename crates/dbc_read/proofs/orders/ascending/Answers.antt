@@ -1,14 +1,7 @@
-use Rattle.std.proofs.Common.{◌≡◌, ◌∙◌, ◌+◌, ◌-◌, ◌<◌, ◌++◌, ℕ, List, [], ◌∷◌, ap, append-nil, append_assoc, arith}
-use Rattle.std.proofs.Common.{get_or, rules, subst, suc, sym}
+use Rattle.dbc_read.proofs.Common.{◌≡◌, ◌∙◌, ◌+◌, ◌-◌, ◌<◌, ◌++◌, ℕ, List, [], ◌∷◌, ap, append-nil, append_assoc, arith}
+use Rattle.dbc_read.proofs.Common.{get_or, rules, subst, suc, sym, nat_list_cmp_total, range_with_len, is_lt}
+use Rattle.dbc_read.proofs.Common.{always_returns_same, length-map, ranks_by, text_cmp, Signal}
 use Rattle.std.specs.Prelude.{IsPermutation}
-use Rattle.std.specs.Cmp.Lexicographic.{nat_list_cmp_total}
-use Rattle.std.specs.List.{range_with_len}
-use Rattle.std.specs.Ordering.{is_lt}
-use Rattle.std.proofs.lemmas.Fn.{always_returns_same}
-use Rattle.std.proofs.lemmas.List.{length-map}
-use Rattle.std.proofs.lemmas.List.Sorted.{ranks_by}
-use Rattle.base.specs.Keyed.{text_cmp}
-use Rattle.dbc_sheet.specs.declared.signal.Signal.{Signal}
 use Rattle.dbc_read.specs.Orders.{signal_names}
 use Rattle.dbc_read.proofs.orders.ascending.Goals as goal
 

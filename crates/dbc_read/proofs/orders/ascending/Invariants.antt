@@ -1,5 +1,4 @@
-use Rattle.std.proofs.Common.{◌≡◌, ◌++◌, ◌-◌}
-use Rattle.std.specs.List.{range_with_len}
+use Rattle.dbc_read.proofs.Common.{◌≡◌, ◌++◌, ◌-◌, range_with_len}
 use Rattle.dbc_read.proofs.orders.ascending.Given as goal
 
 abbrev pub invariant-loop-index : goal.invariant-loop-index

@@ -1,10 +1,8 @@
-use Rattle.std.proofs.Common.{◌∙◌, ◌++◌, ◌∷◌, Global, List, [], ap, append-nil, append_assoc, map, subst, sym}
-use Rattle.std.proofs.Math.ListN.{drop_of_length-le}
+use Rattle.dbc_read.proofs.Common.{◌∙◌, ◌++◌, ◌∷◌, Global, List, [], ap, append-nil, append_assoc, map, subst, sym}
+use Rattle.dbc_read.proofs.Common.{drop_of_length-le, message_of, MessageLine}
 use Rattle.dbc_read.specs.Orders.{AreOrdersOf, IsOrderOf, signal_names}
 use Rattle.dbc_read.proofs.IteratorItems.{drop_item}
 use Rattle.dbc_read.proofs.Ordered.{names_meant}
-use Rattle.dbc_statements.specs.Statement.{message_of}
-use Rattle.dbc_statements.specs.declared.statement.MessageLine.{MessageLine}
 use Rattle.dbc_read.proofs.orders.orders_of.Goals as goal
 
 pub loop-line-preserved : goal.loop-line-preserved

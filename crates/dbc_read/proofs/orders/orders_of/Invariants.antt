@@ -1,7 +1,6 @@
-use Rattle.std.proofs.Common.{◌++◌, Box, Global, List, Option, drop, map}
+use Rattle.dbc_read.proofs.Common.{◌++◌, Box, Global, List, Option, drop, map, message_of}
 use Rattle.dbc_read.specs.Orders.{AreOrdersOf}
 use Rattle.dbc_read.specs.declared.orders.Order.{Order}
-use Rattle.dbc_statements.specs.Statement.{message_of}
 use Rattle.dbc_read.proofs.orders.orders_of.Given as goal
 
 abbrev pub invariant-loop-line : goal.invariant-loop-line

@@ -1,8 +1,4 @@
-use Rattle.std.proofs.Common.{[], Some, None, get_or, refl, rules}
-use Rattle.std.specs.Str.{bytes_eq}
-use Rattle.std.proofs.lemmas.Fn.{always_returns_same}
-use Rattle.base.specs.Keyed.{text_cmp}
-use Rattle.dbc_sheet.specs.declared.signal.Signal.{Signal}
+use Rattle.dbc_read.proofs.Common.{[], Some, None, get_or, refl, rules, bytes_eq, always_returns_same, text_cmp, Signal}
 use Rattle.dbc_read.specs.Orders.{signal_names}
 use Rattle.dbc_read.proofs.LookingUp.{index_meant}
 use Rattle.dbc_read.proofs.Ordered.{absent, found}

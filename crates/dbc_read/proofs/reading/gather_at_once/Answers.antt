@@ -1,7 +1,4 @@
-use Rattle.std.proofs.Common.{◌≡◌, ◌∙◌}
-use Rattle.std.proofs.lemmas.Option.{IfSome_then}
-use Rattle.std.proofs.lemmas.Result.{IfOk-weaker, err_from_is_err_and}
-use Rattle.dbc_statements.proofs.WholeText.{is_divided, no_division}
+use Rattle.dbc_read.proofs.Common.{◌≡◌, ◌∙◌, IfSome_then, IfOk-weaker, err_from_is_err_and, is_divided, no_division}
 use Rattle.dbc_read.proofs.Divided.{all_tokens, no_tokens_left}
 use Rattle.dbc_read.proofs.reading.gather_at_once.Goals as goal
 

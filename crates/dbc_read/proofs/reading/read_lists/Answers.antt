@@ -1,5 +1,4 @@
-use Rattle.std.proofs.Common.{inl, inr}
-use Rattle.std.proofs.lemmas.Result.{err_from_is_err_and}
+use Rattle.dbc_read.proofs.Common.{inl, inr, err_from_is_err_and}
 use Rattle.dbc_read.proofs.Divided.{found_only, found_reads, reads_none_at, undivided}
 use Rattle.dbc_read.proofs.reading.read_lists.Goals as goal
 

@@ -1,4 +1,4 @@
-use Rattle.std.proofs.lemmas.Result.{IfOk-weaker, err_from_is_err_and}
+use Rattle.dbc_read.proofs.Common.{IfOk-weaker, err_from_is_err_and}
 use Rattle.dbc_read.specs.Attaching.{in_signals}
 use Rattle.dbc_read.proofs.Divided.{found_only, found_reads}
 use Rattle.dbc_read.proofs.reading.read_sheet.Goals as goal

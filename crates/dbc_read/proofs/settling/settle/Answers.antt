@@ -1,4 +1,4 @@
-use Rattle.std.proofs.Common.{◌∙◌, ap, refl, sym}
+use Rattle.dbc_read.proofs.Common.{◌∙◌, ap, refl, sym}
 use Rattle.dbc_read.specs.Gathering.{IsGathered}
 use Rattle.dbc_read.specs.declared.attaching.Attachment.TheVariants as what
 use Rattle.dbc_read.proofs.Settled.{attached_parts, other_parts}

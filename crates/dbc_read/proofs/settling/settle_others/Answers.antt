@@ -1,9 +1,7 @@
-use Rattle.std.proofs.Common.{◌∙◌, refl, sym}
-use Rattle.std.proofs.lemmas.Result.{err_from_is_err_and}
+use Rattle.dbc_read.proofs.Common.{◌∙◌, refl, sym, err_from_is_err_and, statement_of}
 use Rattle.dbc_read.proofs.Apart.{none_apart, one_apart, skipped_apart}
 use Rattle.dbc_read.proofs.OneByOne.{begin_with_all, begin_without, none_read, one_read}
 use Rattle.dbc_read.proofs.Settled.{finds_signals_same}
-use Rattle.dbc_statements.specs.Statement.{statement_of}
 use Rattle.dbc_read.proofs.settling.settle_others.Goals as goal
 
 pub statements-init : goal.statements-init

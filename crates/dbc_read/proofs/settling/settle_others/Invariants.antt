@@ -1,7 +1,6 @@
-use Rattle.std.proofs.Common.{◌≡◌, length, map}
+use Rattle.dbc_read.proofs.Common.{◌≡◌, length, map, message_of}
 use Rattle.dbc_read.specs.Late.{SettlesApart}
 use Rattle.dbc_read.proofs.OneByOne.{ReadSoFar}
-use Rattle.dbc_statements.specs.Statement.{message_of}
 use Rattle.dbc_read.proofs.settling.settle_others.Given as goal
 
 abbrev pub invariant-statements : goal.invariant-statements

@@ -1,20 +1,13 @@
-use Rattle.std.proofs.Common.{◌≡◌, ◌++◌, ◌∷◌, ◌∙◌, IsPermutation, ap, refl, sym, subst}
-use Rattle.std.specs.List.{AllByRecursion}
-use Rattle.std.specs.Vec.Iter.{into_iter_items}
-use Rattle.std.proofs.lemmas.Result.{err_from_is_err_and}
-use Rattle.base.specs.Keyed.{put}
+use Rattle.dbc_read.proofs.Common.{◌≡◌, ◌++◌, ◌∷◌, ◌∙◌, IsPermutation, ap, refl, sym, subst, AllByRecursion}
+use Rattle.dbc_read.proofs.Common.{into_iter_items, err_from_is_err_and, put, by_number, message_tests, Message, Sheet}
+use Rattle.dbc_read.proofs.Common.{message_with, message_of}
 use Rattle.base.proofs.Refusals.{none_holds}
-use Rattle.dbc_sheet.specs.Messages.{by_number, message_tests}
-use Rattle.dbc_sheet.specs.declared.message.Message.{Message}
-use Rattle.dbc_sheet.specs.declared.sheet.Sheet.{Sheet}
 use Rattle.dbc_read.specs.Attaching.{line_signals, messages_of_lines}
 use Rattle.dbc_read.specs.Fit.{IsFit}
 use Rattle.dbc_read.proofs.Building.{first_line}
 use Rattle.dbc_read.proofs.Putting.{one_put}
 use Rattle.dbc_read.proofs.Refused.{unless}
 use Rattle.dbc_read.proofs.SheetsFit.{message_refused}
-use Rattle.dbc_statements.specs.Parts.{message_with}
-use Rattle.dbc_statements.specs.Statement.{message_of}
 use Rattle.dbc_read.proofs.sheets.add_each.Goals as goal
 
 pub loop-line-preserved : goal.loop-line-preserved

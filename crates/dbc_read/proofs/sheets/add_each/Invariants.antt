@@ -1,6 +1,4 @@
-use Rattle.std.proofs.Common.{◌≡◌, ◌++◌, IsPermutation}
-use Rattle.std.specs.List.{AllByRecursion}
-use Rattle.std.specs.Vec.Iter.{into_iter_items}
+use Rattle.dbc_read.proofs.Common.{◌≡◌, ◌++◌, IsPermutation, AllByRecursion, into_iter_items}
 use Rattle.dbc_read.specs.Attaching.{messages_of_lines}
 use Rattle.dbc_read.specs.Fit.{IsFit}
 use Rattle.dbc_read.proofs.sheets.add_each.Given as goal

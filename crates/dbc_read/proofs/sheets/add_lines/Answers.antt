@@ -1,6 +1,5 @@
-use Rattle.std.proofs.Common.{◌++◌, IsPermutation, subst}
-use Rattle.std.proofs.lemmas.List.Sorted.{IsPermutation-append_right, IsPermutation-trans}
-use Rattle.std.proofs.lemmas.Result.{err_from_is_err_and}
+use Rattle.dbc_read.proofs.Common.{◌++◌, IsPermutation, subst, IsPermutation-append_right, IsPermutation-trans}
+use Rattle.dbc_read.proofs.Common.{err_from_is_err_and}
 use Rattle.dbc_read.specs.Attaching.{messages_of_lines}
 use Rattle.dbc_read.proofs.Refused.{unless}
 use Rattle.dbc_read.proofs.SheetsFit.{addable_in_any_order}

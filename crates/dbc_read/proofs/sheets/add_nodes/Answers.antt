@@ -1,10 +1,6 @@
-use Rattle.std.specs.Vec.Iter.{into_iter_items}
-use Rattle.std.proofs.lemmas.Result.{err_from_is_err_and}
-use Rattle.dbc_sheet.specs.Sheet.{node_name}
-use Rattle.dbc_sheet.specs.declared.node.Node.{Node}
+use Rattle.dbc_read.proofs.Common.{into_iter_items, err_from_is_err_and, node_name, Node, names_of}
 use Rattle.dbc_read.specs.Built.{nodes_from}
 use Rattle.dbc_read.proofs.SheetsFit.{node_refused}
-use Rattle.dbc_statements.specs.Statement.{names_of}
 use Rattle.dbc_read.proofs.sheets.add_nodes.Goals as goal
 
 pub returns-in_err-with_node-clause-refused : goal.returns-in_err-with_node-clause-refused

@@ -1,7 +1,5 @@
-use Rattle.std.proofs.Common.{◌≡◌, ◌++◌}
-use Rattle.std.specs.Vec.Iter.{into_iter_items}
+use Rattle.dbc_read.proofs.Common.{◌≡◌, ◌++◌, into_iter_items, names_of}
 use Rattle.dbc_read.specs.Built.{nodes_from}
-use Rattle.dbc_statements.specs.Statement.{names_of}
 use Rattle.dbc_read.proofs.sheets.add_nodes.Given as goal
 
 abbrev pub invariant-loop-node : goal.invariant-loop-node

@@ -1,7 +1,4 @@
-use Rattle.std.proofs.Common.{◌++◌, ◌∷◌, ◌∙◌, map, ap}
-use Rattle.std.specs.Vec.Iter.{into_iter_items}
-use Rattle.std.proofs.lemmas.Result.{err_from_is_err_and}
-use Rattle.dbc_statements.specs.Parts.{table_of}
+use Rattle.dbc_read.proofs.Common.{◌++◌, ◌∷◌, ◌∙◌, map, ap, into_iter_items, err_from_is_err_and, table_of}
 use Rattle.dbc_read.proofs.SheetsFit.{entries_refused, table_refused}
 use Rattle.dbc_read.proofs.sheets.add_tables.Goals as goal
 

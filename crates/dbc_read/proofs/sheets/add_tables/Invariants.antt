@@ -1,6 +1,4 @@
-use Rattle.std.proofs.Common.{◌≡◌, ◌++◌, map}
-use Rattle.std.specs.Vec.Iter.{into_iter_items}
-use Rattle.dbc_statements.specs.Parts.{table_of}
+use Rattle.dbc_read.proofs.Common.{◌≡◌, ◌++◌, map, into_iter_items, table_of}
 use Rattle.dbc_read.proofs.sheets.add_tables.Given as goal
 
 abbrev pub invariant-loop-line : goal.invariant-loop-line

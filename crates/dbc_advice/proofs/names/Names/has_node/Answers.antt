@@ -1,4 +1,4 @@
-use Rattle.std.proofs.Common.{◌∙◌}
+use Rattle.dbc_advice.proofs.Common.{◌∙◌}
 use Rattle.dbc_advice.proofs.NamesFound.{node_found}
 use Rattle.dbc_advice.proofs.names.Names.has_node.Goals as goal
 

@@ -1,4 +1,4 @@
-use Rattle.std.proofs.Common.{◌∙◌}
+use Rattle.dbc_advice.proofs.Common.{◌∙◌}
 use Rattle.dbc_advice.proofs.NamesFound.{signal_found}
 use Rattle.dbc_advice.proofs.names.Names.has_signal.Goals as goal
 

@@ -1,6 +1,4 @@
-use Rattle.std.proofs.Common.{◌≡◌, drop}
-use Rattle.std.specs.Prelude.{find}
-use Rattle.std.specs.Str.{bytes_eq}
+use Rattle.dbc_lint.proofs.Common.{◌≡◌, drop, find, bytes_eq}
 use Rattle.dbc_lint.specs.Kind.{kind_name, kind_of}
 use Rattle.dbc_lint.proofs.kind.Kind.of.Given as goal
 

@@ -1,6 +1,6 @@
-use Rattle.std.proofs.Common.{◌∙◌, ℤ, ap, cond, not, true}
+use Rattle.dbc_lint.proofs.Common.{◌∙◌, ℤ, ap, cond, not, true, is_eq}
 use Rattle.std.specs.BTreeSet.{contains}
-use Rattle.std.specs.Ordering.{int_cmp, is_eq}
+use Rattle.std.specs.Ordering.{int_cmp}
 use Rattle.dbc_lint.specs.NumberSet.{holds_number, pair_cmp}
 use Rattle.dbc_lint.proofs.NumberSets.{with_number}
 use Rattle.dbc_lint.proofs.number_set.NumberSet.insert.Goals as goal

@@ -1,6 +1,5 @@
-use Rattle.std.proofs.Common.{◌≡◌, ◌∙◌, ℕ, Some, ap, cond, false, nat_cmp, subst, sym, true}
-use Rattle.std.specs.Prelude.{is_some}
-use Rattle.std.specs.Ordering.{is_eq}
+use Rattle.dbc_lint.proofs.Common.{◌≡◌, ◌∙◌, ℕ, Some, ap, cond, false, subst, sym, true, is_some, is_eq}
+use Rattle.std.proofs.Common.{nat_cmp}
 use Rattle.dbc_lint.specs.OfSpn.{Place}
 use Rattle.dbc_lint.specs.SpnPlaces.{kept_place}
 use Rattle.dbc_lint.specs.declared.spn_places.FirstPlaces.{FirstPlaces}

@@ -1,4 +1,4 @@
-use Rattle.std.proofs.Common.{◌++◌, List, map, subst, sym, take}
+use Rattle.dbc_lint.proofs.Common.{◌++◌, List, map, subst, sym, take}
 use Rattle.std.proofs.lemmas.List.{append-nil}
 use Rattle.dbc_lint.specs.OfSpn.{Place, place_of}
 use Rattle.dbc_lint.specs.SpnPlaces.{HasFirsts}

@@ -1,4 +1,4 @@
-use Rattle.std.proofs.Common.{◌++◌, List, map, take}
+use Rattle.dbc_lint.proofs.Common.{◌++◌, List, map, take}
 use Rattle.dbc_lint.specs.OfSpn.{Place, place_of}
 use Rattle.dbc_lint.specs.SpnPlaces.{HasFirsts}
 use Rattle.dbc_lint.proofs.spn_places.FirstPlaces.add_message.Given as goal

@@ -1,4 +1,4 @@
-use Rattle.std.proofs.Common.{List, subst, take}
+use Rattle.dbc_lint.proofs.Common.{List, subst, take}
 use Rattle.dbc_lint.specs.OfSpn.{Place, places}
 use Rattle.dbc_lint.specs.SpnPlaces.{HasFirsts}
 use Rattle.dbc_lint.proofs.FirstSpns.{messages_more}

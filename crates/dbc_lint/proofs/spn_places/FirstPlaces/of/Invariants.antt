@@ -1,4 +1,4 @@
-use Rattle.std.proofs.Common.{take}
+use Rattle.dbc_lint.proofs.Common.{take}
 use Rattle.dbc_lint.specs.OfSpn.{places}
 use Rattle.dbc_lint.specs.SpnPlaces.{HasFirsts}
 use Rattle.dbc_lint.proofs.spn_places.FirstPlaces.of.Given as goal

@@ -1,9 +1,4 @@
-use Rattle.std.proofs.Common.{◌∙◌, ap, List, ℕ, Bor}
-use Rattle.std.specs.Prelude.{count_by}
-use Rattle.dbc_words.specs.Named.{has_name}
-use Rattle.dbc_sheet.specs.Sheet.{node_name}
-use Rattle.dbc_sheet.specs.declared.message.Message.{Message}
-use Rattle.dbc_sheet.specs.declared.node.Node.{Node}
+use Rattle.dbc_lint.proofs.Common.{◌∙◌, ap, List, ℕ, Bor, count_by, has_name, node_name, Message, Node}
 use Rattle.dbc_lint.specs.OfMessage.{is_over_8}
 use Rattle.dbc_lint.specs.OfNode.{has_text, names_used}
 use Rattle.dbc_lint.specs.OfSpn.{first_place, places}

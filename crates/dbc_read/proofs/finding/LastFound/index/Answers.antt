@@ -1,5 +1,4 @@
-use Rattle.std.proofs.Common.{◌==◌, ℕ, List, Bor, refl, subst}
-use Rattle.std.specs.Str.{bytes_eq}
+use Rattle.dbc_read.proofs.Common.{◌==◌, ℕ, List, Bor, refl, subst, bytes_eq}
 use Rattle.dbc_read.specs.Keys.{text_of}
 use Rattle.dbc_read.specs.Lookup.{IsIndexIn}
 use Rattle.dbc_read.proofs.LookingUp.{index_seen}

@@ -1,5 +1,4 @@
-use Rattle.std.proofs.Common.{List, arith, get_or, subst, sym}
-use Rattle.dbc_sheet.specs.declared.signal.Signal.{Signal}
+use Rattle.dbc_read.proofs.Common.{List, arith, get_or, subst, sym, Signal}
 use Rattle.dbc_read.specs.Orders.{IsOrderOf, signal_names}
 use Rattle.dbc_read.proofs.Ordered.{as_many, order_there}
 use Rattle.dbc_read.proofs.SignalIndices.{indices_found, name_missing, number_missing, number_within}

@@ -1,9 +1,5 @@
-use Rattle.std.proofs.Common.{◌≡◌, ◌∙◌, ◌++◌, List, [], IsPermutation, ap, subst, sym}
-use Rattle.std.specs.Prelude.{unwrap_or}
-use Rattle.std.specs.List.{AllByRecursion}
-use Rattle.dbc_sheet.specs.declared.message.Message.{Message}
-use Rattle.dbc_sheet.specs.declared.sheet.Sheet.{Sheet}
-use Rattle.std.proofs.lemmas.Result.{err_from_is_err_and}
+use Rattle.dbc_read.proofs.Common.{◌≡◌, ◌∙◌, ◌++◌, List, [], IsPermutation, ap, subst, sym, unwrap_or, AllByRecursion}
+use Rattle.dbc_read.proofs.Common.{Message, Sheet, err_from_is_err_and}
 use Rattle.dbc_read.specs.Attaching.{in_signals, messages_of_lines}
 use Rattle.dbc_read.specs.Built.{messages_in, nodes_in, tables_in}
 use Rattle.dbc_read.specs.Fit.{CanShareSheet, IsFit}

@@ -1,7 +1,6 @@
-use Rattle.std.proofs.Common.{◌≡◌, ◌∙◌, List, ap, map, subst, sym}
-use Rattle.std.specs.List.{AllByRecursion}
-use Rattle.std.proofs.lemmas.List.{with_items_is}
-use Rattle.std.proofs.lemmas.Result.{IfErr-weaker, IfOk-weaker, err_from_is_err_and}
+use Rattle.dbc_read.proofs.Common.{◌≡◌, ◌∙◌, List, ap, map, subst, sym, AllByRecursion, with_items_is, IfOk-weaker}
+use Rattle.dbc_read.proofs.Common.{err_from_is_err_and, message_of, MessageLine}
+use Rattle.std.proofs.lemmas.Result.{IfErr-weaker}
 use Rattle.dbc_read.specs.Attaching.{each_fed, in_signals, line_signals}
 use Rattle.dbc_read.specs.Built.{CanBeSheet, IsBuilt, feeds_in}
 use Rattle.dbc_read.specs.Fit.{HaveFewTexts}
@@ -10,8 +9,6 @@ use Rattle.dbc_read.specs.declared.gathered.Gathered.{Gathered}
 use Rattle.dbc_read.specs.declared.reading.Reading.{Reading}
 use Rattle.dbc_read.proofs.Building.{built_of_lists, fit_few, in_lines, sheet_of_lists}
 use Rattle.dbc_read.proofs.Refused.{unless}
-use Rattle.dbc_statements.specs.Statement.{message_of}
-use Rattle.dbc_statements.specs.declared.statement.MessageLine.{MessageLine}
 use Rattle.dbc_read.proofs.gathered.Gathered.into_reading_of_lists.Goals as goal
 
 pub returns-in_err-feed_lines-clause-refused : goal.returns-in_err-feed_lines-clause-refused

@@ -1,5 +1,4 @@
-use Rattle.std.proofs.Common.{rules}
-use Rattle.std.proofs.lemmas.Fn.{always_returns_same}
+use Rattle.dbc_read.proofs.Common.{rules, always_returns_same}
 use Rattle.dbc_read.proofs.LookingUp.{absent, found}
 use Rattle.dbc_read.proofs.lookup.Lookup.search.Goals as goal
 

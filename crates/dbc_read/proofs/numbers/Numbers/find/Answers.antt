@@ -1,5 +1,4 @@
-use Rattle.std.proofs.Common.{ℕ, Bool, List, nat_eq, subst, sym}
-use Rattle.dbc_grammar.proofs.SheetStated.{nat_flip}
+use Rattle.dbc_read.proofs.Common.{ℕ, Bool, List, nat_eq, subst, sym, nat_flip}
 use Rattle.dbc_read.specs.Lookup.{IsIndexIn}
 use Rattle.dbc_read.proofs.Positions.{index_from_position}
 use Rattle.dbc_read.proofs.numbers.Numbers.find.Goals as goal

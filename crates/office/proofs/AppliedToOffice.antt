@@ -1,30 +1,18 @@
 -- What one change leaves of the whole office.
-use Rattle.std.proofs.Common.{◌≡◌, ◌∙◌, ◌≤◌, ◌<◌, ℕ, Bool, true, false, cond, List, [], ◌∷◌, Option, Some, None, length}
-use Rattle.std.proofs.Common.{get_or, find, refl, sym, ap, arith}
-use Rattle.std.specs.Prelude.{nat_lt, slice_get}
-use Rattle.std.specs.List.{position, position_or_len}
-use Rattle.std.specs.List.Sorted.{IsStrictlySortedBy}
-use Rattle.std.specs.Ordering.{nat_cmp}
-use Rattle.std.specs.Str.{bytes_eq}
+use Rattle.office.proofs.Common.{◌≡◌, ◌∙◌, ◌≤◌, ◌<◌, ℕ, Bool, true, false, cond, List, [], ◌∷◌, Option, Some, None}
+use Rattle.office.proofs.Common.{length, get_or, find, refl, sym, ap, arith, slice_get, position, IsStrictlySortedBy}
+use Rattle.office.proofs.Common.{nat_cmp, bytes_eq, put, by_name, SpnBlock, SpnBook, Change, SetHead, AddSignal, SetSpn}
+use Rattle.office.proofs.Common.{SetSpnBlock, EnterSpn, LiveMessage, Net, Office, changed_book, net_changed, live_named}
+use Rattle.office.proofs.Common.{with_message, with_last_signal, net_named}
+use Rattle.std.specs.Prelude.{nat_lt}
+use Rattle.std.specs.List.{position_or_len}
 use Rattle.std.proofs.lemmas.Bool.Decides.{nat_tests}
 use Rattle.std.proofs.lemmas.List.Folds.{find_at}
 use Rattle.std.proofs.lemmas.Option.{slice_get-get_or, slice_get_past}
-use Rattle.base.specs.Keyed.{put}
 use Rattle.office_types.specs.Book.{by_net}
-use Rattle.office_types.specs.State.{by_name}
-use Rattle.office_types.specs.declared.book.SpnBlock.{SpnBlock}
-use Rattle.office_types.specs.declared.book.SpnBook.{SpnBook}
-use Rattle.office_types.specs.declared.change.Change.{Change}
-use Rattle.office_types.specs.declared.change.Change.TheVariants.{SetHead, AddSignal, RemoveSignal, SetSpn, SetValues}
-use Rattle.office_types.specs.declared.change.Change.TheVariants.{SetSpnBlock, EnterSpn}
-use Rattle.office_types.specs.declared.state.LiveMessage.{LiveMessage}
-use Rattle.office_types.specs.declared.state.Net.{Net}
-use Rattle.office_types.specs.declared.state.Office.{Office}
-use Rattle.office_rules.specs.Change.{changed_book, changed_net, net_changed}
-use Rattle.office_rules.specs.Facts.{live_named}
-use Rattle.office_rules.specs.Numbers.{with_message}
-use Rattle.office_rules.specs.Signals.{with_last_signal, with_signal_out, with_spn, with_values}
-use Rattle.office_rules.specs.Step.{net_named}
+use Rattle.office_types.specs.declared.change.Change.TheVariants.{RemoveSignal, SetValues}
+use Rattle.office_rules.specs.Change.{changed_net}
+use Rattle.office_rules.specs.Signals.{with_signal_out, with_spn, with_values}
 use Rattle.office_law.proofs.OrderedNets.{has, put_found}
 use Rattle.office.specs.OfficeApplied.{IsNetFound, office_applied, with_both}
 

@@ -1,18 +1,10 @@
 -- What changes leave of a network that is there and of the book.
-use Rattle.std.proofs.Common.{◌≡◌, ◌∙◌, ◌++◌, ℕ, false, List, [], ◌∷◌, Option, Some, None, length, map, refl, sym, ap}
-use Rattle.std.proofs.Common.{subst, arith}
-use Rattle.std.specs.Prelude.{Err, Ok, OnErr, OnOk, Result, option_map, slice_get}
-use Rattle.std.specs.List.{filter_map, remove}
-use Rattle.std.proofs.lemmas.Bool.{false≢true}
-use Rattle.office_types.specs.Free.{is_taken}
-use Rattle.office_types.specs.declared.book.SpnBook.{SpnBook}
-use Rattle.office_types.specs.declared.change.Change.{Change}
-use Rattle.office_types.specs.declared.change.Change.TheVariants.{SetHead, SetBlock, SetSpnBlock, EnterSpn, SetApproval}
-use Rattle.office_types.specs.declared.change.Change.TheVariants.{ClearApprovals, AddRelease}
-use Rattle.office_types.specs.declared.state.Net.{Net}
-use Rattle.office_types.specs.declared.state.LiveMessage.{LiveMessage}
-use Rattle.office_rules.specs.Facts.{live_named, number_in}
-use Rattle.office_rules.specs.Change.{NetAndBook, all_applied, applied, changed_book, net_changed}
+use Rattle.office.proofs.Common.{◌≡◌, ◌∙◌, ◌++◌, ℕ, false, List, [], ◌∷◌, Option, Some, None, length, map, refl, sym}
+use Rattle.office.proofs.Common.{ap, subst, arith, Err, Ok, OnErr, OnOk, Result, option_map, slice_get, filter_map}
+use Rattle.office.proofs.Common.{remove, false≢true, is_taken, SpnBook, Change, SetHead, SetSpnBlock, EnterSpn, Net}
+use Rattle.office.proofs.Common.{LiveMessage, live_named, number_in, NetAndBook, all_applied, changed_book, net_changed}
+use Rattle.office_types.specs.declared.change.Change.TheVariants.{SetBlock, SetApproval, ClearApprovals, AddRelease}
+use Rattle.office_rules.specs.Change.{applied}
 use Rattle.office.specs.Indexed.{IsIndexIfThere, live_number, is_of_messages}
 use Rattle.office.specs.declared.net_index.NetIndex.{NetIndex}
 use Rattle.office.proofs.AppliedToOffice.{changed_there, name_kept}

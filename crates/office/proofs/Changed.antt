@@ -1,32 +1,19 @@
 -- Changes of live messages and held identifiers, made where a search finds them.
-use Rattle.std.proofs.Common.{◌≡◌, ◌≢◌, ◌∙◌, ◌<◌, Bool, true, false, not, cond, ℕ, zero, suc, List, [], ◌∷◌, Option}
-use Rattle.std.proofs.Common.{Contains, length, get_or, set, filter, ◌++◌, inl, inr, refl, sym, ap, subst, arith}
-use Rattle.std.specs.Cmp.{nat_cmp_is}
-use Rattle.std.specs.Prelude.{Err, IfSome, Ok, OnErr, OnOk, Result, slice_get, slice_set}
-use Rattle.std.specs.List.{AllByRecursion, IsDistinct, insert, list_any, remove}
-use Rattle.std.specs.List.Sorted.{IsStrictlySortedBy}
-use Rattle.std.specs.Ordering.{nat_cmp}
-use Rattle.std.specs.Str.{bytes_eq}
-use Rattle.std.specs.declared.cmp.Ordering.TheVariants.{Equal}
-use Rattle.std.proofs.lemmas.Bool.{false_from_ne_true, or_parts}
+use Rattle.office.proofs.Common.{◌≡◌, ◌∙◌, ◌<◌, Bool, true, false, not, cond, ℕ, zero, suc, List, [], ◌∷◌, Option}
+use Rattle.office.proofs.Common.{length, get_or, set, filter, ◌++◌, inl, inr, refl, sym, ap, subst, arith, nat_cmp_is}
+use Rattle.office.proofs.Common.{Err, IfSome, Ok, OnErr, OnOk, Result, slice_get, slice_set, AllByRecursion, insert}
+use Rattle.office.proofs.Common.{list_any, remove, IsStrictlySortedBy, nat_cmp, bytes_eq, Equal, false_from_ne_true}
+use Rattle.office.proofs.Common.{or_parts, slice_get_cases, IsAt, IsGap, put, IsIdentifier, dbc_number, Ident}
+use Rattle.office.proofs.Common.{AreNamedApart, Signal, by_number, live_messages, LiveMessage, Net, has_ident, is_held}
+use Rattle.office.proofs.Common.{live_name, same_ident, IsNet, same_ident-true, same_ident-from, with_last_signal}
+use Rattle.office.proofs.Common.{with_signals}
+use Rattle.std.proofs.Common.{◌≢◌, Contains}
+use Rattle.std.specs.List.{IsDistinct}
 use Rattle.std.proofs.lemmas.List.Folds.{Any-from_list_any}
-use Rattle.std.proofs.lemmas.Option.{slice_get_cases}
-use Rattle.base.specs.Ascending.{IsAt, IsGap}
-use Rattle.base.specs.Keyed.{put}
 use Rattle.base.proofs.AscendingLists.{put_gap}
-use Rattle.can_id.specs.Ident.{IsIdentifier, dbc_number}
-use Rattle.can_id.specs.declared.ident.Ident.{Ident}
-use Rattle.dbc_words.specs.Named.{AreNamedApart}
 use Rattle.dbc_sheet.specs.Messages.{message_name}
-use Rattle.dbc_sheet.specs.declared.signal.Signal.{Signal}
-use Rattle.office_types.specs.State.{by_ident, by_number, live_messages}
-use Rattle.office_types.specs.declared.state.LiveMessage.{LiveMessage}
-use Rattle.office_types.specs.declared.state.Net.{Net}
-use Rattle.office_rules.specs.Facts.{has_ident, is_held, live_name, same_ident}
-use Rattle.office_rules.specs.Kept.{IsNet}
-use Rattle.office_rules.proofs.Idents.{same_ident-true}
-use Rattle.office_law.proofs.Idents.{same_ident-from, same_number}
-use Rattle.office_rules.specs.Signals.{with_last_signal, with_signals}
+use Rattle.office_types.specs.State.{by_ident}
+use Rattle.office_law.proofs.Idents.{same_number}
 use Rattle.office.specs.Indexed.{IsIndexIfThere, IsFoundAt, IsRemovable, indexed_alike, live_number}
 use Rattle.office.specs.declared.net_index.NetIndex.{NetIndex}
 use Rattle.office.proofs.InPlace.{alike_with}

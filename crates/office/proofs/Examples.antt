@@ -1,9 +1,9 @@
 -- A worked example, computed from the definitions: what is kept after repeats, where the office has moved on.
-use Rattle.std.proofs.Common.{List, [], ◌∷◌, codes, refl}
+use Rattle.office.proofs.Common.{List, [], ◌∷◌, refl}
+use Rattle.std.proofs.Common.{codes}
 use Rattle.office_types.specs.declared.reply.Reply.TheVariants.{Done, Number}
 use Rattle.office_rules.proofs.TeamCommand.{engine, office}
 use Rattle.office_history.specs.declared.arrival.Answer.TheVariants as answer
-use Rattle.office_history.specs.declared.arrival.Answer.TheVariants.{KeyReused}
 use Rattle.office_history.proofs.Examples.{after, it_is_legal, moved_on}
 use Rattle.office.specs.Keyed.{HoldsHistory, Kept}
 

@@ -1,28 +1,15 @@
 -- A live message that is changed in its place.
-use Rattle.std.proofs.Common.{◌≡◌, ◌∙◌, ◌<◌, ℕ, true, List, [], ◌∷◌, Option, Some, None, length, get_or, set, inl, inr}
-use Rattle.std.proofs.Common.{refl, sym, ap, subst, arith}
-use Rattle.std.specs.Cmp.{nat_cmp_is}
-use Rattle.std.specs.List.{AllByRecursion, position}
+use Rattle.office.proofs.Common.{◌≡◌, ◌∙◌, ◌<◌, ℕ, true, List, [], ◌∷◌, Option, Some, None, length, get_or, set, inl}
+use Rattle.office.proofs.Common.{inr, refl, sym, ap, subst, arith, nat_cmp_is, AllByRecursion, position, nat_cmp}
+use Rattle.office.proofs.Common.{IfSome, slice_get, slice_set, Less, Equal, slice_get_cases, bytes_eq-Decides, put}
+use Rattle.office.proofs.Common.{dbc_number, Signal, by_number, live_messages, LiveMessage, Net, AddSignal, IsNet}
+use Rattle.office.proofs.Common.{with_message, with_signals}
 use Rattle.std.specs.List.Sorted.{IsStrictlySortedBy}
-use Rattle.std.specs.Ordering.{nat_cmp}
-use Rattle.std.specs.Prelude.{IfSome, slice_get, slice_set}
-use Rattle.std.specs.declared.cmp.Ordering.TheVariants.{Less, Equal}
-use Rattle.std.proofs.lemmas.Option.{none-some, slice_get_cases}
-use Rattle.std.proofs.lemmas.Slice.Eq.{bytes_eq-Decides}
-use Rattle.base.specs.Keyed.{put}
+use Rattle.std.proofs.lemmas.Option.{none-some}
 use Rattle.base.specs.Refusing.{first_refusal}
-use Rattle.can_id.specs.Ident.{dbc_number}
 use Rattle.dbc_sheet.specs.Messages.{by_number as message_order}
 use Rattle.dbc_sheet.specs.Signals.{signal_tests}
-use Rattle.dbc_sheet.specs.declared.signal.Signal.{Signal}
-use Rattle.office_types.specs.State.{by_number, live_messages}
-use Rattle.office_types.specs.declared.state.LiveMessage.{LiveMessage}
-use Rattle.office_types.specs.declared.state.Net.{Net}
-use Rattle.office_types.specs.declared.change.Change.TheVariants.{AddSignal}
 use Rattle.office_rules.specs.Change.{Fits, at_message}
-use Rattle.office_rules.specs.Kept.{IsNet}
-use Rattle.office_rules.specs.Numbers.{with_message}
-use Rattle.office_rules.specs.Signals.{with_signals}
 use Rattle.office.proofs.PutThere.{put_same}
 use Rattle.office_law.proofs.Idents.{same_ident-itself}
 use Rattle.office.specs.Indexed.{indexed_alike}

@@ -1,32 +1,23 @@
 -- What an index of a network says after a change of its live messages or its held identifiers.
-use Rattle.std.proofs.Common.{◌≡◌, ◌∙◌, ◌<◌, ◌==◌, ◌&&◌, ◌||◌, ◌++◌, Bool, true, false, not, cond, ℕ, zero, suc, List}
-use Rattle.std.proofs.Common.{[], ◌∷◌, Option, Some, None, length, get_or, set, map, filter, find, inl, inr, refl, sym}
-use Rattle.std.proofs.Common.{ap, arith}
-use Rattle.std.specs.Prelude.{Err, Ok, OnOk, Result, is_ok, option_map}
-use Rattle.std.specs.BTreeMap.{BTreeMap, get}
-use Rattle.std.specs.List.{cons_option, filter_map, insert, list_any, remove}
-use Rattle.std.specs.Ordering.{is_eq}
-use Rattle.std.specs.Str.{bytes_eq}
-use Rattle.std.proofs.lemmas.Bool.{and_parts, eq-eqb, eqb-true, false_from_ne_true, false≢true, or_parts}
+use Rattle.office.proofs.Common.{◌≡◌, ◌∙◌, ◌<◌, ◌&&◌, ◌||◌, ◌++◌, Bool, true, false, not, cond, ℕ, zero, suc, List, []}
+use Rattle.office.proofs.Common.{◌∷◌, Option, Some, None, length, get_or, set, map, filter, find, inl, inr, refl, sym}
+use Rattle.office.proofs.Common.{ap, arith, Err, Ok, OnOk, Result, option_map, get, filter_map, insert, list_any}
+use Rattle.office.proofs.Common.{remove, is_eq, bytes_eq, false_from_ne_true, false≢true, or_parts, slice_get_cases}
+use Rattle.office.proofs.Common.{bytes_eq-Decides, text_cmp, dbc_number, IdentForm, Standard, Extended, Ident}
+use Rattle.office.proofs.Common.{AreNamedApart, is_taken, LiveMessage, Net, live_name, live_named, number_in}
+use Rattle.office.proofs.Common.{same_ident, same_ident-true, same_ident-from}
+use Rattle.std.proofs.Common.{◌==◌}
+use Rattle.std.specs.Prelude.{is_ok}
+use Rattle.std.specs.BTreeMap.{BTreeMap}
+use Rattle.std.specs.List.{cons_option}
+use Rattle.std.proofs.lemmas.Bool.{and_parts, eq-eqb, eqb-true}
 use Rattle.std.proofs.lemmas.List.Folds.{list_any-append}
 use Rattle.std.proofs.lemmas.Map.Text.{is_eq-slice_cmp}
-use Rattle.std.proofs.lemmas.Option.{slice_get_cases}
-use Rattle.std.proofs.lemmas.Slice.Eq.{bytes_eq-Decides}
-use Rattle.base.specs.Keyed.{text_cmp}
 use Rattle.base.proofs.AscendingLists.{remove_at}
-use Rattle.can_id.specs.Ident.{dbc_number}
-use Rattle.can_id.specs.declared.form.IdentForm.{IdentForm}
-use Rattle.can_id.specs.declared.form.IdentForm.TheVariants.{Standard, Extended}
-use Rattle.can_id.specs.declared.ident.Ident.{Ident}
 use Rattle.can_id.specs.declared.ident.Ident.TheVariants as id
-use Rattle.dbc_words.specs.Named.{AreNamedApart, has_name}
+use Rattle.dbc_words.specs.Named.{has_name}
 use Rattle.dbc_words.proofs.Naming.{any-insert, names-remove}
-use Rattle.office_types.specs.Free.{is_taken}
-use Rattle.office_types.specs.declared.state.LiveMessage.{LiveMessage}
-use Rattle.office_types.specs.declared.state.Net.{Net}
-use Rattle.office_rules.specs.Facts.{live_name, live_named, number_in, same_ident, taken_numbers}
-use Rattle.office_rules.proofs.Idents.{same_ident-true}
-use Rattle.office_law.proofs.Idents.{same_ident-from}
+use Rattle.office_rules.specs.Facts.{taken_numbers}
 use Rattle.office.specs.Indexed.{IsIndex, IsIndexIfThere, IsRemovable, indexed_alike, indexed_numbers}
 use Rattle.office.specs.Indexed.{has_form_and_number, live_number}
 use Rattle.office.specs.declared.net_index.NetIndex.{NetIndex}

@@ -1,15 +1,9 @@
 -- What is kept of first arrivals: how it is found, and how it goes on with a history.
-use Rattle.std.proofs.Common.{◌≡◌, Bool, true, false, cond, ◌&&◌, List, [], ◌∷◌, ◌++◌, drop, get_or, map, find, Option}
-use Rattle.std.proofs.Common.{Some, None, refl, sym, ap, subst, ◌∙◌}
-use Rattle.std.specs.Map.{lookup}
-use Rattle.std.specs.Str.{bytes_eq}
-use Rattle.std.proofs.lemmas.Bool.{false≢true}
-use Rattle.std.proofs.lemmas.List.{map-append}
-use Rattle.office_types.specs.declared.reply.Reply.{Reply}
-use Rattle.office_types.specs.declared.state.Office.{Office}
-use Rattle.office_rules.specs.Step.{Step}
+use Rattle.office.proofs.Common.{◌≡◌, Bool, true, false, cond, ◌&&◌, List, [], ◌∷◌, ◌++◌, drop, get_or, map, find}
+use Rattle.office.proofs.Common.{Option, Some, None, refl, sym, ap, subst, ◌∙◌, lookup, bytes_eq, false≢true}
+use Rattle.office.proofs.Common.{map-append, Reply, Office, Step, Answered, first_of}
 use Rattle.office_history.specs.declared.arrival.Answer.TheVariants as answer
-use Rattle.office_history.specs.History.{Answered, IsAnsweredAs, first_arrivals, first_of}
+use Rattle.office_history.specs.History.{IsAnsweredAs, first_arrivals}
 use Rattle.office_history.specs.Laws.{HistoriesGrow}
 use Rattle.office_history.proofs.Histories.{first_again, first_new}
 use Rattle.office_history.proofs.Pairs.{has_pair, pair_found, turned}

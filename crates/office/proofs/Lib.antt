@@ -1,3 +1,4 @@
+pub mod Common
 mod AppliedToOffice
 mod InPlace
 mod Runs

@@ -1,31 +1,22 @@
 -- What a look-up finds among live messages and identifiers, which are in order of their numbers.
-use Rattle.std.proofs.Common.{◌≡◌, ◌∙◌, ◌<◌, ◌≤◌, ◌||◌, Bool, true, false, cond, ℕ, List, [], ◌∷◌, Option, Some, None}
-use Rattle.std.proofs.Common.{length, get_or, find, take, inl, inr, refl, sym, ap, subst, arith}
-use Rattle.std.specs.Prelude.{MatchOption, is_some, option_map, slice_get}
-use Rattle.std.specs.List.{All, list_any, position}
-use Rattle.std.specs.List.Sorted.{IsStrictlySortedBy}
+use Rattle.office.proofs.Common.{◌≡◌, ◌∙◌, ◌<◌, ◌≤◌, ◌||◌, Bool, true, false, cond, ℕ, List, [], ◌∷◌, Option, Some}
+use Rattle.office.proofs.Common.{None, length, get_or, find, take, inl, inr, refl, sym, ap, subst, arith, is_some}
+use Rattle.office.proofs.Common.{option_map, slice_get, list_any, position, IsStrictlySortedBy, false_from_ne_true}
+use Rattle.office.proofs.Common.{drop_more, slice_get_cases, IsAt, IsGap, IsIdentifier, dbc_number, ident_of, IdentForm}
+use Rattle.office.proofs.Common.{Standard, Extended, Ident, by_number, live_messages, LiveMessage, Net, has_ident}
+use Rattle.office.proofs.Common.{live_named, same_ident, IsNet, same_ident-true, same_ident-from}
+use Rattle.std.specs.Prelude.{MatchOption}
+use Rattle.std.specs.List.{All}
 use Rattle.std.specs.Option.{option_and_then}
-use Rattle.std.proofs.lemmas.Bool.{cases_lt, false_from_ne_true}
+use Rattle.std.proofs.lemmas.Bool.{cases_lt}
 use Rattle.std.proofs.lemmas.Bool.Decides.{eqb_tells}
-use Rattle.std.proofs.lemmas.List.{drop_more, get_or_default}
+use Rattle.std.proofs.lemmas.List.{get_or_default}
 use Rattle.std.proofs.lemmas.List.Folds.{list_any_at}
 use Rattle.std.proofs.lemmas.List.Elements.{All-head, All-tail}
-use Rattle.std.proofs.lemmas.Option.{slice_get_cases}
-use Rattle.base.specs.Ascending.{IsAt, IsGap}
 use Rattle.can_id.specs.Form.{greatest_number}
-use Rattle.can_id.specs.Ident.{IsIdentifier, dbc_number, ident_of}
-use Rattle.can_id.specs.declared.form.IdentForm.{IdentForm}
-use Rattle.can_id.specs.declared.form.IdentForm.TheVariants.{Standard, Extended}
-use Rattle.can_id.specs.declared.ident.Ident.{Ident}
 use Rattle.dbc_sheet.specs.Form.{IsMessage}
 use Rattle.office_types.proofs.Least.{or_false}
-use Rattle.office_types.specs.State.{by_number, live_messages}
-use Rattle.office_types.specs.declared.state.LiveMessage.{LiveMessage}
-use Rattle.office_types.specs.declared.state.Net.{Net}
-use Rattle.office_rules.specs.Facts.{MessageFacts, has_ident, live_named, message_facts, same_ident}
-use Rattle.office_rules.specs.Kept.{IsNet}
-use Rattle.office_rules.proofs.Idents.{same_ident-true}
-use Rattle.office_law.proofs.Idents.{same_ident-from}
+use Rattle.office_rules.specs.Facts.{MessageFacts, message_facts}
 use Rattle.office_facts.proofs.Searched.{gap_passes, passes_at}
 use Rattle.office.specs.Indexed.{IsFoundAt, live_number}
 use Rattle.office.proofs.AppliedToOffice.{found_at, not_found}

@@ -1,12 +1,10 @@
 -- An item that is put into a list in the order of a key, where one of its key is at an index: it replaces that one.
-use Rattle.std.proofs.Common.{◌≡◌, ◌∙◌, ◌&&◌, ◌<◌, ℕ, true, zero, suc, List, [], ◌∷◌, length, drop, get_or, set, refl}
-use Rattle.std.proofs.Common.{sym, ap, subst, arith}
-use Rattle.std.specs.List.{AllByRecursion}
+use Rattle.office.proofs.Common.{◌≡◌, ◌∙◌, ◌&&◌, ◌<◌, ℕ, true, zero, suc, List, [], ◌∷◌, length, drop, get_or, set}
+use Rattle.office.proofs.Common.{refl, sym, ap, subst, arith, AllByRecursion, Less, Equal, put}
 use Rattle.std.specs.List.Sorted.{IsStrictlySortedBy}
 use Rattle.std.specs.Ordering.{is_lt}
 use Rattle.std.specs.declared.cmp.Ordering.{Ordering}
-use Rattle.std.specs.declared.cmp.Ordering.TheVariants.{Less, Equal}
-use Rattle.base.specs.Keyed.{are_above, put}
+use Rattle.base.specs.Keyed.{are_above}
 use Rattle.base.proofs.PutCode.{put_at}
 
 -- x is as y in this order

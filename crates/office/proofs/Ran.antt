@@ -1,11 +1,9 @@
 -- A list of arrivals, and one more.
-use Rattle.std.proofs.Common.{◌≡◌, ℕ, ◌+◌, ◌<◌, List, [], ◌∷◌, ◌++◌, length, take, get_or, refl, sym, ap, subst, ◌∙◌}
-use Rattle.std.proofs.Common.{arith, append_assoc, append-nil, length-append}
-use Rattle.std.proofs.lemmas.List.{take_more}
-use Rattle.office_history.specs.declared.arrival.Answer.{Answer}
+use Rattle.office.proofs.Common.{◌≡◌, ℕ, ◌+◌, ◌<◌, List, [], ◌∷◌, ◌++◌, length, take, get_or, refl, sym, ap, subst, ◌∙◌}
+use Rattle.office.proofs.Common.{arith, append_assoc, take_more, Answer, Answered}
+use Rattle.std.proofs.Common.{append-nil, length-append}
 use Rattle.office_history.specs.declared.arrival.Arrival.{Arrival}
 use Rattle.office_history.specs.Answering.{reported}
-use Rattle.office_history.specs.History.{Answered}
 use Rattle.office.specs.Keyed.{HoldsHistory, Keyed}
 use Rattle.office.specs.Running.{HasAnswered, reported_each}
 

@@ -1,26 +1,17 @@
 -- Steps of the office, and runs with one step more.
-use Rattle.std.proofs.Common.{◌≡◌, ℕ, ◌+◌, ◌<◌, ◌≤◌, zero, suc, List, [], ◌∷◌, ◌++◌, length, take, get_or, set, Option}
-use Rattle.std.proofs.Common.{Some, None, refl, sym, ap, subst, ◌∙◌, append_assoc, arith}
-use Rattle.std.specs.List.Sorted.{IsStrictlySortedBy}
-use Rattle.std.specs.Prelude.{IfOk, OnErr, Result, Ok, Err}
-use Rattle.std.proofs.lemmas.List.{map-append, take_more}
+use Rattle.office.proofs.Common.{◌≡◌, ℕ, ◌+◌, ◌<◌, ◌≤◌, zero, suc, List, [], ◌∷◌, ◌++◌, length, take, get_or, set}
+use Rattle.office.proofs.Common.{Option, Some, None, refl, sym, ap, subst, ◌∙◌, append_assoc, arith, IsStrictlySortedBy}
+use Rattle.office.proofs.Common.{OnErr, Result, Ok, Err, map-append, take_more, by_name, SpnBook, Reply, Net, Office}
+use Rattle.office.proofs.Common.{IsOffice, Two, HasRun, Step, net_named, offices_are_kept}
+use Rattle.std.specs.Prelude.{IfOk}
 use Rattle.office_types.specs.Command.{IsCommand}
 use Rattle.office_types.specs.PlainName.{IsPlainName}
-use Rattle.office_types.specs.State.{by_name}
-use Rattle.office_types.specs.declared.book.SpnBook.{SpnBook}
 use Rattle.office_types.specs.declared.command.Command.{Command}
-use Rattle.office_types.specs.declared.reply.Reply.{Reply}
-use Rattle.office_types.specs.declared.state.Net.{Net}
-use Rattle.office_types.specs.declared.state.Office.{Office}
 use Rattle.office_rules.specs.Change.{left_after}
 use Rattle.office_rules.specs.Commands.{outcome}
-use Rattle.office_rules.specs.Kept.{IsOffice}
 use Rattle.office_rules.specs.Outcome.{Outcome, Refusing, Changing, reply_of}
-use Rattle.office_rules.specs.Profile.{Two}
-use Rattle.office_rules.specs.Step.{HasRun, IsRead, requested_now, Run, Step, file_wanted, net_named, office_after}
-use Rattle.office_rules.specs.Step.{step_outcome}
+use Rattle.office_rules.specs.Step.{IsRead, requested_now, Run, file_wanted, office_after, step_outcome}
 use Rattle.office_rules.proofs.Runs.{run_more}
-use Rattle.office_law.proofs.KeptOffice.{offices_are_kept}
 use Rattle.office_law.proofs.OrderedNets.{put_there}
 use Rattle.office.specs.OfficeApplied.{IsNetFound, with_both}
 use Rattle.office.specs.Indexed.{AreIndexes, IsDoneOn, IsIndexIfThere}

@@ -1,5 +1,6 @@
 -- Lines of blocks, computed.
-use Rattle.std.proofs.Common.{◌≡◌, false, ℕ, List, [], ◌∷◌, ◌++◌, Some, None, refl}
+use Rattle.office_blocks.proofs.Common.{◌≡◌, false, ℕ, List, [], ◌∷◌, ◌++◌, Some, None, refl, BlockForm, GrantedBlock}
+use Rattle.office_blocks.proofs.Common.{least_free, View}
 use Rattle.std.specs.Prelude.{codes, pos}
 use Rattle.std.specs.Fmt.{digits}
 use Rattle.bitlayout.specs.declared.layout.Order.TheVariants.{Intel}
@@ -11,14 +12,10 @@ use Rattle.dbc_words.specs.declared.value_type.ValueType.TheVariants.{Integer}
 use Rattle.dbc_sheet.specs.Sheet.{empty_sheet}
 use Rattle.dbc_sheet.specs.declared.message.Message.{Message}
 use Rattle.dbc_sheet.specs.declared.signal.Signal.{Signal}
-use Rattle.office_types.specs.declared.block.BlockForm.{BlockForm}
 use Rattle.office_types.specs.declared.block.BlockForm.TheVariants.{Std, Ext, Pgn, Spn}
 use Rattle.office_types.specs.declared.command.NetKind.TheVariants.{J1939}
 use Rattle.office_types.specs.declared.free.NumberForm.TheVariants as number
-use Rattle.office_types.specs.declared.state.GrantedBlock.{GrantedBlock}
 use Rattle.office_types.specs.declared.state.Phase.TheVariants.{Draft}
-use Rattle.office_types.specs.Free.{least_free}
-use Rattle.office_seen.specs.declared.view.View.{View}
 use Rattle.office_blocks.specs.Blocks.{block_row, blocks_table, runs_in, taken_numbers}
 use Rattle.office_blocks.specs.declared.blocks.TheConstants.{BLOCKS}
 use Rattle.rows.specs.Lines.{line_text, table_text}

@@ -1,13 +1,9 @@
 -- Runs of the numbers of a range that aren't in an ascending list.
-use Rattle.std.proofs.Common.{◌≡◌, ℕ, zero, suc, ◌+◌, ◌-◌, ◌<◌, ◌≤◌, Bool, true, false, not, cond}
-use Rattle.std.proofs.Common.{List, [], ◌∷◌, ◌++◌, length, drop, get_or, refl, sym, ap}
-use Rattle.std.proofs.Common.{subst, ◌∙◌, arith, eq-eqb, add-one, append_assoc, append-nil}
+use Rattle.office_blocks.proofs.Common.{◌≡◌, ℕ, zero, suc, ◌+◌, ◌-◌, ◌<◌, ◌≤◌, Bool, true, false, not, cond, List, []}
+use Rattle.office_blocks.proofs.Common.{◌∷◌, ◌++◌, length, drop, get_or, refl, sym, ap, subst, ◌∙◌, arith, eq-eqb}
+use Rattle.office_blocks.proofs.Common.{append-nil, ◌==◌, if◌then◌else◌, ne_eqb, joined, runs_of, Run, is_taken}
+use Rattle.std.proofs.Common.{add-one, append_assoc}
 use Rattle.std.proofs.Math.Seq.{drop-cons}
-use Rattle.std.specs.Prelude.{◌==◌, if◌then◌else◌}
-use Rattle.std.proofs.lemmas.Bool.{ne_eqb}
-use Rattle.columns.specs.Run.{joined, runs_of}
-use Rattle.columns.specs.declared.run.Run.{Run}
-use Rattle.office_types.specs.Free.{is_taken}
 use Rattle.office_blocks.specs.Numbers.{AreWithin, left_numbers}
 use Rattle.office_blocks.proofs.Counting.{filter_alike, first_taken, later_alike, none_below, within_order}
 

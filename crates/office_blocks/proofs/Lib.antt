@@ -1,3 +1,4 @@
+pub mod Common
 pub mod Counting
 pub mod Gaps
 pub mod Parts

@@ -1,15 +1,11 @@
 -- The first run of the free numbers of a block.
-use Rattle.std.proofs.Common.{◌≡◌, ℕ, zero, suc, ◌+◌, ◌-◌, ◌&&◌, Bool, true, false, List, [], ◌∷◌, Option, Some, None}
-use Rattle.std.proofs.Common.{option_map, slice_get, cond, not, refl, ap, ◌∙◌, arith}
-use Rattle.std.specs.Prelude.{◌==◌, if◌then◌else◌}
-use Rattle.std.specs.List.{filter, range_with_len}
-use Rattle.columns.specs.Run.{joined, runs_of}
-use Rattle.columns.specs.declared.run.Run.{Run}
+use Rattle.office_blocks.proofs.Common.{◌≡◌, ℕ, zero, suc, ◌+◌, ◌-◌, ◌&&◌, Bool, true, false, List, [], ◌∷◌, Some, None}
+use Rattle.office_blocks.proofs.Common.{cond, not, refl, ap, ◌∙◌, arith, ◌==◌, if◌then◌else◌, filter, range_with_len}
+use Rattle.office_blocks.proofs.Common.{joined, runs_of, Run, Range, has_form, is_taken, least_free, NumberForm}
+use Rattle.std.proofs.Common.{Option, option_map, slice_get}
 use Rattle.office_rules.specs.Facts.{numbers_of}
-use Rattle.office_types.specs.Block.{Range}
-use Rattle.office_types.specs.Free.{has_form, is_taken, least_free, lesser_of}
+use Rattle.office_types.specs.Free.{lesser_of}
 use Rattle.office_types.specs.Least.{least_from}
-use Rattle.office_types.specs.declared.free.NumberForm.{NumberForm}
 use Rattle.office_blocks.specs.Blocks.{free_numbers, runs_in, step_of}
 
 joined_if : (b : Bool) (n : ℕ) (r : Run) (runs : List Run)

@@ -1,17 +1,17 @@
 -- The numbers of an ascending list that are in a range.
-use Rattle.std.proofs.Common.{◌≡◌, ℕ, suc, ◌+◌, ◌-◌, ◌<◌, ◌≤◌, inl, inr, Bool, true, false, List, [], ◌∷◌, length}
-use Rattle.std.proofs.Common.{get_or, take, drop, refl, sym, ap, ◌∙◌, arith, length-drop, eqb-true}
-use Rattle.std.specs.Prelude.{◌==◌, Result, Ok, Err}
-use Rattle.std.specs.List.Sorted.{IsStrictlyIncreasing, IsBinarySearchResult}
-use Rattle.std.proofs.lemmas.Bool.{cases_lt}
+use Rattle.office_blocks.proofs.Common.{◌≡◌, ℕ, suc, ◌+◌, ◌-◌, ◌<◌, ◌≤◌, inl, inr, Bool, true, false, List, [], ◌∷◌}
+use Rattle.office_blocks.proofs.Common.{length, get_or, take, drop, refl, sym, ap, ◌∙◌, arith, ◌==◌, Ok, Err}
+use Rattle.office_blocks.proofs.Common.{IsStrictlyIncreasing, cases_lt, is_taken, searched, weakly}
+use Rattle.std.proofs.Common.{length-drop, eqb-true}
+use Rattle.std.specs.Prelude.{Result}
+use Rattle.std.specs.List.Sorted.{IsBinarySearchResult}
 use Rattle.std.proofs.lemmas.List.{get_or-drop, get_or-take, get_or_default, length-take}
 use Rattle.std.proofs.lemmas.List.Folds.{Any-from_list_any}
 use Rattle.std.proofs.lemmas.List.Kept.{AllPairs-from_increasing}
-use Rattle.office_types.specs.Free.{SplitsAt, is_taken}
+use Rattle.office_types.specs.Free.{SplitsAt}
 use Rattle.std.specs.Ordering.{nat_cmp}
 use Rattle.std.specs.Result.{is_ok}
-use Rattle.std.proofs.lemmas.List.Sorted.{searched}
-use Rattle.office_types.proofs.Split.{is_taken-nowhere, is_taken-there, weakly}
+use Rattle.office_types.proofs.Split.{is_taken-nowhere, is_taken-there}
 use Rattle.office_blocks.specs.Numbers.{ArePart, AreWithin}
 
 -- each number is below each later one

@@ -1,17 +1,14 @@
 -- What is left of a block, from the ascending numbers in it.
-use Rattle.std.proofs.Common.{◌≡◌, ◌≢◌, ℕ, ◌+◌, ◌-◌, ◌<◌, ◌≤◌, true, ◌&&◌, not, List, [], ◌∷◌, length}
-use Rattle.std.proofs.Common.{refl, sym, ap, ◌∙◌, arith, append-nil}
-use Rattle.std.specs.List.{count_by, flat_map}
+use Rattle.office_blocks.proofs.Common.{◌≡◌, ℕ, ◌+◌, ◌-◌, ◌<◌, ◌≤◌, true, ◌&&◌, not, List, [], ◌∷◌, length, refl, sym}
+use Rattle.office_blocks.proofs.Common.{ap, ◌∙◌, arith, append-nil, count_by, flat_map, runs_of, Range, has_form}
+use Rattle.office_blocks.proofs.Common.{is_taken, BlockForm, NumberForm}
+use Rattle.std.proofs.Common.{◌≢◌}
 use Rattle.std.proofs.lemmas.Bool.{le-leb}
-use Rattle.columns.specs.Run.{runs_of}
-use Rattle.office_types.specs.Block.{IsRange, Range, greatest_of, least_of}
-use Rattle.office_types.specs.Free.{has_form, is_taken}
-use Rattle.office_types.specs.declared.block.BlockForm.{BlockForm}
+use Rattle.office_types.specs.Block.{IsRange, greatest_of, least_of}
 use Rattle.office_types.specs.declared.block.BlockForm.TheVariants as form
-use Rattle.office_types.specs.declared.free.NumberForm.{NumberForm}
 use Rattle.office_types.specs.declared.free.NumberForm.TheVariants as number
-use Rattle.office_blocks.specs.Blocks.{forms_in, free_count, free_numbers, free_runs, held_count, live_count}
-use Rattle.office_blocks.specs.Blocks.{runs_in, step_of}
+use Rattle.office_blocks.specs.Blocks.{forms_in, free_count, free_numbers, free_runs, held_count, live_count, runs_in}
+use Rattle.office_blocks.specs.Blocks.{step_of}
 use Rattle.office_blocks.specs.Numbers.{ArePart, left_numbers}
 use Rattle.office_blocks.proofs.Counting.{count_alike, count_within, filter_alike, length_left, length_within}
 

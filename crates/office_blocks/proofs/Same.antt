@@ -1,16 +1,10 @@
 -- What is said of a block depends only on which numbers are live and which are taken.
-use Rattle.std.proofs.Common.{◌≡◌, ℕ, ◌+◌, ◌-◌, ◌&&◌, List, [], ◌∷◌, ◌++◌, not, length, refl, ap, ◌∙◌}
-use Rattle.std.specs.List.{flat_map}
-use Rattle.columns.specs.Run.{runs_of}
-use Rattle.columns.specs.declared.run.Run.{Run}
-use Rattle.office_types.specs.Block.{Range, block_word}
-use Rattle.office_types.specs.Free.{has_form, is_taken}
-use Rattle.office_types.specs.declared.block.BlockForm.{BlockForm}
-use Rattle.office_types.specs.declared.free.NumberForm.{NumberForm}
-use Rattle.office_types.specs.declared.state.GrantedBlock.{GrantedBlock}
-use Rattle.office_seen.specs.declared.view.View.{View}
-use Rattle.office_blocks.specs.Blocks.{block_row, forms_in, free_count, free_numbers, free_runs, held_count}
-use Rattle.office_blocks.specs.Blocks.{live_count, live_numbers, row_with, runs_in, step_of, taken_numbers}
+use Rattle.office_blocks.proofs.Common.{◌≡◌, ℕ, ◌+◌, ◌-◌, ◌&&◌, List, [], ◌∷◌, ◌++◌, not, length, refl, ap, ◌∙◌}
+use Rattle.office_blocks.proofs.Common.{flat_map, runs_of, Run, Range, has_form, is_taken, BlockForm, NumberForm}
+use Rattle.office_blocks.proofs.Common.{GrantedBlock, View}
+use Rattle.office_types.specs.Block.{block_word}
+use Rattle.office_blocks.specs.Blocks.{block_row, forms_in, free_count, free_numbers, free_runs, held_count, live_count}
+use Rattle.office_blocks.specs.Blocks.{live_numbers, row_with, runs_in, step_of, taken_numbers}
 use Rattle.office_blocks.specs.Numbers.{AreNumbersOf, AreOf, of_form}
 use Rattle.office_blocks.specs.declared.numbers.FormNumbers.{FormNumbers}
 use Rattle.office_blocks.specs.declared.numbers.Numbers.{Numbers}

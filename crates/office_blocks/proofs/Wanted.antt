@@ -1,7 +1,8 @@
 -- The wanted blocks of a list, block by block.
-use Rattle.std.proofs.Common.{◌≡◌, ℕ, ◌+◌, ◌<◌, ◌&&◌, Bool, true, false, List, [], ◌∷◌, ◌++◌, length, take, get_or}
-use Rattle.std.proofs.Common.{cond, map, sum, sym, ap, ◌∙◌, append-nil, refl}
-use Rattle.std.specs.List.{filter, sum_by}
+use Rattle.office_blocks.proofs.Common.{◌≡◌, ℕ, ◌+◌, ◌<◌, ◌&&◌, Bool, true, false, List, [], ◌∷◌, ◌++◌, length, take}
+use Rattle.office_blocks.proofs.Common.{get_or, cond, map, sym, ap, ◌∙◌, append-nil, refl, filter}
+use Rattle.std.proofs.Common.{sum}
+use Rattle.std.specs.List.{sum_by}
 use Rattle.std.proofs.lemmas.List.{map-append}
 use Rattle.std.proofs.lemmas.List.Elements.{filter-append, filter_more}
 use Rattle.office_types.proofs.Least.{both_true}

@@ -1,26 +1,22 @@
 -- A bundle is decided part by part.
-use Rattle.std.proofs.Common.{◌≡◌, ◌∙◌, ◌⊎◌, ◌+◌, ℕ, List, [], ◌∷◌, ◌++◌, append-nil, length, drop, Option, Some, None}
-use Rattle.std.proofs.Common.{inl, inr, refl, sym, ap, subst, arith}
+use Rattle.office_decide.proofs.Common.{◌≡◌, ◌∙◌, ◌+◌, ℕ, List, [], ◌∷◌, ◌++◌, length, drop, Option, Some, None, refl}
+use Rattle.office_decide.proofs.Common.{sym, ap, subst, arith, SpnBook, Decision, Action, Refusal, Bundle, Refused, Net}
+use Rattle.office_decide.proofs.Common.{bundle_outcome, AllFit, Decides, NetAndBook, all_applied, acted, parts_done}
+use Rattle.office_decide.proofs.Common.{Outcome}
+use Rattle.std.proofs.Common.{◌⊎◌, append-nil, inl, inr}
 use Rattle.std.proofs.lemmas.List.{append_assoc, length-append}
 use Rattle.office_types.specs.Parts.{AreParts}
 use Rattle.office_types.specs.Reply.{part_reply}
-use Rattle.office_types.specs.declared.book.SpnBook.{SpnBook}
 use Rattle.office_types.specs.declared.change.Change.{Change}
 use Rattle.office_types.specs.declared.change.Change.TheVariants.{SetHead, SetBlock}
-use Rattle.office_types.specs.declared.change.Decision.{Decision}
-use Rattle.office_types.specs.declared.command.Action.{Action}
 use Rattle.office_types.specs.declared.command.Task.TheVariants as task
-use Rattle.office_types.specs.declared.refusal.Refusal.{Refusal}
 use Rattle.office_types.specs.declared.refusal.Refusal.TheVariants as no
 use Rattle.office_types.specs.declared.reply.PartReply.{PartReply}
 use Rattle.office_types.specs.declared.reply.Reply.{Reply}
-use Rattle.office_types.specs.declared.reply.Reply.TheVariants.{Bundle, Refused}
-use Rattle.office_types.specs.declared.state.Net.{Net}
-use Rattle.office_rules.specs.Bundling.{PartsOutcome, RefusedAt, AllDone, both_entries, bundle_outcome, part_then}
-use Rattle.office_rules.specs.Bundling.{refused_part, with_part}
-use Rattle.office_rules.specs.Change.{AllFit, Decides, HaveOwnBlocks, IsHeadFirst, NetAndBook, all_applied, applied}
-use Rattle.office_rules.specs.Commands.{acted, parts_done}
-use Rattle.office_rules.specs.Outcome.{Entries, Outcome, Refusing, Changing, entered, no_entries}
+use Rattle.office_rules.specs.Bundling.{PartsOutcome, RefusedAt, AllDone, both_entries, part_then, refused_part}
+use Rattle.office_rules.specs.Bundling.{with_part}
+use Rattle.office_rules.specs.Change.{HaveOwnBlocks, IsHeadFirst, applied}
+use Rattle.office_rules.specs.Outcome.{Entries, Refusing, Changing, entered, no_entries}
 use Rattle.office_law.proofs.EachLeavesNameAndReleases.{left_act}
 use Rattle.office_law.proofs.NameAndReleasesStay.{IsAnswer, IsLeft}
 use Rattle.office_law.proofs.Parts.{entered_both}

@@ -1,22 +1,12 @@
 -- What is decided by the facts of an action's scope is decided by every network that has them.
-use Rattle.std.proofs.Common.{◌≡◌, ℕ, true, false, List, Option, Some, Result, Ok, Err, sym, subst}
+use Rattle.office_decide.proofs.Common.{◌≡◌, ℕ, true, false, List, Option, Some, sym, subst, AreFacts, facts_of}
+use Rattle.office_decide.proofs.Common.{reads_book, scope_of, Facts, SpnBook, Decision, Action, Command, Act, Net}
+use Rattle.office_decide.proofs.Common.{Decides, IsDecision, acted, Outcome}
+use Rattle.std.proofs.Common.{Result, Ok, Err}
 use Rattle.std.specs.Prelude.{IfOk}
-use Rattle.office_facts.specs.Excerpt.{AreFacts}
-use Rattle.office_facts.specs.FactsOf.{facts_of}
-use Rattle.office_facts.specs.Scope.{reads_book, scope_of}
-use Rattle.office_facts.specs.declared.excerpt.Facts.{Facts}
-use Rattle.office_types.specs.declared.book.SpnBook.{SpnBook}
-use Rattle.office_types.specs.declared.change.Decision.{Decision}
-use Rattle.office_types.specs.declared.command.Action.{Action}
-use Rattle.office_types.specs.declared.command.Command.{Command}
-use Rattle.office_types.specs.declared.command.Task.TheVariants.{Act}
 use Rattle.office_types.specs.declared.state.GrantedBlock.{GrantedBlock}
 use Rattle.office_types.specs.declared.state.Head.{Head}
-use Rattle.office_types.specs.declared.state.Net.{Net}
-use Rattle.office_rules.specs.Change.{Decides, IsDecision}
-use Rattle.office_rules.specs.Commands.{acted}
 use Rattle.office_rules.specs.Facts.{MessageFacts, message_facts}
-use Rattle.office_rules.specs.Outcome.{Outcome}
 use Rattle.office_net.specs.FactsOf.{with_head, with_parts}
 use Rattle.office_decide.proofs.Decisions.{action_decided, decision_if_read}
 

@@ -1,31 +1,25 @@
 -- What is decided on a command, by what is decided on its action or its import.
-use Rattle.std.proofs.Common.{◌≡◌, ℕ, Bool, true, false, List, [], Option, Some, None, Contains, refl, sym, subst}
-use Rattle.std.proofs.Common.{arith}
+use Rattle.office_decide.proofs.Common.{◌≡◌, ℕ, true, false, List, [], Option, Some, None, refl, sym, subst, arith}
+use Rattle.office_decide.proofs.Common.{SpnBook, Decision, Action, Command, Act, Import, Net, bundle_outcome, Decides}
+use Rattle.office_decide.proofs.Common.{IsDecision, NetAndBook, acted, parts_done, Reading, Unreadable, Refused}
+use Rattle.std.proofs.Common.{Bool, Contains}
 use Rattle.dbc_lex.specs.Fault.{code_number}
 use Rattle.dbc_lex.specs.declared.fault.ReadCode.{ReadCode}
 use Rattle.dbc_lex.specs.declared.fault.ReadCode.TheVariants.{DoubleNumber, DoubleName, TwoMultiplexors, TooMany}
 use Rattle.dbc_lex.specs.declared.fault.ReadCode.TheVariants.{UnclosedText, StrayByte, Unexpected, UnknownStatement}
 use Rattle.dbc_lex.specs.declared.fault.ReadCode.TheVariants.{ExtendedMultiplexing, Number, Identifier, Name, Length}
 use Rattle.dbc_lex.specs.declared.fault.ReadCode.TheVariants.{Size, Memory}
-use Rattle.office_types.specs.declared.book.SpnBook.{SpnBook}
-use Rattle.office_types.specs.declared.change.Decision.{Decision}
-use Rattle.office_types.specs.declared.command.Action.{Action}
-use Rattle.office_types.specs.declared.command.Command.{Command}
 use Rattle.office_types.specs.declared.command.Task.{Task}
-use Rattle.office_types.specs.declared.command.Task.TheVariants.{Act, Import, Bundle}
-use Rattle.office_types.specs.declared.state.Net.{Net}
+use Rattle.office_types.specs.declared.command.Task.TheVariants.{Bundle}
 use Rattle.office_types.specs.declared.state.Phase.{Phase}
 use Rattle.office_types.specs.declared.state.Phase.TheVariants.{Draft, Review}
-use Rattle.office_rules.specs.Bundling.{bundle_outcome}
 use Rattle.office_rules.specs.Facts.{in_review}
-use Rattle.office_rules.specs.Change.{Decides, IsDecision, NetAndBook}
-use Rattle.office_rules.specs.Commands.{acted, done_task, parts_done}
-use Rattle.office_rules.specs.Importing.{FileReading, Reading, Unreadable}
+use Rattle.office_rules.specs.Commands.{done_task}
+use Rattle.office_rules.specs.Importing.{FileReading}
 use Rattle.office_rules.specs.Profile.{Two}
 use Rattle.office_rules.specs.Step.{IsRead, IsUnreadable, fault_codes, file_wanted}
 use Rattle.office_types.specs.declared.refusal.FileFault.{FileFault}
 use Rattle.office_types.specs.declared.refusal.Refusal.TheVariants.{NoNet}
-use Rattle.office_types.specs.declared.reply.Reply.TheVariants.{Refused}
 use Rattle.office_decide.proofs.BundleDecided.{refused_decides}
 use Rattle.office_decide.specs.Imported.{IsCommandDecision, IsImportDecision, IsReportedFault, IsWantedReading}
 

@@ -1,3 +1,4 @@
+pub mod Common
 mod BundleDecided
 pub mod ByFacts
 mod Decisions

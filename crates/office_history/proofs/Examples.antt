@@ -1,11 +1,12 @@
 -- Worked examples, computed from the definitions: repeats after the office has moved on, a file under both profiles,
 -- releases that stay, suspect parameter numbers that are given, and arrivals on two networks.
-use Rattle.std.proofs.Common.{◌≡◌, ℕ, true, false, List, [], ◌∷◌, ◌++◌, filter, map, take, Some, None, IfSome, arith}
-use Rattle.std.proofs.Common.{refl}
+use Rattle.office_history.proofs.Common.{◌≡◌, ℕ, true, false, List, [], ◌∷◌, ◌++◌, filter, map, Some, None, IfSome}
+use Rattle.office_history.proofs.Common.{arith, refl, false≢true, bytes_eq-Decides, Import, Done, Number, Refused}
+use Rattle.office_history.proofs.Common.{Office, reply_of, FileReading, Profile, IsRead, Step, file_wanted, net_named}
+use Rattle.office_history.proofs.Common.{office_after, opening, step_outcome, needs_book}
+use Rattle.std.proofs.Common.{take}
 use Rattle.std.specs.Prelude.{codes}
-use Rattle.std.proofs.lemmas.Bool.{false≢true}
 use Rattle.std.proofs.lemmas.List.Elements.{All-from_recursion}
-use Rattle.std.proofs.lemmas.Slice.Eq.{bytes_eq-Decides}
 use Rattle.bitlayout.specs.Bits.{walk, shares_bit, is_inside}
 use Rattle.bitlayout.specs.Clash.{clash_after}
 use Rattle.bitlayout.specs.First.{first_answer}
@@ -13,14 +14,10 @@ use Rattle.dbc_sheet.specs.Messages.{number_of}
 use Rattle.office_types.specs.declared.block.BlockForm.TheVariants as block
 use Rattle.office_types.specs.declared.command.Action.TheVariants as act
 use Rattle.office_types.specs.declared.command.NetKind.TheVariants.{Can}
-use Rattle.office_types.specs.declared.command.Task.TheVariants.{Import}
 use Rattle.office_types.specs.declared.refusal.Refusal.TheVariants.{BlockFull, FileFault}
-use Rattle.office_types.specs.declared.reply.Reply.TheVariants.{Counts, Done, Number, Refused}
-use Rattle.office_types.specs.declared.state.Office.{Office}
-use Rattle.office_rules.specs.Outcome.{reply_of}
-use Rattle.office_rules.specs.Importing.{FileReading, Reading, Unreadable}
-use Rattle.office_rules.specs.Profile.{Profile, One, Two}
-use Rattle.office_rules.specs.Step.{IsRead, Step, file_wanted, net_named, office_after, opening, step_outcome}
+use Rattle.office_types.specs.declared.reply.Reply.TheVariants.{Counts}
+use Rattle.office_rules.specs.Importing.{Reading, Unreadable}
+use Rattle.office_rules.specs.Profile.{One, Two}
 use Rattle.office_rules.proofs.ProfileRows.{long_file, of_length, read_today, unread_before}
 use Rattle.office_rules.proofs.TeamCommand.{Requested, requests, bus, engine, grants, left_by, office, on_bus, opens}
 use Rattle.office_rules.proofs.TeamCommand.{takes, takes_spn, truck}
@@ -28,7 +25,6 @@ use Rattle.office_history.specs.declared.arrival.Answer.{Answer}
 use Rattle.office_history.specs.declared.arrival.Answer.TheVariants as answer
 use Rattle.office_history.specs.declared.arrival.Answer.TheVariants.{KeyReused}
 use Rattle.office_history.specs.History.{Answered, IsAnsweredAs, IsLegal, IsLegalHistory, first_arrivals, first_of}
-use Rattle.office_law.specs.Apart.{needs_book}
 use Rattle.office_history.specs.Laws.{HaveOneNetwork, is_on, new_spns}
 
 abbrev answered_under : Profile → Requested → List ℕ → List ℕ → Answer → Answered

@@ -1,17 +1,12 @@
 -- How a legal history goes on.
-use Rattle.std.proofs.Common.{◌≡◌, ℕ, zero, suc, ◌<◌, Bool, true, false, cond, not, List, [], ◌∷◌, ◌++◌, append-nil}
-use Rattle.std.proofs.Common.{length, get_or, map, filter, find, All, Option, Some, None, IfSome, refl, sym, ap, subst}
-use Rattle.std.proofs.Common.{◌∙◌, arith, inl, inr}
-use Rattle.std.specs.Option.{option_or}
-use Rattle.std.proofs.lemmas.Bool.{and_from, cases_Bool, false≢true}
-use Rattle.std.proofs.lemmas.List.{map-append}
-use Rattle.std.proofs.lemmas.List.Elements.{All-nil, All-push, filter-append}
-use Rattle.std.proofs.lemmas.List.Folds.{find-append}
-use Rattle.std.proofs.lemmas.Slice.Eq.{bytes_eq-Decides}
-use Rattle.std.specs.Str.{bytes_eq}
-use Rattle.office_types.specs.declared.reply.Reply.{Reply}
-use Rattle.office_types.specs.declared.state.Office.{Office}
-use Rattle.office_rules.specs.Step.{Run, Step, opening}
+use Rattle.office_history.proofs.Common.{◌≡◌, ℕ, zero, suc, Bool, true, false, cond, not, List, [], ◌∷◌, ◌++◌}
+use Rattle.office_history.proofs.Common.{append-nil, map, filter, find, All, Option, Some, None, IfSome, refl, sym, ap}
+use Rattle.office_history.proofs.Common.{subst, ◌∙◌, arith, inl, inr, option_or, cases_Bool, false≢true, map-append}
+use Rattle.office_history.proofs.Common.{All-nil, filter-append, find-append, bytes_eq-Decides, bytes_eq, Reply, Office}
+use Rattle.office_history.proofs.Common.{Run, Step, opening}
+use Rattle.std.proofs.Common.{◌<◌, length, get_or}
+use Rattle.std.proofs.lemmas.Bool.{and_from}
+use Rattle.std.proofs.lemmas.List.Elements.{All-push}
 use Rattle.office_rules.proofs.Runs.{run_more}
 use Rattle.office_history.specs.declared.arrival.Answer.TheVariants as answer
 use Rattle.office_history.specs.declared.arrival.Answer.TheVariants.{KeyReused}

@@ -1,3 +1,4 @@
+pub mod Common
 pub mod Histories
 pub mod Pairs
 pub mod Offices

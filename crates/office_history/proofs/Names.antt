@@ -1,14 +1,12 @@
 -- The names of released messages.
-use Rattle.std.proofs.Common.{List, All, Contains}
+use Rattle.office_history.proofs.Common.{List, All, Contains, Sheet, StepsAgree}
 use Rattle.std.proofs.lemmas.List.Elements.{All-contains}
 use Rattle.can_id.specs.Ident.{IsIdentifier}
 use Rattle.dbc_sheet.specs.Form.{IsSheet}
 use Rattle.dbc_sheet.specs.declared.message.Message.{Message}
-use Rattle.dbc_sheet.specs.declared.sheet.Sheet.{Sheet}
 use Rattle.office_types.specs.declared.state.LiveMessage.{LiveMessage}
 use Rattle.can_id.specs.declared.ident.Ident.{Ident}
 use Rattle.office_rules.specs.Kept.{AgreeOnNames, AreReleases, HaveOneName, IsNet}
-use Rattle.office_law.specs.Agree.{StepsAgree}
 use Rattle.office_law.proofs.Idents.{same_number}
 use Rattle.office_law.proofs.Sheets.{keeps_message}
 use Rattle.office_history.specs.Laws.{NumbersKeepTheirNames}

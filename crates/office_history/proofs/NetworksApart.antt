@@ -1,29 +1,15 @@
 -- What an arrival is answered depends on the arrivals on its network alone.
-use Rattle.std.proofs.Common.{◌≡◌, ◌∙◌, ℕ, zero, suc, ◌<◌, Bool, true, false, cond, not, List, [], ◌∷◌, ◌++◌, map}
-use Rattle.std.proofs.Common.{filter, find, All, Option, Some, None, IfSome, refl, sym, ap, subst, arith, inl, inr}
-use Rattle.std.specs.Prelude.{AllPairs, if◌then◌else◌}
-use Rattle.std.specs.Option.{option_or}
-use Rattle.std.specs.Str.{bytes_eq}
-use Rattle.std.proofs.lemmas.Bool.{cases_Bool, false≢true}
-use Rattle.std.proofs.lemmas.List.Elements.{All-cons, All-filter, All-head, All-nil, All-tail, All-weaker}
-use Rattle.std.proofs.lemmas.List.Folds.{find-append}
-use Rattle.std.proofs.lemmas.List.Kept.{AllPairs-cons}
-use Rattle.std.proofs.lemmas.Slice.Eq.{bytes_eq-Decides}
+use Rattle.office_history.proofs.Common.{◌≡◌, ◌∙◌, ℕ, zero, suc, Bool, true, false, cond, not, List, [], ◌∷◌, ◌++◌, map}
+use Rattle.office_history.proofs.Common.{filter, find, All, Option, Some, None, IfSome, refl, sym, ap, subst, arith}
+use Rattle.office_history.proofs.Common.{inl, inr, AllPairs, if◌then◌else◌, option_or, bytes_eq, cases_Bool, false≢true}
+use Rattle.office_history.proofs.Common.{All-cons, All-filter, All-head, All-nil, All-tail, All-weaker, find-append}
+use Rattle.office_history.proofs.Common.{AllPairs-cons, bytes_eq-Decides, Command, Reply, Done, Office, outcome}
+use Rattle.office_history.proofs.Common.{reply_of, Profile, IsRead, Run, Step, file_wanted, net_named, office_after}
+use Rattle.office_history.proofs.Common.{opening, step_outcome, needs_book, offices_are_kept}
 use Rattle.dbc_grammar.specs.Reads.{ReadsAsOneAtMost}
-use Rattle.office_types.specs.declared.command.Command.{Command}
-use Rattle.office_types.specs.declared.reply.Reply.{Reply}
-use Rattle.office_types.specs.declared.reply.Reply.TheVariants.{Done}
-use Rattle.office_types.specs.declared.state.Office.{Office}
-use Rattle.office_rules.specs.Commands.{outcome}
-use Rattle.office_rules.specs.Importing.{FileReading}
-use Rattle.office_rules.specs.Outcome.{reply_of}
-use Rattle.office_rules.specs.Profile.{Profile}
-use Rattle.office_rules.specs.Step.{IsRead, Run, Step, file_wanted, net_named, office_after, opening, step_outcome}
-use Rattle.office_law.specs.Apart.{needs_book}
 use Rattle.office_law.specs.Histories.{history}
 use Rattle.office_law.proofs.ApartBook.{task_alike}
 use Rattle.office_law.proofs.HistoriesApart.{one_history_one_network}
-use Rattle.office_law.proofs.KeptOffice.{offices_are_kept}
 use Rattle.office_history.specs.declared.arrival.Answer.{Answer}
 use Rattle.office_history.specs.declared.arrival.Answer.TheVariants as answer
 use Rattle.office_history.specs.declared.arrival.Answer.TheVariants.{KeyReused}

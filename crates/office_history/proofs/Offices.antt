@@ -1,13 +1,10 @@
 -- What legal histories leave.
-use Rattle.std.proofs.Common.{◌≡◌, ℕ, not, List, [], ◌∷◌, map, filter, All, sym, subst, ◌∙◌, inl, inr}
-use Rattle.std.proofs.lemmas.List.Elements.{All-cons, All-filter, All-head, All-map, All-nil, All-tail}
+use Rattle.office_history.proofs.Common.{◌≡◌, not, List, [], ◌∷◌, map, filter, All, sym, subst, ◌∙◌, inl, inr, All-cons}
+use Rattle.office_history.proofs.Common.{All-filter, All-head, All-nil, All-tail, Reply, Office, TeamCommand, Run}
+use Rattle.office_history.proofs.Common.{opening, StepsAgree, offices_are_kept}
+use Rattle.std.proofs.lemmas.List.Elements.{All-map}
 use Rattle.office_types.specs.Command.{IsCommand}
 use Rattle.office_types.specs.PlainName.{IsPlainName}
-use Rattle.office_types.specs.declared.reply.Reply.{Reply}
-use Rattle.office_types.specs.declared.state.Office.{Office}
-use Rattle.office_rules.specs.Step.{TeamCommand, Run, opening}
-use Rattle.office_law.specs.Agree.{StepsAgree}
-use Rattle.office_law.proofs.KeptOffice.{offices_are_kept}
 use Rattle.office_history.specs.History.{Answered, first_arrivals, request_of, same_pair}
 use Rattle.office_history.specs.Laws.{HistoriesLeaveOffices, IsInRange}
 

@@ -1,11 +1,10 @@
 -- The arrivals of one pair of team and key, among the first arrivals: there is one at most.
-use Rattle.std.proofs.Common.{◌≡◌, Bool, true, false, cond, not, ◌&&◌, List, [], ◌∷◌, filter, find, Option, Some, None}
-use Rattle.std.proofs.Common.{refl, sym, ap, ◌∙◌, inl, inr}
+use Rattle.office_history.proofs.Common.{◌≡◌, Bool, true, false, cond, not, List, [], ◌∷◌, filter, find, Option, Some}
+use Rattle.office_history.proofs.Common.{None, refl, sym, ap, ◌∙◌, inl, inr, bytes_eq, cases_Bool, bytes_eq-Decides}
+use Rattle.std.proofs.Common.{◌&&◌}
 use Rattle.std.specs.Prelude.{slice_get}
 use Rattle.std.specs.Option.{option_to_list}
-use Rattle.std.specs.Str.{bytes_eq}
-use Rattle.std.proofs.lemmas.Bool.{and_parts, cases_Bool}
-use Rattle.std.proofs.lemmas.Slice.Eq.{bytes_eq-Decides}
+use Rattle.std.proofs.lemmas.Bool.{and_parts}
 use Rattle.dbc_words.proofs.Naming.{bytes_eq-flip}
 use Rattle.office_history.specs.History.{Answered, first_arrivals, first_of, same_pair}
 use Rattle.office_history.proofs.Histories.{others}

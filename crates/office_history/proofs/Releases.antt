@@ -1,30 +1,17 @@
 -- The releases of a legal history that goes on.
-use Rattle.std.proofs.Common.{◌≡◌, ◌∙◌, ◌⊎◌, ℕ, List, [], ◌∷◌, ◌++◌, append-nil, Option, Some, map, filter, refl, sym}
-use Rattle.std.proofs.Common.{ap, subst, inl, inr}
-use Rattle.std.specs.Str.{bytes_eq}
-use Rattle.std.proofs.lemmas.Bool.{cases_Bool}
-use Rattle.std.proofs.lemmas.List.{append_assoc, map-append}
-use Rattle.std.proofs.lemmas.List.Elements.{filter-append}
-use Rattle.dbc_sheet.specs.declared.sheet.Sheet.{Sheet}
+use Rattle.office_history.proofs.Common.{◌≡◌, ◌∙◌, ℕ, List, [], ◌∷◌, ◌++◌, append-nil, Option, Some, map, filter, refl}
+use Rattle.office_history.proofs.Common.{sym, ap, subst, inl, inr, bytes_eq, cases_Bool, map-append, filter-append}
+use Rattle.office_history.proofs.Common.{Sheet, SpnBook, Command, Task, Act, Import, Bundle, Reply, Net, Office}
+use Rattle.office_history.proofs.Common.{outcome, FileReading, Outcome, Refusing, Changing, Profile, TeamCommand, Run}
+use Rattle.office_history.proofs.Common.{Step, net_named, opening, step_outcome, StepsAgree, AreInOrder}
+use Rattle.office_history.proofs.Common.{offices_are_kept}
+use Rattle.std.proofs.Common.{◌⊎◌}
+use Rattle.std.proofs.lemmas.List.{append_assoc}
 use Rattle.office_types.specs.State.{sheet_of}
-use Rattle.office_types.specs.declared.book.SpnBook.{SpnBook}
 use Rattle.office_types.specs.declared.command.Action.TheVariants as act
-use Rattle.office_types.specs.declared.command.Command.{Command}
-use Rattle.office_types.specs.declared.command.Task.{Task}
-use Rattle.office_types.specs.declared.command.Task.TheVariants.{Act, Import, Bundle}
-use Rattle.office_types.specs.declared.reply.Reply.{Reply}
-use Rattle.office_types.specs.declared.state.Net.{Net}
-use Rattle.office_types.specs.declared.state.Office.{Office}
-use Rattle.office_rules.specs.Commands.{outcome}
-use Rattle.office_rules.specs.Importing.{FileReading}
-use Rattle.office_rules.specs.Outcome.{Outcome, Refusing, Changing}
-use Rattle.office_rules.specs.Profile.{Profile}
-use Rattle.office_rules.specs.Step.{TeamCommand, Run, Step, net_named, opening, step_outcome}
 use Rattle.office_law.specs.Apart.{KeepsReleases}
-use Rattle.office_law.specs.Agree.{StepsAgree}
-use Rattle.office_law.specs.Histories.{AreInOrder, net_after}
+use Rattle.office_law.specs.Histories.{net_after}
 use Rattle.office_law.proofs.Apart.{networks_are_apart}
-use Rattle.office_law.proofs.KeptOffice.{offices_are_kept}
 use Rattle.office_law.proofs.NetsApart.{outcomes_are_left}
 use Rattle.office_law.proofs.OrderedNets.{equal_texts, sorted_after}
 use Rattle.office_history.specs.History.{Answered, first_arrivals, request_of}

@@ -1,33 +1,25 @@
 -- Suspect parameter numbers that first arrivals are given.
-use Rattle.std.proofs.Common.{◌≡◌, ◌≢◌, ◌∙◌, ℕ, zero, suc, Bool, true, false, List, ◌++◌, [], ◌∷◌, map, All, Contains}
-use Rattle.std.proofs.Common.{Option, Some, None, refl, sym, subst, arith}
-use Rattle.std.specs.Prelude.{AllPairs, is_none, if◌then◌else◌}
+use Rattle.office_history.proofs.Common.{◌≡◌, ◌∙◌, ℕ, zero, suc, Bool, true, false, List, ◌++◌, [], ◌∷◌, map, All}
+use Rattle.office_history.proofs.Common.{Contains, Option, Some, None, refl, sym, subst, arith, AllPairs, if◌then◌else◌}
+use Rattle.office_history.proofs.Common.{false≢true, All-cons, All-head, All-nil, All-tail, All-weaker, AllPairs-cons}
+use Rattle.office_history.proofs.Common.{SpnBook, Command, Task, Act, Import, Bundle, Reply, Number, Refused, Net}
+use Rattle.office_history.proofs.Common.{Office, Outcome, Refusing, Changing, reply_of, Profile, TeamCommand, Run, Step}
+use Rattle.office_history.proofs.Common.{net_named, office_after, opening, step_outcome, AreInOrder, offices_are_kept}
+use Rattle.std.proofs.Common.{◌≢◌}
+use Rattle.std.specs.Prelude.{is_none}
 use Rattle.std.specs.List.{flat_map}
-use Rattle.std.proofs.lemmas.Bool.{false≢true}
-use Rattle.std.proofs.lemmas.List.Elements.{All-append, All-cons, All-head, All-nil, All-tail, All-weaker}
-use Rattle.std.proofs.lemmas.List.Kept.{AllPairs-cons}
-use Rattle.office_types.specs.declared.book.SpnBook.{SpnBook}
+use Rattle.std.proofs.lemmas.List.Elements.{All-append}
 use Rattle.office_types.specs.Reply.{whole_reply}
 use Rattle.office_types.specs.declared.command.Action.{Action}
 use Rattle.office_types.specs.declared.command.Action.TheVariants as act
-use Rattle.office_types.specs.declared.command.Command.{Command}
-use Rattle.office_types.specs.declared.command.Task.{Task}
-use Rattle.office_types.specs.declared.command.Task.TheVariants.{Act, Import, Bundle}
 use Rattle.office_types.specs.declared.command.TakeSpn.{TakeSpn}
 use Rattle.office_types.specs.declared.reply.PartReply.{PartReply}
-use Rattle.office_types.specs.declared.reply.Reply.{Reply}
-use Rattle.office_types.specs.declared.reply.Reply.TheVariants.{Number, Refused, Bundle as Bundled}
-use Rattle.office_types.specs.declared.state.Net.{Net}
-use Rattle.office_types.specs.declared.state.Office.{Office}
+use Rattle.office_types.specs.declared.reply.Reply.TheVariants.{Bundle as Bundled}
 use Rattle.office_rules.specs.Commands.{acted}
-use Rattle.office_rules.specs.Outcome.{Outcome, Refusing, Changing, entered, reply_of}
+use Rattle.office_rules.specs.Outcome.{entered}
 use Rattle.office_rules.specs.Signals.{take_spn}
-use Rattle.office_rules.specs.Profile.{Profile}
-use Rattle.office_rules.specs.Step.{TeamCommand, Run, Step, net_named, office_after, opening, step_outcome}
 use Rattle.office_law.specs.Bundles.{bundle_of, command_of, requests_of}
-use Rattle.office_law.specs.Histories.{AreInOrder}
 use Rattle.office_law.proofs.BundleRuns.{bundles_run_their_parts}
-use Rattle.office_law.proofs.KeptOffice.{offices_are_kept}
 use Rattle.office_law.proofs.FreshNumbers.{numbers_are_fresh}
 use Rattle.office_history.specs.declared.arrival.Answer.TheVariants as answer
 use Rattle.office_history.specs.History.{Answered, answer_of, first_arrivals, request_of}

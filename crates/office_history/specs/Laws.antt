@@ -1,6 +1,6 @@
 -- How legal histories go on, and what they leave.
 use Rattle.std.specs.Prelude.{◌≡◌, ◌≢◌, ℕ, Bool, true, false, if◌then◌else◌, List, [], ◌∷◌, ◌++◌, map, filter, All}
-use Rattle.std.specs.Prelude.{AllPairs, Contains, Option, None, Some, is_none}
+use Rattle.std.specs.Prelude.{AllPairs, Contains, None, Some, is_none}
 use Rattle.std.specs.List.{flat_map}
 use Rattle.std.specs.Str.{bytes_eq}
 use Rattle.dbc_sheet.specs.Messages.{number_of}

@@ -1,10 +1,7 @@
 -- How many messages of a file are new, and how many are live already.
-use Rattle.std.proofs.Common.{◌≡◌, ◌+◌, List, length, refl}
+use Rattle.office_import.proofs.Common.{◌≡◌, ◌+◌, List, length, refl, Message, Net, live_already, new_messages}
 use Rattle.std.proofs.lemmas.List.Filters.{length-filter_both}
-use Rattle.dbc_sheet.specs.declared.message.Message.{Message}
-use Rattle.office_types.specs.declared.state.Net.{Net}
 use Rattle.office_rules.specs.Facts.{is_live}
-use Rattle.office_rules.specs.Importing.{live_already, new_messages}
 
 -- together all of them
 pub counted : (net : Net) (ms : List Message) → length (live_already net ms) + length (new_messages net ms) ≡ length ms

@@ -1,15 +1,12 @@
 -- The first refusal of the tests of each of a list's items.
-use Rattle.std.proofs.Common.{◌≡◌, ◌<◌, ◌+◌, ℕ, true, false, List, [], ◌∷◌, ◌++◌, length, take, drop, get_or, Option}
-use Rattle.std.proofs.Common.{Some, None, is_some, refl, sym, ap, ◌∙◌}
-use Rattle.std.specs.List.{flat_map}
-use Rattle.std.proofs.lemmas.Bool.{false≢true}
+use Rattle.office_import.proofs.Common.{◌≡◌, ◌<◌, ◌+◌, ℕ, true, false, List, [], ◌∷◌, ◌++◌, length, take, drop, get_or}
+use Rattle.office_import.proofs.Common.{Option, Some, None, refl, sym, ap, ◌∙◌, flat_map, false≢true, Test}
+use Rattle.office_import.proofs.Common.{first_refusal, Refusal, first-later, first-refused}
+use Rattle.std.proofs.Common.{is_some}
 use Rattle.std.proofs.lemmas.Grind.{flat_map-append}
 use Rattle.std.proofs.lemmas.List.{take_more, take-append-drop}
 use Rattle.std.proofs.Math.Seq.{drop-cons}
 use Prim.Native.Nat.{suc}
-use Rattle.base.specs.Refusing.{Test, first_refusal}
-use Rattle.office_types.specs.declared.refusal.Refusal.{Refusal}
-use Rattle.office_facts.proofs.Refusing.{first-later, first-refused}
 
 none_is : (o : Option Refusal) → is_some o ≡ false → o ≡ None
 none_is None h = refl

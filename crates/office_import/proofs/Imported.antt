@@ -1,16 +1,12 @@
 -- What the changes of an import lead to.
-use Rattle.std.proofs.Common.{◌≡◌, ℕ, List, [], ◌∷◌, ◌++◌, map, Some, refl, sym, ap, subst, ◌∙◌}
+use Rattle.office_import.proofs.Common.{◌≡◌, ℕ, List, [], ◌∷◌, ◌++◌, map, Some, refl, sym, ap, subst, ◌∙◌, Message}
+use Rattle.office_import.proofs.Common.{Sheet, SpnBook, SetMessage, EnterSpn, Decision, Net, Decides, import_sheet}
+use Rattle.office_import.proofs.Common.{new_messages, owned_by, spns_of}
 use Rattle.std.specs.Ordering.{nat_cmp}
-use Rattle.dbc_sheet.specs.declared.message.Message.{Message}
-use Rattle.dbc_sheet.specs.declared.sheet.Sheet.{Sheet}
-use Rattle.office_types.specs.declared.book.SpnBook.{SpnBook}
 use Rattle.office_types.specs.declared.change.Change.{Change}
-use Rattle.office_types.specs.declared.change.Change.TheVariants.{SetHead, SetMessage, EnterSpn}
-use Rattle.office_types.specs.declared.change.Decision.{Decision}
-use Rattle.office_types.specs.declared.state.Net.{Net}
-use Rattle.office_rules.specs.Change.{AllFit, Decides, HaveOwnBlocks, NetAndBook, all_applied, applied}
-use Rattle.office_rules.specs.Importing.{import_sheet, new_messages, owned_by, spns_of, widened, with_frame}
-use Rattle.office_rules.specs.Importing.{with_messages}
+use Rattle.office_types.specs.declared.change.Change.TheVariants.{SetHead}
+use Rattle.office_rules.specs.Change.{AllFit, HaveOwnBlocks, NetAndBook, all_applied, applied}
+use Rattle.office_rules.specs.Importing.{widened, with_frame, with_messages}
 use Rattle.office_rules.specs.Lists.{put_all}
 use Rattle.office_rules.specs.Numbers.{with_message}
 use Rattle.office_import.specs.Changes.{import_changes, import_reply}

@@ -1,3 +1,4 @@
+pub mod Common
 pub mod Each
 pub mod Refused
 pub mod Imported

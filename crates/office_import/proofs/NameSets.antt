@@ -1,12 +1,8 @@
 -- The names of a list, one after the other.
-use Rattle.std.proofs.Common.{◌≡◌, ◌<◌, ◌+◌, ◌||◌, Bool, true, false, cond, ℕ, List, length, get_or, take, refl, sym}
-use Rattle.std.proofs.Common.{ap, ◌∙◌}
-use Rattle.std.specs.Ordering.{is_eq}
-use Rattle.std.specs.Str.{bytes_eq}
+use Rattle.office_import.proofs.Common.{◌≡◌, ◌<◌, ◌+◌, ◌||◌, Bool, true, false, cond, ℕ, List, length, get_or, take}
+use Rattle.office_import.proofs.Common.{refl, sym, ap, ◌∙◌, is_eq, bytes_eq, text_cmp, has_name}
 use Rattle.std.specs.Cmp.Lexicographic.{texts_ties}
 use Rattle.std.proofs.lemmas.List.Folds.{list_any_more}
-use Rattle.base.specs.Keyed.{text_cmp}
-use Rattle.dbc_words.specs.Named.{has_name}
 
 or_last : (t there : Bool) → cond t true there ≡ (there || t)
 or_last true true = refl

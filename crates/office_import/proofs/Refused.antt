@@ -1,15 +1,11 @@
 -- The first refusal of an import, whose tests come in three parts.
-use Rattle.std.proofs.Common.{◌≡◌, ℕ, true, false, List, [], ◌∷◌, ◌++◌, Some, None, refl, sym}
-use Rattle.std.specs.List.{flat_map}
-use Rattle.base.specs.Refusing.{Test, first_refusal}
-use Rattle.dbc_sheet.specs.declared.sheet.Sheet.{Sheet}
-use Rattle.office_types.specs.declared.refusal.Refusal.{Refusal}
+use Rattle.office_import.proofs.Common.{◌≡◌, ℕ, true, false, List, [], ◌∷◌, ◌++◌, Some, None, refl, sym, flat_map, Test}
+use Rattle.office_import.proofs.Common.{first_refusal, Sheet, Refusal, Net, Reading, import_tests, is_too_large}
+use Rattle.office_import.proofs.Common.{message_import_tests, first-later, first-refused}
 use Rattle.office_types.specs.declared.refusal.Refusal.TheVariants as no
-use Rattle.office_types.specs.declared.state.Net.{Net}
-use Rattle.office_rules.specs.Importing.{Reading, import_tests, is_too_large, message_import_tests}
 use Rattle.office_rules.specs.Outcome.{when}
 use Rattle.office_import.specs.Tests.{early_tests}
-use Rattle.office_facts.proofs.Refusing.{first-held, first-later, first-passed, first-refused}
+use Rattle.office_facts.proofs.Refusing.{first-held, first-passed}
 
 module _ (team : List ℕ) (net : Net) (s : Sheet) where
   abbrev early : List (Test Refusal)

@@ -1,23 +1,18 @@
 -- A sheet takes in a node or a value table that it has room for, and whose name is new.
-use Rattle.std.proofs.Common.{◌≡◌, ◌≤◌, ◌||◌, ℕ, false, List, [], ◌∷◌, ◌++◌, length, Option, None, sym, ap, subst, refl}
-use Rattle.std.proofs.Common.{◌∙◌, length-append, arith, nat_le}
+use Rattle.office_import.proofs.Common.{◌≡◌, ◌≤◌, ◌||◌, ℕ, false, List, [], ◌∷◌, ◌++◌, length, Option, None, sym, ap}
+use Rattle.office_import.proofs.Common.{subst, refl, ◌∙◌, arith, bytes_eq, nat_tests, first_refusal, has_name}
+use Rattle.office_import.proofs.Common.{node_name, table_name, Sheet, Net, is_too_large}
+use Rattle.std.proofs.Common.{length-append, nat_le}
 use Rattle.std.specs.List.{AllByRecursion, IsDistinct}
-use Rattle.std.specs.Str.{bytes_eq}
 use Rattle.std.proofs.lemmas.Bool.{or_parts}
-use Rattle.std.proofs.lemmas.Bool.Decides.{nat_tests}
 use Rattle.std.proofs.lemmas.Option.{none-some}
-use Rattle.base.specs.Refusing.{first_refusal}
 use Rattle.dbc_words.specs.Fault.{IsRefusal}
 use Rattle.dbc_words.specs.Limits.{roster_limit}
-use Rattle.dbc_words.specs.Named.{AreNamedApart, has_name, roster_tests}
+use Rattle.dbc_words.specs.Named.{AreNamedApart, roster_tests}
 use Rattle.dbc_words.specs.declared.fault.SheetCode.{SheetCode}
 use Rattle.dbc_words.specs.declared.fault.SheetCode.TheVariants.{DoubleNumber, DoubleName, OutsidePayload, Clash}
 use Rattle.dbc_words.specs.declared.fault.SheetCode.TheVariants.{NoMultiplexor, TwoMultiplexors, TooMany, Memory}
-use Rattle.dbc_sheet.specs.Sheet.{node_name, table_name}
 use Rattle.dbc_sheet.specs.WellFormed.{AreRostered}
-use Rattle.dbc_sheet.specs.declared.sheet.Sheet.{Sheet}
-use Rattle.office_types.specs.declared.state.Net.{Net}
-use Rattle.office_rules.specs.Importing.{is_too_large}
 use Rattle.office_rules.proofs.Widened.{widened_roster}
 use Rattle.office_import.specs.News.{CanWiden, HasRosters, frame_news}
 

@@ -1,13 +1,13 @@
 -- A number, looked for in blocks that are in order.
-use Rattle.std.proofs.Common.{◌≡◌, ◌≤◌, Bool, true, false, cond, ℕ, List, length, get_or, Result, Ok, Err, refl, sym}
-use Rattle.std.proofs.Common.{inl, inr, ◌∙◌, arith}
+use Rattle.office_import.proofs.Common.{◌≡◌, ◌≤◌, Bool, true, false, cond, ℕ, List, length, get_or, refl, sym, ◌∙◌}
+use Rattle.office_import.proofs.Common.{arith, false≢true, nat_tests}
+use Rattle.std.proofs.Common.{Result, Ok, Err, inl, inr}
 use Rattle.std.specs.Prelude.{nat_lt, is_ok}
 use Rattle.std.specs.List.{AllAdjacentBelow}
 use Rattle.std.specs.List.Sorted.{IsBinarySearchResult, IsNonDecreasingBy, IsSearchInRange}
 use Rattle.std.specs.Ordering.{ordering_index}
 use Rattle.std.specs.declared.cmp.Ordering.TheVariants.{Less, Equal, Greater}
-use Rattle.std.proofs.lemmas.Bool.{cases_lt, false≢true}
-use Rattle.std.proofs.lemmas.Bool.Decides.{nat_tests}
+use Rattle.std.proofs.lemmas.Bool.{cases_lt}
 use Rattle.std.proofs.lemmas.List.Folds.{list_any_at, list_any_none}
 use Rattle.std.proofs.lemmas.List.Sorted.{IsNonDecreasingBy-from_all_adjacent}
 use Rattle.office_types.specs.Block.{in_block}

@@ -1,16 +1,7 @@
 -- Networks are apart.
-use Rattle.std.proofs.Common.{◌≡◌, ◌∙◌, ℕ, List, Option, Some, inl, inr, refl, ap, subst}
-use Rattle.office_types.specs.declared.book.SpnBook.{SpnBook}
+use Rattle.office_law.proofs.Common.{◌≡◌, ◌∙◌, ℕ, List, Option, Some, inl, inr, refl, ap, subst, SpnBook, Command, Task}
+use Rattle.office_law.proofs.Common.{Act, Bundle, Reply, Net, outcome, FileReading, Entries, Changing, net_named}
 use Rattle.office_types.specs.declared.command.Action.TheVariants as act
-use Rattle.office_types.specs.declared.command.Command.{Command}
-use Rattle.office_types.specs.declared.command.Task.{Task}
-use Rattle.office_types.specs.declared.command.Task.TheVariants.{Act, Bundle}
-use Rattle.office_types.specs.declared.reply.Reply.{Reply}
-use Rattle.office_types.specs.declared.state.Net.{Net}
-use Rattle.office_rules.specs.Commands.{outcome}
-use Rattle.office_rules.specs.Importing.{FileReading}
-use Rattle.office_rules.specs.Outcome.{Entries, Changing}
-use Rattle.office_rules.specs.Step.{net_named}
 use Rattle.office_law.specs.Apart.{KeepsReleases, NetworksAreApart}
 use Rattle.office_law.proofs.ApartBook.{task_alike}
 use Rattle.office_law.proofs.ApartReplies.{Agree, agree_task}

@@ -1,25 +1,13 @@
 -- What a command gives depends on the book only where it reads it.
-use Rattle.std.proofs.Common.{◌≡◌, ℕ, Bool, true, false, List, [], ◌∷◌, Option, Some, None, ◌+◌, ◌∙◌, refl, sym, ap}
-use Rattle.std.specs.Prelude.{if◌then◌else◌, not, ◌&&◌}
-use Rattle.std.specs.List.{list_any}
-use Rattle.std.proofs.lemmas.Bool.{false≢true, or_parts}
-use Rattle.office_types.specs.Block.{is_spn, same_form}
-use Rattle.office_types.specs.PlainName.{is_office}
-use Rattle.office_types.specs.declared.block.BlockForm.TheVariants.{Pgn}
-use Rattle.office_types.specs.declared.book.SpnBook.{SpnBook}
-use Rattle.office_types.specs.declared.command.Action.{Action}
+use Rattle.office_law.proofs.Common.{◌≡◌, ℕ, Bool, true, false, List, [], ◌∷◌, Option, Some, None, ◌+◌, ◌∙◌, refl, sym}
+use Rattle.office_law.proofs.Common.{ap, if◌then◌else◌, list_any, false≢true, or_parts, is_spn, same_form, is_office}
+use Rattle.office_law.proofs.Common.{Pgn, SpnBook, Action, Grant, Task, Act, Import, Bundle, Net, PartsOutcome}
+use Rattle.office_law.proofs.Common.{bundle_outcome, part_then, with_part, acted, done_task, parts_done, is_granted}
+use Rattle.office_law.proofs.Common.{is_j1939, is_spn_granted, FileReading, grant, granted, Entries, Outcome, Refusing}
+use Rattle.office_law.proofs.Common.{Changing, entered, on_net, unless, when}
+use Rattle.std.specs.Prelude.{not, ◌&&◌}
 use Rattle.office_types.specs.declared.command.Action.TheVariants as act
-use Rattle.office_types.specs.declared.command.Grant.{Grant}
-use Rattle.office_types.specs.declared.command.Task.{Task}
-use Rattle.office_types.specs.declared.command.Task.TheVariants.{Act, Import, Bundle}
 use Rattle.office_types.specs.declared.refusal.Refusal.TheVariants as no
-use Rattle.office_types.specs.declared.state.Net.{Net}
-use Rattle.office_rules.specs.Bundling.{PartsOutcome, bundle_outcome, part_then, with_part}
-use Rattle.office_rules.specs.Commands.{acted, done_task, parts_done}
-use Rattle.office_rules.specs.Facts.{is_granted, is_j1939, is_spn_granted}
-use Rattle.office_rules.specs.Importing.{FileReading}
-use Rattle.office_rules.specs.Opening.{grant, granted}
-use Rattle.office_rules.specs.Outcome.{Entries, Outcome, Refusing, Changing, entered, on_net, unless, when}
 use Rattle.office_law.specs.Apart.{action_needs_book, needs_book}
 
 taken_alike : (b p q r : Bool) → b ≡ false → ◌≡◌ {A = Bool} (if b then p else r) (if b then q else r)

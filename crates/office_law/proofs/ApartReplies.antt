@@ -1,29 +1,13 @@
 -- What a command takes from the book and writes into its network is in its reply.
-use Rattle.std.proofs.Common.{◌≡◌, ◌∙◌, ◌+◌, ℕ, List, [], ◌∷◌, Option, Some, None, refl, sym, ap, subst}
-use Rattle.base.specs.Refusing.{Test, first_refusal}
-use Rattle.office_types.specs.declared.book.SpnBook.{SpnBook}
-use Rattle.office_types.specs.declared.command.Action.{Action}
+use Rattle.office_law.proofs.Common.{◌≡◌, ◌∙◌, ◌+◌, ℕ, List, [], ◌∷◌, Option, Some, None, refl, sym, ap, subst, Test}
+use Rattle.office_law.proofs.Common.{first_refusal, SpnBook, Action, Grant, TakeSpn, Task, Act, Import, Bundle, Refusal}
+use Rattle.office_law.proofs.Common.{Reply, Number, PartReply, Net, part_reply, whole_reply, PartsOutcome, RefusedAt}
+use Rattle.office_law.proofs.Common.{AllDone, bundle_outcome, part_then, with_part, acted, done_task, parts_done}
+use Rattle.office_law.proofs.Common.{live_named, message_facts, FileReading, with_message, grant, grant_tests, granted}
+use Rattle.office_law.proofs.Common.{Entries, Outcome, Refusing, Changing, entered, given_or, on_net, refused_or}
+use Rattle.office_law.proofs.Common.{reply_of, unless, spn_given, take_spn, take_spn_tests, with_spn}
 use Rattle.office_types.specs.declared.command.Action.TheVariants as act
-use Rattle.office_types.specs.declared.command.Grant.{Grant}
-use Rattle.office_types.specs.declared.command.TakeSpn.{TakeSpn}
-use Rattle.office_types.specs.declared.command.Task.{Task}
-use Rattle.office_types.specs.declared.command.Task.TheVariants.{Act, Import, Bundle}
-use Rattle.office_types.specs.declared.refusal.Refusal.{Refusal}
 use Rattle.office_types.specs.declared.refusal.Refusal.TheVariants as no
-use Rattle.office_types.specs.declared.reply.Reply.{Reply}
-use Rattle.office_types.specs.declared.reply.Reply.TheVariants.{Number}
-use Rattle.office_types.specs.declared.reply.PartReply.{PartReply}
-use Rattle.office_types.specs.declared.state.Net.{Net}
-use Rattle.office_types.specs.Reply.{part_reply, whole_reply}
-use Rattle.office_rules.specs.Bundling.{PartsOutcome, RefusedAt, AllDone, bundle_outcome, part_then, with_part}
-use Rattle.office_rules.specs.Commands.{acted, done_task, parts_done}
-use Rattle.office_rules.specs.Facts.{live_named, message_facts}
-use Rattle.office_rules.specs.Importing.{FileReading}
-use Rattle.office_rules.specs.Numbers.{with_message}
-use Rattle.office_rules.specs.Opening.{grant, grant_tests, granted}
-use Rattle.office_rules.specs.Outcome.{Entries, Outcome, Refusing, Changing, entered, given_or, on_net, refused_or}
-use Rattle.office_rules.specs.Outcome.{reply_of, unless}
-use Rattle.office_rules.specs.Signals.{spn_given, take_spn, take_spn_tests, with_spn}
 use Rattle.office_law.specs.Histories.{net_after}
 use Rattle.office_law.proofs.EachLeavesNameAndReleases.{left_act, left_task}
 use Rattle.office_law.proofs.NameAndReleasesStay.{IsAnswer, IsLeft}

@@ -1,28 +1,16 @@
 -- A bundle is the run of its parts.
-use Rattle.std.proofs.Common.{◌≡◌, ◌∙◌, ◌⊎◌, ◌+◌, ℕ, Bool, true, false, List, [], ◌∷◌, ◌++◌, map, length, Option, Some}
-use Rattle.std.proofs.Common.{None, inl, inr, refl, sym, ap, subst, arith}
-use Rattle.std.proofs.lemmas.Slice.Eq.{bytes_eq-Decides}
-use Rattle.base.specs.Keyed.{put}
+use Rattle.office_law.proofs.Common.{◌≡◌, ◌∙◌, ◌⊎◌, ◌+◌, ℕ, Bool, true, false, List, [], ◌∷◌, ◌++◌, map, length, Option}
+use Rattle.office_law.proofs.Common.{Some, None, inl, inr, refl, sym, ap, subst, arith, bytes_eq-Decides, put}
+use Rattle.office_law.proofs.Common.{part_reply, whole_reply, by_name, Action, Refusal, PartReply, Reply, Refused, Net}
+use Rattle.office_law.proofs.Common.{Office, PartsOutcome, RefusedAt, AllDone, both_entries, bundle_outcome, part_then}
+use Rattle.office_law.proofs.Common.{with_part, acted, parts_done, in_review, FileReading, Unreadable, Entries, Outcome}
+use Rattle.office_law.proofs.Common.{Refusing, Changing, entered, reply_of, Profile, IsRead, Run, Step, file_wanted}
+use Rattle.office_law.proofs.Common.{net_named, office_after}
 use Rattle.office_types.specs.Parts.{AreParts}
-use Rattle.office_types.specs.Reply.{part_reply, whole_reply}
-use Rattle.office_types.specs.State.{by_name}
-use Rattle.office_types.specs.declared.command.Action.{Action}
 use Rattle.office_types.specs.declared.command.Task.TheVariants as task
-use Rattle.office_types.specs.declared.refusal.Refusal.{Refusal}
 use Rattle.office_types.specs.declared.refusal.Refusal.TheVariants as no
-use Rattle.office_types.specs.declared.reply.PartReply.{PartReply}
-use Rattle.office_types.specs.declared.reply.Reply.{Reply}
-use Rattle.office_types.specs.declared.reply.Reply.TheVariants.{Bundle, Refused}
-use Rattle.office_types.specs.declared.state.Net.{Net}
-use Rattle.office_types.specs.declared.state.Office.{Office}
-use Rattle.office_rules.specs.Bundling.{PartsOutcome, RefusedAt, AllDone, both_entries, bundle_outcome, part_then}
-use Rattle.office_rules.specs.Bundling.{refused_part, with_part}
-use Rattle.office_rules.specs.Commands.{acted, parts_done}
-use Rattle.office_rules.specs.Facts.{in_review}
-use Rattle.office_rules.specs.Importing.{FileReading, Unreadable}
-use Rattle.office_rules.specs.Outcome.{Entries, Outcome, Refusing, Changing, entered, reply_of}
-use Rattle.office_rules.specs.Profile.{Profile}
-use Rattle.office_rules.specs.Step.{IsRead, Run, Step, file_wanted, net_named, office_after}
+use Rattle.office_types.specs.declared.reply.Reply.TheVariants.{Bundle}
+use Rattle.office_rules.specs.Bundling.{refused_part}
 use Rattle.office_law.specs.Bundles.{BundlesRunTheirParts, IsPartRefused, command_of, requests_of}
 use Rattle.office_law.specs.Histories.{AreInOrder}
 use Rattle.office_law.proofs.EachLeavesNameAndReleases.{left_act}

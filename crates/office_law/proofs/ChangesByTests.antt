@@ -1,25 +1,11 @@
 -- What the tests of a command and the ranges of its fields say of the change that it makes.
-use Rattle.std.proofs.Common.{◌≡◌, ◌≤◌, ◌<◌, ◌⊎◌, true, false, ℕ, List, [], length, Contains, All}
-use Rattle.dbc_words.specs.Limits.{message_limit, roster_limit, spn_limit}
-use Rattle.dbc_sheet.specs.Form.{IsNode, IsSheet, KeepsMessage}
-use Rattle.dbc_sheet.specs.Messages.{IsClearMessage}
-use Rattle.dbc_sheet.specs.Sheet.{IsClearSheet}
-use Rattle.dbc_sheet.specs.declared.node.Node.{Node}
-use Rattle.dbc_sheet.specs.declared.sheet.Sheet.{Sheet}
-use Rattle.dbc_sheet.specs.declared.signal.Signal.{Signal}
-use Rattle.office_types.specs.Block.{IsRange, is_spn, same_form}
-use Rattle.office_types.specs.PlainName.{IsPlainName}
-use Rattle.office_types.specs.declared.block.BlockForm.TheVariants.{Pgn}
-use Rattle.office_types.specs.declared.book.SpnBlock.{SpnBlock}
-use Rattle.office_types.specs.declared.book.SpnBook.{SpnBook}
-use Rattle.office_types.specs.declared.state.GrantedBlock.{GrantedBlock}
-use Rattle.office_types.specs.declared.state.LiveMessage.{LiveMessage}
-use Rattle.office_types.specs.declared.state.Net.{Net}
-use Rattle.office_rules.specs.Facts.{has_node, in_review, is_granted, is_held, is_j1939, is_live, is_named}
-use Rattle.office_rules.specs.Facts.{is_spn_granted, is_submitter, spn_range}
-use Rattle.office_rules.specs.Importing.{is_too_large, message_import_tests}
-use Rattle.office_rules.specs.Outcome.{Entries}
-use Rattle.office_rules.specs.Signals.{with_signals}
+use Rattle.office_law.proofs.Common.{◌≡◌, ◌≤◌, ◌<◌, ◌⊎◌, true, false, ℕ, List, [], length, Contains, message_limit}
+use Rattle.office_law.proofs.Common.{roster_limit, spn_limit, IsNode, IsSheet, KeepsMessage, IsClearMessage}
+use Rattle.office_law.proofs.Common.{IsClearSheet, Node, Sheet, Signal, IsRange, is_spn, same_form, IsPlainName, Pgn}
+use Rattle.office_law.proofs.Common.{SpnBlock, SpnBook, GrantedBlock, LiveMessage, Net, has_node, in_review, is_granted}
+use Rattle.office_law.proofs.Common.{is_held, is_j1939, is_live, is_named, is_spn_granted, is_submitter, spn_range}
+use Rattle.office_law.proofs.Common.{is_too_large, message_import_tests, Entries, with_signals}
+use Rattle.std.proofs.Common.{All}
 use Rattle.office_law.proofs.NoTestHolds.{NoneHolds}
 
 pub record CanGrant (net : Net) (g : GrantedBlock) : Type 0 where

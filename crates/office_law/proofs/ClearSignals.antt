@@ -1,19 +1,14 @@
 -- Messages that stay clear where their signals change.
-use Rattle.std.proofs.Common.{◌≡◌, ℕ, Bool, true, false, ◌&&◌, not, List, [], ◌∷◌, refl, sym, ◌∙◌, arith}
-use Rattle.std.specs.List.{Any, filter, list_any}
-use Rattle.std.specs.Str.{bytes_eq}
-use Rattle.std.proofs.lemmas.Bool.{false≢true, cond_both}
-use Rattle.std.proofs.lemmas.List.Elements.{All-nil}
-use Rattle.std.proofs.lemmas.List.Folds.{list_any-from_Any, Any-from_list_any}
+use Rattle.office_law.proofs.Common.{◌≡◌, ℕ, Bool, true, false, ◌&&◌, not, List, [], ◌∷◌, refl, sym, ◌∙◌, arith, filter}
+use Rattle.office_law.proofs.Common.{list_any, bytes_eq, false≢true, cond_both, All-nil, list_any-from_Any}
+use Rattle.office_law.proofs.Common.{Any-from_list_any, IsClear, IsMultiplexor, is_multiplexor, is_under, Place}
+use Rattle.office_law.proofs.Common.{is_multiplexor_decides, place_of, signal_is_multiplexor, places_of, at_signal}
+use Rattle.office_law.proofs.Common.{Signal, is_needed}
+use Rattle.std.specs.List.{Any}
 use Rattle.bitlayout.specs.Bits.{IsInside}
-use Rattle.bitlayout.specs.Clear.{IsClear, IsMultiplexor, CollideAt}
-use Rattle.bitlayout.specs.Mux.{IsUnder, is_multiplexor, is_under}
-use Rattle.bitlayout.specs.declared.place.Place.{Place}
-use Rattle.bitlayout.proofs.Presence.{is_multiplexor_decides, is_under_decides}
-use Rattle.dbc_sheet.specs.Signal.{place_of}
-use Rattle.dbc_sheet.specs.Signals.{signal_is_multiplexor, places_of, at_signal}
-use Rattle.dbc_sheet.specs.declared.signal.Signal.{Signal}
-use Rattle.office_rules.specs.Signals.{is_needed}
+use Rattle.bitlayout.specs.Clear.{CollideAt}
+use Rattle.bitlayout.specs.Mux.{IsUnder}
+use Rattle.bitlayout.proofs.Presence.{is_under_decides}
 use Rattle.office_law.proofs.Places.{All-kept, AllPairs-kept, list_any-map, any_from_kept, any_kept}
 
 -- no signals at all

@@ -1,14 +1,7 @@
 -- Each command is decided by its tests.
-use Rattle.std.proofs.Common.{ℕ, List, Option, Some, None, refl, sym}
-use Rattle.std.proofs.lemmas.Bool.{false≢true}
-use Rattle.base.specs.Refusing.{first_refusal}
-use Rattle.office_types.specs.declared.book.SpnBook.{SpnBook}
-use Rattle.office_types.specs.declared.command.Task.{Task}
-use Rattle.office_types.specs.declared.command.Task.TheVariants.{Act, Import, Bundle}
-use Rattle.office_types.specs.declared.state.Net.{Net}
-use Rattle.office_rules.specs.Bundling.{PartsOutcome, RefusedAt, AllDone, bundle_outcome}
-use Rattle.office_rules.specs.Commands.{done_task, parts_done}
-use Rattle.office_rules.specs.Importing.{FileReading, Reading, Unreadable, file_imported, file_tests}
+use Rattle.office_law.proofs.Common.{ℕ, List, Option, Some, None, refl, sym, false≢true, first_refusal, SpnBook, Task}
+use Rattle.office_law.proofs.Common.{Act, Import, Bundle, Net, PartsOutcome, RefusedAt, AllDone, bundle_outcome}
+use Rattle.office_law.proofs.Common.{done_task, parts_done, FileReading, Reading, Unreadable, file_imported, file_tests}
 use Rattle.office_law.specs.Deciding.{IsDecidedBy, TestsDecide, bundle_tests, task_tests}
 use Rattle.office_law.proofs.OutcomeFound.{IsAnswered, decided_net}
 use Rattle.office_law.proofs.EachAction.{laws_of}

@@ -1,6 +1,5 @@
 -- The laws hold of each action.
-use Rattle.std.proofs.Common.{ℕ, List}
-use Rattle.office_types.specs.declared.command.Action.{Action}
+use Rattle.office_law.proofs.Common.{ℕ, List, Action}
 use Rattle.office_types.specs.declared.command.Action.TheVariants as act
 use Rattle.office_law.proofs.NumberLaws.{take_ident_laws, take_pgn_laws}
 use Rattle.office_law.proofs.OfAction.{ActionLaws}

@@ -1,21 +1,11 @@
 -- Each command that isn't refused leaves the name and the releases of its network so.
-use Rattle.std.proofs.Common.{◌≡◌, ℕ, List, [], ◌∷◌, ◌++◌, Option, Some, None, append-nil, append_assoc, refl, sym, ap}
-use Rattle.std.proofs.Common.{◌∙◌}
-use Rattle.std.specs.Prelude.{◌+◌, IfSome}
-use Rattle.dbc_sheet.specs.declared.sheet.Sheet.{Sheet}
-use Rattle.office_types.specs.State.{sheet_of}
-use Rattle.office_types.specs.declared.book.SpnBook.{SpnBook}
-use Rattle.office_types.specs.declared.command.Action.{Action}
+use Rattle.office_law.proofs.Common.{◌≡◌, ℕ, List, [], ◌∷◌, ◌++◌, Option, Some, None, append-nil, append_assoc, refl}
+use Rattle.office_law.proofs.Common.{sym, ap, ◌∙◌, IfSome, Sheet, sheet_of, SpnBook, Action, Task, Act, Import, Bundle}
+use Rattle.office_law.proofs.Common.{PartReply, Reply, Net, acted, done_task, parts_done, FileReading, Reading}
+use Rattle.office_law.proofs.Common.{Unreadable, file_imported, import_tests, entered}
+use Rattle.std.specs.Prelude.{◌+◌}
 use Rattle.office_types.specs.declared.command.Action.TheVariants as act
-use Rattle.office_types.specs.declared.command.Task.{Task}
-use Rattle.office_types.specs.declared.command.Task.TheVariants.{Act, Import, Bundle}
-use Rattle.office_types.specs.declared.reply.PartReply.{PartReply}
-use Rattle.office_types.specs.declared.reply.Reply.{Reply}
 use Rattle.office_types.specs.declared.reply.Reply.TheVariants.{Bundle as Bundled}
-use Rattle.office_types.specs.declared.state.Net.{Net}
-use Rattle.office_rules.specs.Commands.{acted, done_task, parts_done}
-use Rattle.office_rules.specs.Importing.{FileReading, Reading, Unreadable, file_imported, import_tests}
-use Rattle.office_rules.specs.Outcome.{entered}
 use Rattle.office_law.proofs.EachAction.{laws_of}
 use Rattle.office_law.proofs.NameAndReleasesStay.{IsLeft, left, left_net, name_of, releases_after, releases_of}
 use Rattle.office_law.proofs.Parts.{LeavesAll, leaves_all_weaker, leaves_bundle, leaves_then, leaves_with}

@@ -1,19 +1,9 @@
 -- What a command goes on with is there where no test refuses.
-use Rattle.std.proofs.Common.{◌≡◌, true, false, ℕ, List, Option, Some, None, refl, sym}
-use Rattle.std.specs.Prelude.{is_none, is_some}
-use Rattle.std.proofs.lemmas.Bool.{false≢true}
-use Rattle.bitlayout.specs.declared.place.Place.{Place}
-use Rattle.dbc_sheet.specs.declared.sheet.Sheet.{Sheet}
-use Rattle.office_types.specs.declared.book.SpnBook.{SpnBook}
-use Rattle.office_types.specs.declared.command.TakeBits.{TakeBits}
-use Rattle.office_types.specs.declared.command.TakeIdent.{TakeIdent}
-use Rattle.office_types.specs.declared.command.TakeSpn.{TakeSpn}
-use Rattle.office_types.specs.declared.state.Net.{Net}
-use Rattle.office_rules.specs.Facts.{NumberFacts}
-use Rattle.office_rules.specs.Importing.{FileReading, Reading, Unreadable, file_tests}
-use Rattle.office_rules.specs.Numbers.{number_given, take_ident_tests, take_pgn_tests, want_tests}
-use Rattle.office_rules.specs.Outcome.{on_net}
-use Rattle.office_rules.specs.Signals.{on_message, spn_given, spn_tests, start_given, start_tests}
+use Rattle.office_law.proofs.Common.{◌≡◌, true, false, ℕ, List, Option, Some, None, refl, sym, is_none, is_some}
+use Rattle.office_law.proofs.Common.{false≢true, Place, Sheet, SpnBook, TakeBits, TakeIdent, TakeSpn, Net, NumberFacts}
+use Rattle.office_law.proofs.Common.{FileReading, Reading, Unreadable, file_tests, number_given, take_ident_tests}
+use Rattle.office_law.proofs.Common.{take_pgn_tests, want_tests, on_net, on_message, spn_given, spn_tests, start_given}
+use Rattle.office_law.proofs.Common.{start_tests}
 use Rattle.office_law.specs.Missing.{NothingIsMissing}
 use Rattle.office_law.proofs.NoTestHolds.{NoneHolds, NoneHolds-from_none}
 use Rattle.office_law.proofs.PassedTests.{group_passed, ident_passed}

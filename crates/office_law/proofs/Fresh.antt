@@ -1,27 +1,18 @@
 -- Numbers that may be given out: no live message has them, and they aren't held.
-use Rattle.std.proofs.Common.{◌≡◌, ◌<◌, ◌==◌, ◌∙◌, ◌||◌, Bool, true, false, ℕ, zero, suc, List, [], ◌∷◌, map, length}
-use Rattle.std.proofs.Common.{get_or, Option, Some, None, Contains, refl, sym, ap, subst, arith, eq-eqb}
-use Rattle.std.specs.List.{list_any, filter_map, cons_option}
-use Rattle.std.proofs.lemmas.Bool.{false≢true, and_parts, false_from_ne_true, leb-true, not-false, not-true, or_parts}
-use Rattle.std.proofs.lemmas.List.Elements.{Contains-append_left, Contains-append_right}
-use Rattle.std.proofs.lemmas.List.Folds.{Any-from_list_any, list_any-append}
-use Rattle.std.proofs.lemmas.Option.{same_Some}
-use Rattle.can_id.specs.Ident.{IsIdentifier, ident_of}
+use Rattle.office_law.proofs.Common.{◌≡◌, ◌<◌, ◌==◌, ◌∙◌, ◌||◌, Bool, true, false, ℕ, zero, suc, List, [], ◌∷◌, map}
+use Rattle.office_law.proofs.Common.{length, get_or, Option, Some, None, Contains, refl, sym, ap, subst, arith, eq-eqb}
+use Rattle.office_law.proofs.Common.{list_any, false≢true, and_parts, false_from_ne_true, leb-true, not-false, not-true}
+use Rattle.office_law.proofs.Common.{or_parts, Contains-append_left, Contains-append_right, Any-from_list_any}
+use Rattle.office_law.proofs.Common.{list_any-append, same_Some, IsIdentifier, ident_of, Ident, block_form, IsLeastFree}
+use Rattle.office_law.proofs.Common.{has_form, is_taken, least_free, number_form, Block, TakeIdent, NumberForm}
+use Rattle.office_law.proofs.Common.{LiveMessage, Net, least_free_is, blocks_of, group_of, has_ident, ident_facts}
+use Rattle.office_law.proofs.Common.{is_held, is_live, lies_in, same_ident, taken_groups, taken_idents, taken_numbers}
+use Rattle.office_law.proofs.Common.{number_given, want_tests}
+use Rattle.std.specs.List.{filter_map, cons_option}
 use Rattle.can_id.specs.declared.form.IdentForm.{IdentForm}
 use Rattle.can_id.specs.declared.form.IdentForm.TheVariants.{Standard, Extended}
-use Rattle.can_id.specs.declared.ident.Ident.{Ident}
 use Rattle.can_id.specs.declared.ident.Ident.TheVariants as id
-use Rattle.office_types.specs.Block.{block_form}
-use Rattle.office_types.specs.Free.{IsLeastFree, has_form, is_taken, least_free, number_form}
-use Rattle.office_types.specs.declared.block.Block.{Block}
-use Rattle.office_types.specs.declared.command.TakeIdent.{TakeIdent}
-use Rattle.office_types.specs.declared.free.NumberForm.{NumberForm}
-use Rattle.office_types.specs.declared.state.LiveMessage.{LiveMessage}
-use Rattle.office_types.specs.declared.state.Net.{Net}
-use Rattle.office_types.proofs.Least.{least_free_is}
-use Rattle.office_rules.specs.Facts.{blocks_of, group_of, has_ident, ident_facts, is_held, is_live, lies_in, number_in}
-use Rattle.office_rules.specs.Facts.{same_ident, taken_groups, taken_idents, taken_numbers}
-use Rattle.office_rules.specs.Numbers.{number_given, want_tests}
+use Rattle.office_rules.specs.Facts.{number_in}
 use Rattle.office_law.specs.Fresh.{IsChosen}
 use Rattle.office_law.proofs.Idents.{same_ident-true}
 use Rattle.office_law.proofs.NoTestHolds.{NoneHolds}

@@ -1,47 +1,26 @@
 -- The numbers that commands give out.
-use Rattle.base.specs.Keyed.{put}
+use Rattle.office_law.proofs.Common.{put, Reading, clear_tests, import, import_tests, imported, is_too_large}
+use Rattle.office_law.proofs.Common.{message_import_tests, new_messages, owned_by, spns_entered, Sheet, flat_map, ◌≡◌}
+use Rattle.office_law.proofs.Common.{◌≢◌, ◌∙◌, ◌==◌, true, false, ℕ, List, [], ◌∷◌, map, Some, None, Contains, inl, inr}
+use Rattle.office_law.proofs.Common.{refl, sym, ap, subst, arith, eq-eqb, ◌++◌, length, Equal, and_parts, false≢true}
+use Rattle.office_law.proofs.Common.{ranked, Contains-append_left, Contains-append_right, list_any_at, IsIdentifier}
+use Rattle.office_law.proofs.Common.{dbc_number, ident_of, fields_with, Ident, group_form, has_form, is_taken}
+use Rattle.office_law.proofs.Common.{by_number, SpnBook, Pdu, Addressed, Broadcast, TakeIdent, TakePgn, TakeSpn, Spn}
+use Rattle.office_law.proofs.Common.{Reply, Number, LiveMessage, Net, blocks_of, group_facts, group_of, ident_facts}
+use Rattle.office_law.proofs.Common.{is_live, live_named, message_facts, spn_blocks_of, taken_groups, taken_idents}
+use Rattle.office_law.proofs.Common.{IsNet, address_of, group_given, ident_with, new_message, number_given, take_ident}
+use Rattle.office_law.proofs.Common.{take_ident_tests, take_pgn, take_pgn_tests, with_message, Entries, no_entries}
+use Rattle.office_law.proofs.Common.{Outcome, Changing, entered, given_or, on_net, when, spn_entered, spn_given}
+use Rattle.office_law.proofs.Common.{take_spn, take_spn_tests, with_spn}
 use Rattle.office_law.proofs.NoTestHolds.{NoneHolds-append, each_passed}
 use Rattle.office_law.proofs.KeptImport.{is_free, is_new}
 use Rattle.office_law.proofs.LiveAfterImport.{are_joined}
-use Rattle.office_rules.specs.Importing.{Reading, clear_tests, import, import_sheet, import_tests, imported}
-use Rattle.office_rules.specs.Importing.{is_too_large, live_already, message_import_tests, new_messages, owned_by}
-use Rattle.office_rules.specs.Importing.{spns_entered}
-use Rattle.dbc_sheet.specs.declared.sheet.Sheet.{Sheet}
-use Rattle.std.specs.List.{flat_map}
-use Rattle.std.proofs.Common.{◌≡◌, ◌≢◌, ◌∙◌, ◌==◌, true, false, ℕ, List, [], ◌∷◌, map, Some, None, Contains, inl, inr}
-use Rattle.std.proofs.Common.{refl, sym, ap, subst, arith, eq-eqb, ◌++◌, length}
-use Rattle.std.specs.declared.cmp.Ordering.TheVariants.{Equal}
-use Rattle.std.proofs.lemmas.Bool.{and_parts, false≢true}
-use Rattle.std.proofs.lemmas.Cmp.{ranked}
-use Rattle.std.proofs.lemmas.List.Elements.{Contains-append_left, Contains-append_right}
-use Rattle.std.proofs.lemmas.List.Folds.{list_any_at}
-use Rattle.can_id.specs.Ident.{IsIdentifier, dbc_number, ident_of}
-use Rattle.can_id.specs.J1939.{fields_with, format_of, is_pdu1}
-use Rattle.can_id.specs.declared.ident.Ident.{Ident}
+use Rattle.office_rules.specs.Importing.{import_sheet, live_already}
+use Rattle.can_id.specs.J1939.{format_of, is_pdu1}
 use Rattle.can_id.proofs.Groups.{built_as_requested}
-use Rattle.office_types.specs.Command.{group_form}
-use Rattle.office_types.specs.Free.{has_form, is_taken}
-use Rattle.office_types.specs.State.{by_number}
 use Rattle.office_types.specs.declared.block.BlockForm.TheVariants as block
-use Rattle.office_types.specs.declared.book.SpnBook.{SpnBook}
-use Rattle.office_types.specs.declared.command.Pdu.{Pdu}
-use Rattle.office_types.specs.declared.command.Pdu.TheVariants.{Addressed, Broadcast}
-use Rattle.office_types.specs.declared.command.TakeIdent.{TakeIdent}
-use Rattle.office_types.specs.declared.command.TakePgn.{TakePgn}
-use Rattle.office_types.specs.declared.command.TakeSpn.{TakeSpn}
-use Rattle.office_types.specs.declared.free.NumberForm.TheVariants.{Spn}
 use Rattle.office_types.specs.declared.refusal.Refusal.TheVariants as no
-use Rattle.office_types.specs.declared.reply.Reply.{Reply}
-use Rattle.office_types.specs.declared.reply.Reply.TheVariants.{Number, Counts}
-use Rattle.office_types.specs.declared.state.LiveMessage.{LiveMessage}
-use Rattle.office_types.specs.declared.state.Net.{Net}
-use Rattle.office_rules.specs.Facts.{blocks_of, group_facts, group_of, ident_facts, is_live, live_named, message_facts}
-use Rattle.office_rules.specs.Facts.{spn_blocks_of, taken_groups, taken_idents}
-use Rattle.office_rules.specs.Kept.{IsNet}
-use Rattle.office_rules.specs.Numbers.{address_of, group_given, ident_with, new_message, number_given, take_ident}
-use Rattle.office_rules.specs.Numbers.{take_ident_tests, take_pgn, take_pgn_tests, with_message}
-use Rattle.office_rules.specs.Outcome.{Entries, no_entries, Outcome, Changing, entered, given_or, on_net, when}
-use Rattle.office_rules.specs.Signals.{spn_entered, spn_given, take_spn, take_spn_tests, with_spn}
+use Rattle.office_types.specs.declared.reply.Reply.TheVariants.{Counts}
 use Rattle.office_law.specs.Fresh.{GivesGroup, GivesIdent, GivesSpn, IsGrown, NumbersAreFresh, AreJoined, GivesFile}
 use Rattle.office_law.proofs.Fresh.{free_given, free_least, group_taken, identifier_of, other_group}
 use Rattle.office_law.proofs.NumberLaws.{group_with, is_group, small_address, small_number}

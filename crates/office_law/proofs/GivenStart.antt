@@ -1,30 +1,16 @@
 -- The start that `take_bits` gives out.
-use Rattle.std.proofs.Common.{◌≡◌, ◌<◌, ◌+◌, ◌*◌, ◌∙◌, min, false, ℕ, List, [], ◌∷◌, ◌++◌, Option, Some, None, inl, inr}
-use Rattle.std.proofs.Common.{refl, sym, ap, subst}
-use Rattle.std.specs.Prelude.{is_none, is_some, if◌then◌else◌}
+use Rattle.office_law.proofs.Common.{◌≡◌, ◌<◌, ◌+◌, ◌*◌, ◌∙◌, min, false, ℕ, List, [], ◌∷◌, ◌++◌, Option, Some, None}
+use Rattle.office_law.proofs.Common.{inl, inr, refl, sym, ap, subst, is_none, is_some, if◌then◌else◌, Test}
+use Rattle.office_law.proofs.Common.{first_clash_of, least_start_of, place_from, start_if_clear, Clash, GREATEST_START}
+use Rattle.office_law.proofs.Common.{Place, clear_from_none, none_from_clear, found_first, places_of, TakeBits, Refusal}
+use Rattle.office_law.proofs.Common.{Reply, Start, LiveMessage, Net, live_named, message_facts, with_message, Entries}
+use Rattle.office_law.proofs.Common.{no_entries, Outcome, Changing, given_or, on_net, new_signal, place_at, start_given}
+use Rattle.office_law.proofs.Common.{take_bits, take_bits_tests, with_last_signal}
 use Rattle.std.proofs.lemmas.Bool.{cases_lt}
-use Rattle.base.specs.Refusing.{Test}
-use Rattle.bitlayout.specs.Clash.{first_clash_of}
-use Rattle.bitlayout.specs.Start.{CanStartAt, IsLeastStart, least_start_of, place_from, start_if_clear}
-use Rattle.bitlayout.specs.declared.clash.Clash.{Clash}
+use Rattle.bitlayout.specs.Start.{CanStartAt, IsLeastStart}
 use Rattle.bitlayout.specs.declared.layout.Order.{Order}
-use Rattle.bitlayout.specs.declared.layout.TheConstants.{GREATEST_START}
 use Rattle.bitlayout.specs.declared.place.Mux.{Mux}
-use Rattle.bitlayout.specs.declared.place.Place.{Place}
-use Rattle.bitlayout.proofs.Clearance.{clear_from_none, none_from_clear}
-use Rattle.bitlayout.proofs.Search.{found_first}
-use Rattle.dbc_sheet.specs.Signals.{places_of}
-use Rattle.office_types.specs.declared.command.TakeBits.{TakeBits}
-use Rattle.office_types.specs.declared.refusal.Refusal.{Refusal}
 use Rattle.office_types.specs.declared.refusal.Refusal.TheVariants as no
-use Rattle.office_types.specs.declared.reply.Reply.{Reply}
-use Rattle.office_types.specs.declared.reply.Reply.TheVariants.{Start}
-use Rattle.office_types.specs.declared.state.LiveMessage.{LiveMessage}
-use Rattle.office_types.specs.declared.state.Net.{Net}
-use Rattle.office_rules.specs.Facts.{live_named, message_facts}
-use Rattle.office_rules.specs.Numbers.{with_message}
-use Rattle.office_rules.specs.Outcome.{Entries, no_entries, Outcome, Changing, given_or, on_net}
-use Rattle.office_rules.specs.Signals.{new_signal, place_at, start_given, take_bits, take_bits_tests, with_last_signal}
 use Rattle.office_law.specs.Fresh.{GivesStart, IsStartChosen}
 use Rattle.office_law.proofs.Inverting.{given, passed, same_Changing}
 use Rattle.office_law.proofs.NoTestHolds.{NoneHolds}

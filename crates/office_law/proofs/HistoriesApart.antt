@@ -1,21 +1,10 @@
 -- What happens to a network depends on its own history alone: on the commands on it, and on what they are answered.
-use Rattle.std.proofs.Common.{◌≡◌, ◌⊎◌, ◌∙◌, ℕ, Bool, true, false, List, [], ◌∷◌, Option, Some, inl, inr, refl, sym, ap}
-use Rattle.std.proofs.Common.{subst}
-use Rattle.std.specs.Prelude.{if◌then◌else◌}
-use Rattle.std.specs.Str.{bytes_eq}
-use Rattle.dbc_grammar.specs.Reads.{ReadsAsOneAtMost}
-use Rattle.office_types.specs.declared.command.Command.{Command}
-use Rattle.office_types.specs.declared.command.Task.{Task}
-use Rattle.office_types.specs.declared.refusal.Refusal.{Refusal}
+use Rattle.office_law.proofs.Common.{◌≡◌, ◌⊎◌, ◌∙◌, ℕ, Bool, true, false, List, [], ◌∷◌, Option, Some, inl, inr, refl}
+use Rattle.office_law.proofs.Common.{sym, ap, subst, if◌then◌else◌, bytes_eq, ReadsAsOneAtMost, Command, Task, Refusal}
+use Rattle.office_law.proofs.Common.{Reply, Refused, Net, Office, outcome, Outcome, Refusing, Changing, reply_of}
+use Rattle.office_law.proofs.Common.{Profile, TeamCommand, IsRead, Run, Step, file_wanted, net_named, office_after}
+use Rattle.office_law.proofs.Common.{step_outcome}
 use Rattle.office_types.specs.declared.refusal.Refusal.TheVariants as no
-use Rattle.office_types.specs.declared.reply.Reply.{Reply}
-use Rattle.office_types.specs.declared.reply.Reply.TheVariants.{Refused}
-use Rattle.office_types.specs.declared.state.Net.{Net}
-use Rattle.office_types.specs.declared.state.Office.{Office}
-use Rattle.office_rules.specs.Commands.{outcome}
-use Rattle.office_rules.specs.Outcome.{Outcome, Refusing, Changing, reply_of}
-use Rattle.office_rules.specs.Profile.{Profile}
-use Rattle.office_rules.specs.Step.{TeamCommand, IsRead, Run, Step, file_wanted, net_named, office_after, step_outcome}
 use Rattle.office_law.specs.Agree.{IsFileRefused}
 use Rattle.office_law.specs.Apart.{needs_book}
 use Rattle.office_law.specs.Histories.{AreInOrder, OneHistoryOneNetwork, RepliesApart, history, net_after}

@@ -1,17 +1,11 @@
 -- Worked examples, computed from the definitions.
-use Rattle.std.proofs.Common.{◌≡◌, ℕ, List, [], ◌∷◌, Some, None, refl}
+use Rattle.office_law.proofs.Common.{◌≡◌, ℕ, List, [], ◌∷◌, Some, None, refl, first_refusal, least_free, Act, Done}
+use Rattle.office_law.proofs.Common.{Refused, Refusing, TeamCommand, opening, action_tests}
 use Rattle.std.specs.Prelude.{codes}
-use Rattle.base.specs.Refusing.{first_refusal}
-use Rattle.office_types.specs.Free.{least_free}
 use Rattle.office_types.specs.declared.command.Action.TheVariants as act
-use Rattle.office_types.specs.declared.command.Task.TheVariants.{Act}
 use Rattle.office_types.specs.declared.free.NumberForm.TheVariants.{Std}
 use Rattle.office_types.specs.declared.refusal.Refusal.TheVariants as no
-use Rattle.office_types.specs.declared.reply.Reply.TheVariants.{Done, Refused}
-use Rattle.office_rules.specs.Outcome.{Refusing}
 use Rattle.office_rules.specs.Profile.{Two}
-use Rattle.office_rules.specs.Step.{TeamCommand, opening}
-use Rattle.office_rules.specs.Commands.{action_tests}
 use Rattle.office_law.specs.Histories.{history, net_after}
 
 submits : List ℕ → TeamCommand

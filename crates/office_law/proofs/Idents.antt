@@ -1,21 +1,10 @@
 -- Identifiers and their numbers, and which of them are live, held and released.
-use Rattle.std.proofs.Common.{◌≡◌, ◌≢◌, ◌==◌, ◌∙◌, ◌||◌, true, false, ℕ, List, [], ◌∷◌, Contains, refl, sym, ap, arith}
-use Rattle.std.proofs.Common.{eq-eqb}
-use Rattle.std.specs.Str.{bytes_eq}
-use Rattle.std.proofs.lemmas.Bool.{false≢true}
-use Rattle.std.proofs.lemmas.List.Elements.{All-contains}
-use Rattle.std.proofs.lemmas.List.Folds.{list_any_at}
-use Rattle.can_id.specs.Ident.{IsIdentifier, dbc_number}
-use Rattle.can_id.specs.declared.ident.Ident.{Ident}
+use Rattle.office_law.proofs.Common.{◌≡◌, ◌≢◌, ◌==◌, ◌∙◌, ◌||◌, true, false, ℕ, List, [], ◌∷◌, Contains, refl, sym, ap}
+use Rattle.office_law.proofs.Common.{arith, eq-eqb, bytes_eq, false≢true, All-contains, list_any_at, IsIdentifier}
+use Rattle.office_law.proofs.Common.{dbc_number, Ident, has_name, has_number, message_name, number_of, Message, Sheet}
+use Rattle.office_law.proofs.Common.{live_messages, LiveMessage, Net, has_ident, is_held, is_live, live_name}
+use Rattle.office_law.proofs.Common.{same_ident, was_released}
 use Rattle.can_id.specs.declared.ident.Ident.TheVariants as id
-use Rattle.dbc_words.specs.Named.{has_name}
-use Rattle.dbc_sheet.specs.Messages.{has_number, message_name, number_of}
-use Rattle.dbc_sheet.specs.declared.message.Message.{Message}
-use Rattle.dbc_sheet.specs.declared.sheet.Sheet.{Sheet}
-use Rattle.office_types.specs.State.{live_messages}
-use Rattle.office_types.specs.declared.state.LiveMessage.{LiveMessage}
-use Rattle.office_types.specs.declared.state.Net.{Net}
-use Rattle.office_rules.specs.Facts.{has_ident, is_held, is_live, live_name, same_ident, was_released}
 use Rattle.office_law.proofs.Lists.{All-from_none}
 pub use Rattle.office_rules.proofs.Idents.{same_ident-true}
 

@@ -1,25 +1,12 @@
 -- An import leaves its network and the book as they have to be.
-use Rattle.std.proofs.Common.{◌≡◌, ℕ, true, false, List, [], ◌∷◌, ◌++◌, Option, Some, None, refl, sym, not}
-use Rattle.std.specs.List.{flat_map}
-use Rattle.std.proofs.lemmas.Bool.{false≢true}
-use Rattle.std.proofs.lemmas.List.Elements.{All-filter, All-nil, All-weaker}
-use Rattle.bitlayout.specs.Clash.{first_clash_of}
-use Rattle.bitlayout.specs.declared.clash.Clash.{Clash}
-use Rattle.bitlayout.proofs.Clearance.{clear_from_none}
-use Rattle.dbc_sheet.specs.Form.{IsMessage, IsSheet}
-use Rattle.dbc_sheet.specs.Messages.{IsClearMessage}
-use Rattle.dbc_sheet.specs.Signals.{places_of}
-use Rattle.dbc_sheet.specs.declared.message.Message.{Message}
-use Rattle.dbc_sheet.specs.declared.sheet.Sheet.{Sheet}
-use Rattle.office_types.specs.declared.book.SpnBook.{SpnBook}
+use Rattle.office_law.proofs.Common.{◌≡◌, ℕ, true, false, List, [], ◌∷◌, ◌++◌, Option, Some, None, refl, sym, not}
+use Rattle.office_law.proofs.Common.{flat_map, false≢true, All-filter, All-nil, All-weaker, first_clash_of, Clash}
+use Rattle.office_law.proofs.Common.{clear_from_none, IsMessage, IsSheet, IsClearMessage, places_of, Message, Sheet}
+use Rattle.office_law.proofs.Common.{SpnBook, Reply, Net, in_review, is_live, FileReading, Reading, Unreadable}
+use Rattle.office_law.proofs.Common.{file_imported, import_tests, file_tests, import, new_messages, spns_entered}
+use Rattle.office_law.proofs.Common.{clear_tests, is_too_large, message_import_tests, imported, Entries, given_or, when}
 use Rattle.office_types.specs.declared.refusal.Refusal.TheVariants as no
-use Rattle.office_types.specs.declared.reply.Reply.{Reply}
-use Rattle.office_types.specs.declared.state.Net.{Net}
-use Rattle.office_rules.specs.Facts.{in_review, is_live}
-use Rattle.office_rules.specs.Importing.{FileReading, Reading, Unreadable, file_imported, import_tests, file_tests}
-use Rattle.office_rules.specs.Importing.{import, new_messages, spns_entered, clear_tests, is_too_large}
-use Rattle.office_rules.specs.Importing.{message_import_tests, reported_clash, imported}
-use Rattle.office_rules.specs.Outcome.{Entries, given_or, when}
+use Rattle.office_rules.specs.Importing.{reported_clash}
 use Rattle.office_law.proofs.KeptBook.{IsBook-used}
 use Rattle.office_law.proofs.KeptEntered.{IsEntered-imported, are_spns}
 use Rattle.office_law.proofs.KeptImport.{IsNet-imported}

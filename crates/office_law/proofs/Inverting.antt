@@ -1,13 +1,8 @@
 -- What is known of a command from what it results in.
-use Rattle.std.proofs.Common.{◌≡◌, ◌⊎◌, ◌==◌, ℕ, Bool, true, false, List, [], ◌∷◌, Option, Some, None, inl, inr, refl}
-use Rattle.std.proofs.Common.{sym, ap, eq-eqb, ◌∙◌}
-use Rattle.std.proofs.lemmas.Bool.{false≢true}
-use Rattle.base.specs.Refusing.{Test, first_refusal}
+use Rattle.office_law.proofs.Common.{◌≡◌, ◌⊎◌, ◌==◌, ℕ, Bool, true, false, List, [], ◌∷◌, Option, Some, None, inl, inr}
+use Rattle.office_law.proofs.Common.{refl, sym, ap, eq-eqb, ◌∙◌, false≢true, Test, first_refusal, Refusal, Reply, Net}
+use Rattle.office_law.proofs.Common.{Entries, Outcome, Refusing, Changing, refused_or, unless, given_or}
 use Rattle.office_types.specs.Refusal.{refusal_number}
-use Rattle.office_types.specs.declared.refusal.Refusal.{Refusal}
-use Rattle.office_types.specs.declared.reply.Reply.{Reply}
-use Rattle.office_types.specs.declared.state.Net.{Net}
-use Rattle.office_rules.specs.Outcome.{Entries, Outcome, Refusing, Changing, refused_or, unless, given_or}
 use Rattle.office_law.proofs.NoTestHolds.{NoneHolds, NoneHolds-from_none}
 
 -- a refusal changes nothing

@@ -1,35 +1,16 @@
 -- What a network keeps with a block more, with a node more, in another phase, and with an approval more.
-use Rattle.std.proofs.Common.{◌≡◌, ◌<◌, ◌∙◌, true, false, ℕ, List, [], ◌∷◌, ◌++◌, length, Contains, inl, inr, refl, sym}
-use Rattle.std.proofs.Common.{arith}
-use Rattle.std.specs.Prelude.{IfSome}
+use Rattle.office_law.proofs.Common.{◌≡◌, ◌<◌, ◌∙◌, true, false, ℕ, List, [], ◌∷◌, ◌++◌, length, Contains, inl, inr}
+use Rattle.office_law.proofs.Common.{refl, sym, arith, IfSome, false≢true, nat_cmp_total, nat_list_cmp_total, on_total}
+use Rattle.office_law.proofs.Common.{then_total, length-append, All-nil, All-push, All-weaker, bytes_eq-Decides}
+use Rattle.office_law.proofs.Common.{bytes_eq, put, text_cmp, All-put, AllPairs-put, IsStrictlySortedBy-put}
+use Rattle.office_law.proofs.Common.{roster_limit, apart_and_last, IsNode, IsSheet, node_name, Node, Sheet}
+use Rattle.office_law.proofs.Common.{have_common-comm, IsRange, have_common, is_spn, same_form, IsPlainName, sheet_of}
+use Rattle.office_law.proofs.Common.{Pgn, GrantedBlock, Net, Phase, Draft, Review, has_node, in_review, is_j1939}
+use Rattle.office_law.proofs.Common.{is_submitter, IsNet, with_block, with_node, in_phase, with_approval}
 use Rattle.std.specs.List.Sorted.{IsStrictlySortedBy}
-use Rattle.std.proofs.lemmas.Bool.{false≢true}
-use Rattle.std.proofs.lemmas.Cmp.{nat_cmp_total, nat_list_cmp_total, on_total, then_total}
-use Rattle.std.proofs.lemmas.List.{length-append}
-use Rattle.std.proofs.lemmas.List.Elements.{All-nil, All-push, All-weaker}
-use Rattle.std.proofs.lemmas.Slice.Eq.{bytes_eq-Decides}
-use Rattle.std.specs.Str.{bytes_eq}
-use Rattle.base.specs.Keyed.{put, text_cmp}
-use Rattle.base.proofs.PutKeeps.{All-put, AllPairs-put, IsStrictlySortedBy-put}
-use Rattle.dbc_words.specs.Limits.{roster_limit}
-use Rattle.dbc_words.proofs.Rosters.{apart_and_last}
-use Rattle.dbc_sheet.specs.Form.{IsNode, IsSheet}
-use Rattle.dbc_sheet.specs.Sheet.{node_name}
-use Rattle.dbc_sheet.specs.declared.node.Node.{Node}
-use Rattle.dbc_sheet.specs.declared.sheet.Sheet.{Sheet}
-use Rattle.office_types.proofs.Blocks.{have_common-comm}
-use Rattle.office_types.specs.Block.{IsRange, form_number, have_common, is_spn, same_form}
-use Rattle.office_types.specs.PlainName.{IsPlainName}
-use Rattle.office_types.specs.State.{by_first, sheet_of, submitter_of}
-use Rattle.office_types.specs.declared.block.BlockForm.TheVariants.{Pgn}
-use Rattle.office_types.specs.declared.state.GrantedBlock.{GrantedBlock}
-use Rattle.office_types.specs.declared.state.Net.{Net}
-use Rattle.office_types.specs.declared.state.Phase.{Phase}
-use Rattle.office_types.specs.declared.state.Phase.TheVariants.{Draft, Review}
-use Rattle.office_rules.specs.Facts.{has_node, in_review, is_j1939, is_submitter}
-use Rattle.office_rules.specs.Kept.{AreApprovals, IsNet}
-use Rattle.office_rules.specs.Opening.{with_block, with_node}
-use Rattle.office_rules.specs.Reviewing.{in_phase, with_approval}
+use Rattle.office_types.specs.Block.{form_number}
+use Rattle.office_types.specs.State.{by_first, submitter_of}
+use Rattle.office_rules.specs.Kept.{AreApprovals}
 use Rattle.office_law.proofs.Lists.{All-from_none, Contains-from_put, Contains-none}
 use Rattle.office_law.proofs.ChangesByTests.{CanAddNode, CanApprove, CanGrant}
 

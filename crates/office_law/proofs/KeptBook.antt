@@ -1,25 +1,12 @@
 -- What the book keeps, and that it has the suspect parameter numbers of live and released signals.
-use Rattle.std.proofs.Common.{◌≡◌, ◌≤◌, ◌⊎◌, ◌∙◌, ℕ, true, false, List, [], ◌∷◌, Contains, inl, inr, sym, subst, arith}
-use Rattle.std.specs.List.{All}
-use Rattle.std.specs.Ordering.{nat_cmp}
-use Rattle.std.specs.declared.cmp.Ordering.TheVariants.{Equal}
-use Rattle.std.proofs.lemmas.Bool.Decides.{nat_tests}
-use Rattle.std.proofs.lemmas.Cmp.{nat_cmp_total, nat_list_cmp_total, on_total, ranked, then_total}
-use Rattle.std.proofs.lemmas.List.Elements.{All-contains, All-head, All-tail, All-weaker}
-use Rattle.base.specs.Keyed.{put}
-use Rattle.base.proofs.PutKeeps.{All-put, AllPairs-put, IsStrictlySortedBy-put}
-use Rattle.dbc_words.specs.Limits.{spn_limit}
-use Rattle.dbc_sheet.specs.declared.message.Message.{Message}
-use Rattle.office_types.proofs.Blocks.{have_common-comm}
+use Rattle.office_law.proofs.Common.{◌≡◌, ◌≤◌, ◌⊎◌, ◌∙◌, ℕ, true, false, List, [], ◌∷◌, Contains, inl, inr, sym, subst}
+use Rattle.office_law.proofs.Common.{arith, All, nat_cmp, Equal, nat_tests, nat_cmp_total, nat_list_cmp_total, on_total}
+use Rattle.office_law.proofs.Common.{ranked, then_total, All-contains, All-head, All-tail, All-weaker, put, All-put}
+use Rattle.office_law.proofs.Common.{AllPairs-put, IsStrictlySortedBy-put, spn_limit, Message, have_common-comm}
+use Rattle.office_law.proofs.Common.{IsRange, have_common, by_net, IsPlainName, SpnBlock, SpnBook, spn_range}
+use Rattle.office_law.proofs.Common.{AreEntered, IsBook, put_all}
 use Rattle.office_types.proofs.Used.{AreUsed-put, each_true}
-use Rattle.office_types.specs.Block.{IsRange, have_common}
-use Rattle.office_types.specs.Book.{AreUsed, by_net, is_spn_number}
-use Rattle.office_types.specs.PlainName.{IsPlainName}
-use Rattle.office_types.specs.declared.book.SpnBlock.{SpnBlock}
-use Rattle.office_types.specs.declared.book.SpnBook.{SpnBook}
-use Rattle.office_rules.specs.Facts.{spn_range}
-use Rattle.office_rules.specs.Kept.{AreEntered, IsBook}
-use Rattle.office_rules.specs.Lists.{put_all}
+use Rattle.office_types.specs.Book.{AreUsed, is_spn_number}
 use Rattle.office_law.proofs.Lists.{All-from_none, Contains-cases, Contains-none, Contains-put, Contains-put_other}
 use Rattle.office_law.proofs.ChangesByTests.{CanGrantSpns, IsSpn}
 

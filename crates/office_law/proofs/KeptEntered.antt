@@ -1,34 +1,15 @@
 -- The book has the suspect parameter numbers of live and released signals, whatever a command does.
-use Rattle.std.proofs.Common.{◌≡◌, ◌<◌, ◌≤◌, ◌⊎◌, ◌∙◌, ◌==◌, not, Bool, true, false, ℕ, zero, suc, List, [], ◌∷◌, map}
-use Rattle.std.proofs.Common.{length, get_or, Contains, inl, inr, refl, sym, ap, subst, arith}
-use Rattle.std.specs.List.{All, filter, flat_map}
-use Rattle.std.specs.Ordering.{nat_cmp}
-use Rattle.std.proofs.lemmas.Bool.{cond_both, not-true}
-use Rattle.std.proofs.lemmas.Bool.Decides.{nat_tests, Decides-eqb}
-use Rattle.std.proofs.lemmas.List.Elements.{All-append, All-contains, All-filter, All-head, All-map, All-nil, All-push}
-use Rattle.std.proofs.lemmas.List.Elements.{All-tail, All-weaker, Contains-append_left, Contains-append_right}
-use Rattle.std.proofs.lemmas.List.Elements.{filter_passes}
-use Rattle.base.specs.Keyed.{put}
-use Rattle.base.proofs.PutKeeps.{All-put}
-use Rattle.can_id.specs.declared.ident.Ident.{Ident}
-use Rattle.dbc_words.specs.Limits.{spn_limit}
-use Rattle.dbc_sheet.specs.Form.{IsMessage, IsSignal}
-use Rattle.dbc_sheet.specs.declared.message.Message.{Message}
-use Rattle.dbc_sheet.specs.declared.sheet.Sheet.{Sheet}
-use Rattle.dbc_sheet.specs.declared.signal.Signal.{Signal}
-use Rattle.office_types.specs.State.{by_number, live_messages, sheet_of}
-use Rattle.office_types.specs.declared.state.LiveMessage.{LiveMessage}
-use Rattle.office_types.specs.declared.state.Net.{Net}
-use Rattle.office_types.specs.declared.state.Phase.{Phase}
-use Rattle.office_rules.specs.Facts.{has_ident, was_released}
-use Rattle.office_rules.specs.Importing.{imported, new_messages, owned_by, spns_entered, spns_of}
-use Rattle.office_rules.specs.Kept.{AreEntered, IsEntered}
-use Rattle.office_rules.specs.Lists.{put_all}
-use Rattle.office_rules.specs.Numbers.{with_message}
-use Rattle.office_rules.specs.Outcome.{Entries}
-use Rattle.office_rules.specs.Retiring.{retired, with_held, without_message}
-use Rattle.office_rules.specs.Reviewing.{in_phase, with_release}
-use Rattle.office_rules.specs.Signals.{with_signals}
+use Rattle.office_law.proofs.Common.{◌≡◌, ◌<◌, ◌≤◌, ◌⊎◌, ◌∙◌, ◌==◌, not, Bool, true, false, ℕ, zero, suc, List, [], ◌∷◌}
+use Rattle.office_law.proofs.Common.{map, length, get_or, Contains, inl, inr, refl, sym, ap, subst, arith, All, filter}
+use Rattle.office_law.proofs.Common.{flat_map, nat_cmp, cond_both, not-true, nat_tests, Decides-eqb, All-append}
+use Rattle.office_law.proofs.Common.{All-contains, All-filter, All-head, All-map, All-nil, All-push, All-tail}
+use Rattle.office_law.proofs.Common.{All-weaker, Contains-append_left, Contains-append_right, filter_passes, put}
+use Rattle.office_law.proofs.Common.{All-put, Ident, spn_limit, IsMessage, IsSignal, Message, Sheet, Signal, by_number}
+use Rattle.office_law.proofs.Common.{live_messages, sheet_of, LiveMessage, Net, Phase, has_ident, was_released}
+use Rattle.office_law.proofs.Common.{imported, new_messages, owned_by, spns_entered, AreEntered, IsEntered, put_all}
+use Rattle.office_law.proofs.Common.{with_message, Entries, retired, with_held, without_message, in_phase, with_release}
+use Rattle.office_law.proofs.Common.{with_signals}
+use Rattle.office_rules.specs.Importing.{spns_of}
 use Rattle.office_law.proofs.KeptBook.{entered_more, now_used, still_used}
 use Rattle.office_law.proofs.KeptMessages.{Contains-filter}
 use Rattle.office_law.proofs.Lists.{All-from_contains}

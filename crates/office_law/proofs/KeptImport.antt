@@ -1,42 +1,24 @@
 -- What a network keeps where a file is imported.
-use Rattle.std.proofs.Common.{◌≡◌, ◌<◌, ◌≤◌, ◌+◌, not, Bool, true, false, cond, ℕ, List, [], ◌∷◌, map, length, Contains}
-use Rattle.std.proofs.Common.{sym, ap, arith}
+use Rattle.office_law.proofs.Common.{◌≡◌, ◌<◌, ◌≤◌, ◌+◌, not, Bool, true, false, cond, ℕ, List, [], ◌∷◌, map, length}
+use Rattle.office_law.proofs.Common.{Contains, sym, ap, arith, All, bytes_eq, false≢true, false_from_ne_true, not-true}
+use Rattle.office_law.proofs.Common.{or_parts, nat_tests, All-append, All-contains, All-filter, All-from_recursion}
+use Rattle.office_law.proofs.Common.{filter_passes, recursion_from_All, list_any_none, IsStrictlySortedBy-filter, put}
+use Rattle.office_law.proofs.Common.{Test, All-put, length-put, dbc_number, message_limit, roster_limit, AreNamedApart}
+use Rattle.office_law.proofs.Common.{has_name, IsText, apart-filter, IsNode, IsSheet, IsClearMessage, message_name}
+use Rattle.office_law.proofs.Common.{number_of, node_name, AreFewTexts, Message, Sheet, sheet_of, Refusal, LiveMessage}
+use Rattle.office_law.proofs.Common.{Net, has_ident, is_held, is_live, is_named, live_name, same_ident, imported}
+use Rattle.office_law.proofs.Common.{is_too_large, message_import_tests, new_messages, owned_by, IsNet, with_message}
+use Rattle.office_law.proofs.Common.{when}
 use Rattle.std.specs.Prelude.{nat_lt}
-use Rattle.std.specs.List.{IsDistinct, All}
+use Rattle.std.specs.List.{IsDistinct}
 use Rattle.std.specs.List.Sorted.{IsStrictlySortedBy}
-use Rattle.std.specs.Str.{bytes_eq}
-use Rattle.std.proofs.lemmas.Bool.{false≢true, false_from_ne_true, not-true, or_parts}
-use Rattle.std.proofs.lemmas.Bool.Decides.{nat_tests}
-use Rattle.std.proofs.lemmas.List.Elements.{All-append, All-contains, All-filter, All-from_recursion, filter_passes}
-use Rattle.std.proofs.lemmas.List.Elements.{recursion_from_All}
-use Rattle.std.proofs.lemmas.List.Folds.{list_any_none}
-use Rattle.std.proofs.lemmas.List.Kept.{IsStrictlySortedBy-filter}
-use Rattle.base.specs.Keyed.{put}
-use Rattle.base.specs.Refusing.{Test}
-use Rattle.base.proofs.PutKeeps.{All-put, length-put}
-use Rattle.can_id.specs.Ident.{dbc_number}
-use Rattle.dbc_words.specs.Limits.{message_limit, roster_limit}
-use Rattle.dbc_words.specs.Named.{AreNamedApart, has_name}
-use Rattle.dbc_words.specs.Text.{IsText}
-use Rattle.dbc_words.proofs.Naming.{apart-filter}
-use Rattle.dbc_sheet.specs.Form.{IsNode, IsSheet, IsTable}
-use Rattle.dbc_sheet.specs.Messages.{IsClearMessage, by_number, message_name, number_of}
-use Rattle.dbc_sheet.specs.Sheet.{node_name, table_name}
-use Rattle.dbc_sheet.specs.WellFormed.{AreFewTexts}
-use Rattle.dbc_sheet.specs.declared.message.Message.{Message}
-use Rattle.dbc_sheet.specs.declared.sheet.Sheet.{Sheet}
+use Rattle.dbc_sheet.specs.Form.{IsTable}
+use Rattle.dbc_sheet.specs.Messages.{by_number}
+use Rattle.dbc_sheet.specs.Sheet.{table_name}
 use Rattle.dbc_sheet.specs.declared.value_table.ValueTable.{ValueTable}
-use Rattle.office_types.specs.State.{by_number as live_by_number, sheet_of}
-use Rattle.office_types.specs.declared.refusal.Refusal.{Refusal}
+use Rattle.office_types.specs.State.{by_number as live_by_number}
 use Rattle.office_types.specs.declared.refusal.Refusal.TheVariants as no
-use Rattle.office_types.specs.declared.state.LiveMessage.{LiveMessage}
-use Rattle.office_types.specs.declared.state.Net.{Net}
-use Rattle.office_rules.specs.Facts.{has_ident, is_held, is_live, is_named, live_name, same_ident}
-use Rattle.office_rules.specs.Importing.{imported, is_live_so, is_too_large, may_bring, message_import_tests}
-use Rattle.office_rules.specs.Importing.{new_messages, new_named, or_else, owned_by, widened, with_frame, with_messages}
-use Rattle.office_rules.specs.Kept.{IsNet}
-use Rattle.office_rules.specs.Numbers.{with_message}
-use Rattle.office_rules.specs.Outcome.{when}
+use Rattle.office_rules.specs.Importing.{is_live_so, may_bring, new_named, or_else, widened, with_frame, with_messages}
 use Rattle.office_rules.proofs.Widened.{each_and, widened_roster}
 use Rattle.office_law.proofs.Idents.{same_ident-true}
 use Rattle.office_law.proofs.KeptMessages.{IsNet-joined}

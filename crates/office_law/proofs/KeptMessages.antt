@@ -1,38 +1,18 @@
 -- What a network keeps with a live message more, with one in place of another, without one, and with a release more.
-use Rattle.std.proofs.Common.{◌≡◌, ◌≢◌, ◌<◌, ◌∙◌, ◌==◌, ◌||◌, not, Bool, true, false, cond, ℕ, zero, suc, List, [], ◌∷◌}
-use Rattle.std.proofs.Common.{◌++◌, length, get_or, Contains, inl, inr, refl, sym, ap, subst, arith, eq-eqb}
-use Rattle.std.specs.List.{All, filter, list_any}
-use Rattle.std.specs.declared.cmp.Ordering.TheVariants.{Equal}
-use Rattle.std.proofs.lemmas.Bool.{cond_both, false_from_ne_true, false≢true, not-true}
-use Rattle.std.proofs.lemmas.Bool.Decides.{nat_tests}
-use Rattle.std.proofs.lemmas.Cmp.{nat_cmp_total, on_total, ranked}
-use Rattle.std.proofs.lemmas.List.{length-append, length-map}
-use Rattle.std.proofs.lemmas.List.Elements.{All-contains, All-filter, All-map, All-push, All-weaker, filter_passes}
-use Rattle.std.proofs.lemmas.List.Folds.{list_any-append, list_any_at, list_any_none}
-use Rattle.base.specs.Keyed.{put}
-use Rattle.base.proofs.PutKeeps.{All-put, IsStrictlySortedBy-put}
-use Rattle.can_id.specs.Ident.{IsIdentifier, dbc_number}
-use Rattle.can_id.specs.declared.ident.Ident.{Ident}
-use Rattle.dbc_words.specs.Limits.{message_limit}
-use Rattle.dbc_sheet.specs.Form.{IsSheet}
-use Rattle.dbc_sheet.specs.Messages.{has_number, number_of}
-use Rattle.dbc_sheet.specs.Sheet.{IsClearSheet}
-use Rattle.dbc_sheet.specs.declared.message.Message.{Message}
-use Rattle.dbc_sheet.specs.declared.sheet.Sheet.{Sheet}
-use Rattle.dbc_sheet.specs.declared.signal.Signal.{Signal}
-use Rattle.office_types.specs.PlainName.{IsPlainName}
-use Rattle.office_types.specs.State.{by_ident, by_number, live_messages, sheet_of, sheet_with}
-use Rattle.office_types.specs.declared.state.LiveMessage.{LiveMessage}
-use Rattle.office_types.specs.declared.state.Net.{Net}
-use Rattle.office_types.specs.declared.state.Phase.TheVariants.{Draft}
-use Rattle.office_rules.specs.Facts.{has_ident, in_last, is_held, is_live, same_ident, was_released}
-use Rattle.office_rules.specs.Kept.{AgreeOnNames, AreHeld, AreLive, AreReleases, HaveOneName, IsLiveOrHeld, IsNet}
-use Rattle.office_rules.specs.Kept.{IsStillLive}
-use Rattle.office_rules.specs.Numbers.{with_message}
-use Rattle.office_rules.specs.Outcome.{Entries}
-use Rattle.office_rules.specs.Retiring.{retired, with_held, without_message}
-use Rattle.office_rules.specs.Reviewing.{in_phase, release_limit, with_release}
-use Rattle.office_rules.specs.Signals.{with_signals}
+use Rattle.office_law.proofs.Common.{◌≡◌, ◌≢◌, ◌<◌, ◌∙◌, ◌==◌, ◌||◌, not, Bool, true, false, cond, ℕ, zero, suc, List}
+use Rattle.office_law.proofs.Common.{[], ◌∷◌, ◌++◌, length, get_or, Contains, inl, inr, refl, sym, ap, subst, arith}
+use Rattle.office_law.proofs.Common.{eq-eqb, All, filter, list_any, Equal, cond_both, false_from_ne_true, false≢true}
+use Rattle.office_law.proofs.Common.{not-true, nat_tests, nat_cmp_total, on_total, ranked, length-append, length-map}
+use Rattle.office_law.proofs.Common.{All-contains, All-filter, All-map, All-push, All-weaker, filter_passes}
+use Rattle.office_law.proofs.Common.{list_any-append, list_any_at, list_any_none, put, All-put, IsStrictlySortedBy-put}
+use Rattle.office_law.proofs.Common.{IsIdentifier, dbc_number, Ident, message_limit, IsSheet, has_number, number_of}
+use Rattle.office_law.proofs.Common.{IsClearSheet, Message, Sheet, Signal, IsPlainName, by_number, live_messages}
+use Rattle.office_law.proofs.Common.{sheet_of, sheet_with, LiveMessage, Net, Draft, has_ident, is_held, is_live}
+use Rattle.office_law.proofs.Common.{same_ident, was_released, AreLive, IsNet, with_message, Entries, retired}
+use Rattle.office_law.proofs.Common.{with_held, without_message, in_phase, release_limit, with_release, with_signals}
+use Rattle.office_types.specs.State.{by_ident}
+use Rattle.office_rules.specs.Facts.{in_last}
+use Rattle.office_rules.specs.Kept.{AgreeOnNames, AreHeld, AreReleases, HaveOneName, IsLiveOrHeld, IsStillLive}
 use Rattle.office_law.proofs.Idents.{is_released, names_of_live, not_held, not_live, same_ident-from, same_ident-true}
 use Rattle.office_law.proofs.Idents.{same_number}
 use Rattle.office_law.proofs.KeptBlocks.{IsNet-in_phase}

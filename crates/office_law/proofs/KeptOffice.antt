@@ -1,49 +1,21 @@
 -- What every office keeps is kept by each step, and by runs of them.
-use Rattle.std.proofs.Common.{◌≡◌, ◌≤◌, ◌+◌, ◌∙◌, ◌||◌, Bool, true, false, cond, ℕ, List, [], ◌∷◌, Option, Some, None}
-use Rattle.std.proofs.Common.{Contains, inl, inr, refl, sym, ap, subst, arith}
-use Rattle.std.specs.List.{All, IsDistinct, find, list_any}
+use Rattle.office_law.proofs.Common.{◌≡◌, ◌≤◌, ◌+◌, ◌∙◌, ◌||◌, Bool, true, false, cond, ℕ, List, [], ◌∷◌, Option, Some}
+use Rattle.office_law.proofs.Common.{None, Contains, inl, inr, refl, sym, ap, subst, arith, All, find, list_any, is_eq}
+use Rattle.office_law.proofs.Common.{IfSome, is_some, bytes_eq, Ordering, Equal, cond_both, false≢true}
+use Rattle.office_law.proofs.Common.{nat_list_cmp_total, on_total, All-append, All-head, All-nil, All-tail, All-weaker}
+use Rattle.office_law.proofs.Common.{Any-from_list_any, list_any_at, is_eq-slice_cmp, bytes_eq-Decides, put, text_cmp}
+use Rattle.office_law.proofs.Common.{All-put, IsStrictlySortedBy-put, by_net, IsAction, IsPlainName, by_name, SpnBook}
+use Rattle.office_law.proofs.Common.{Action, Command, OpenNet, Task, Act, Import, Bundle, Refusal, PartReply, Reply}
+use Rattle.office_law.proofs.Common.{Done, Net, Office, both_entries, acted, done_task, parts_done, in_review}
+use Rattle.office_law.proofs.Common.{FileReading, Reading, Unreadable, import, IsBook, IsEntered, IsNet, put_all}
+use Rattle.office_law.proofs.Common.{bare_net, new_head, open_net_tests, Entries, no_entries, entered, Outcome}
+use Rattle.office_law.proofs.Common.{Refusing, Changing, Profile, TeamCommand, IsRead, IsReadingOf, file_wanted}
+use Rattle.office_law.proofs.Common.{net_named, office_after, opening, Run, Step, step_outcome}
+use Rattle.std.specs.List.{IsDistinct}
 use Rattle.std.specs.List.Sorted.{IsStrictlySortedBy}
-use Rattle.std.specs.Ordering.{is_eq}
-use Rattle.std.specs.Prelude.{IfSome, is_some}
-use Rattle.std.specs.Str.{bytes_eq}
-use Rattle.std.specs.declared.cmp.Ordering.{Ordering}
-use Rattle.std.specs.declared.cmp.Ordering.TheVariants.{Equal}
-use Rattle.std.proofs.lemmas.Bool.{cond_both, false≢true}
-use Rattle.std.proofs.lemmas.Cmp.{nat_list_cmp_total, on_total}
-use Rattle.std.proofs.lemmas.List.Elements.{All-append, All-head, All-nil, All-tail, All-weaker}
-use Rattle.std.proofs.lemmas.List.Folds.{Any-from_list_any, list_any_at}
-use Rattle.std.proofs.lemmas.Map.Text.{is_eq-slice_cmp}
-use Rattle.std.proofs.lemmas.Slice.Eq.{bytes_eq-Decides}
-use Rattle.base.specs.Keyed.{put, text_cmp}
-use Rattle.base.proofs.PutKeeps.{All-put, IsStrictlySortedBy-put}
-use Rattle.office_types.specs.Book.{by_net}
-use Rattle.office_types.specs.Command.{IsAction, IsCommand, IsTask}
-use Rattle.office_types.specs.PlainName.{IsPlainName}
-use Rattle.office_types.specs.State.{by_name}
-use Rattle.office_types.specs.declared.book.SpnBook.{SpnBook}
-use Rattle.office_types.specs.declared.command.Action.{Action}
+use Rattle.office_types.specs.Command.{IsCommand, IsTask}
 use Rattle.office_types.specs.declared.command.Action.TheVariants as act
-use Rattle.office_types.specs.declared.command.Command.{Command}
-use Rattle.office_types.specs.declared.command.OpenNet.{OpenNet}
-use Rattle.office_types.specs.declared.command.Task.{Task}
-use Rattle.office_types.specs.declared.command.Task.TheVariants.{Act, Import, Bundle}
-use Rattle.office_types.specs.declared.refusal.Refusal.{Refusal}
-use Rattle.office_types.specs.declared.reply.PartReply.{PartReply}
-use Rattle.office_types.specs.declared.reply.Reply.{Reply}
-use Rattle.office_types.specs.declared.reply.Reply.TheVariants.{Done}
-use Rattle.office_types.specs.declared.state.Net.{Net}
-use Rattle.office_types.specs.declared.state.Office.{Office}
-use Rattle.office_rules.specs.Bundling.{both_entries}
-use Rattle.office_rules.specs.Commands.{acted, done_task, parts_done}
-use Rattle.office_rules.specs.Facts.{in_review}
-use Rattle.office_rules.specs.Importing.{FileReading, Reading, Unreadable, import}
-use Rattle.office_rules.specs.Kept.{IsBook, IsEntered, IsNet, IsOffice}
-use Rattle.office_rules.specs.Lists.{put_all}
-use Rattle.office_rules.specs.Opening.{bare_net, new_head, open_net_tests}
-use Rattle.office_rules.specs.Outcome.{Entries, no_entries, entered, Outcome, Refusing, Changing}
-use Rattle.office_rules.specs.Profile.{Profile}
-use Rattle.office_rules.specs.Step.{TeamCommand, IsRead, IsReadingOf, file_wanted, net_named, office_after, opening}
-use Rattle.office_rules.specs.Step.{Run, Step, step_outcome}
+use Rattle.office_rules.specs.Kept.{IsOffice}
 use Rattle.office_law.specs.Kept.{AreRequests, OfficesAreKept}
 use Rattle.office_law.proofs.EachAction.{laws_of}
 use Rattle.office_law.proofs.ImportLeavesOffice.{IsReadingSheet, goes_import}

@@ -1,3 +1,4 @@
+pub mod Common
 pub mod NoTestHolds
 pub mod PassedTests
 pub mod Parts

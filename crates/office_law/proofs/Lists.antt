@@ -1,19 +1,13 @@
 -- Lists in the order of a key: what is in them, what an item put into them leaves, and what a change of items leaves.
-use Rattle.std.proofs.Common.{◌&&◌, ◌≡◌, ◌<◌, ◌≤◌, ◌⊎◌, ◌∙◌, Bool, true, false, cond, ℕ, zero, suc, List, [], ◌∷◌}
-use Rattle.std.proofs.Common.{Option, Some, map, length, get_or, Contains, inl, inr, refl, sym, ap, subst, arith, None}
-use Rattle.std.specs.Prelude.{IfSome, is_none}
-use Rattle.std.specs.List.{All, AllByRecursion, IsDistinct, filter, find, list_any}
+use Rattle.office_law.proofs.Common.{◌&&◌, ◌≡◌, ◌<◌, ◌≤◌, ◌⊎◌, ◌∙◌, Bool, true, false, cond, ℕ, zero, suc, List, []}
+use Rattle.office_law.proofs.Common.{◌∷◌, Option, Some, map, length, get_or, Contains, inl, inr, refl, sym, ap, subst}
+use Rattle.office_law.proofs.Common.{arith, None, IfSome, is_none, All, AllByRecursion, filter, find, list_any, nat_cmp}
+use Rattle.office_law.proofs.Common.{on, is_lt, bytes_eq, Ordering, Less, Equal, Greater, false≢true, cond_both}
+use Rattle.office_law.proofs.Common.{or_parts, ranked, All-from_recursion, recursion_from_All, All-contains, All-head}
+use Rattle.office_law.proofs.Common.{All-tail, are_above, put, put_by_order, All-put, put_cases, AreNamedApart}
+use Rattle.office_law.proofs.Common.{has_name}
+use Rattle.std.specs.List.{IsDistinct}
 use Rattle.std.specs.List.Sorted.{IsStrictlySortedBy}
-use Rattle.std.specs.Ordering.{nat_cmp, on, is_lt}
-use Rattle.std.specs.Str.{bytes_eq}
-use Rattle.std.specs.declared.cmp.Ordering.{Ordering}
-use Rattle.std.specs.declared.cmp.Ordering.TheVariants.{Less, Equal, Greater}
-use Rattle.std.proofs.lemmas.Bool.{false≢true, cond_both, or_parts}
-use Rattle.std.proofs.lemmas.Cmp.{ranked}
-use Rattle.std.proofs.lemmas.List.Elements.{All-from_recursion, recursion_from_All, All-contains, All-head, All-tail}
-use Rattle.base.specs.Keyed.{are_above, put, put_by_order}
-use Rattle.base.proofs.PutKeeps.{All-put, put_cases}
-use Rattle.dbc_words.specs.Named.{AreNamedApart, has_name}
 use Rattle.dbc_words.proofs.Naming.{apart-insert}
 
 module _ {A : Type 0} where

@@ -1,26 +1,10 @@
 -- What is among the live messages after an import.
-use Rattle.std.proofs.Common.{◌≡◌, ◌≢◌, ◌<◌, ◌⊎◌, not, false, ℕ, List, [], ◌∷◌, map, Contains, inl, inr, sym, subst}
-use Rattle.std.proofs.Common.{arith}
-use Rattle.std.specs.List.{AllByRecursion}
+use Rattle.office_law.proofs.Common.{◌≡◌, ◌≢◌, ◌<◌, ◌⊎◌, not, false, ℕ, List, [], ◌∷◌, map, Contains, inl, inr, sym}
+use Rattle.office_law.proofs.Common.{subst, arith, AllByRecursion, nat_cmp, on, Ordering, Less, Equal, ranked}
+use Rattle.office_law.proofs.Common.{IsStrictlySortedBy-filter, put, dbc_number, IsSheet, Message, Sheet, by_number}
+use Rattle.office_law.proofs.Common.{LiveMessage, Net, is_live, new_messages, owned_by, IsNet, put_all}
 use Rattle.std.specs.List.Sorted.{IsStrictlySortedBy}
-use Rattle.std.specs.Ordering.{nat_cmp, on}
-use Rattle.std.specs.declared.cmp.Ordering.{Ordering}
-use Rattle.std.specs.declared.cmp.Ordering.TheVariants.{Less, Equal}
-use Rattle.std.proofs.lemmas.Cmp.{ranked}
-use Rattle.std.proofs.lemmas.List.Kept.{IsStrictlySortedBy-filter}
-use Rattle.base.specs.Keyed.{put}
-use Rattle.can_id.specs.Ident.{dbc_number}
-use Rattle.dbc_sheet.specs.Form.{IsSheet}
 use Rattle.dbc_sheet.specs.Messages.{by_number as message_order}
-use Rattle.dbc_sheet.specs.declared.message.Message.{Message}
-use Rattle.dbc_sheet.specs.declared.sheet.Sheet.{Sheet}
-use Rattle.office_types.specs.State.{by_number}
-use Rattle.office_types.specs.declared.state.LiveMessage.{LiveMessage}
-use Rattle.office_types.specs.declared.state.Net.{Net}
-use Rattle.office_rules.specs.Facts.{is_live}
-use Rattle.office_rules.specs.Importing.{new_messages, owned_by}
-use Rattle.office_rules.specs.Kept.{IsNet}
-use Rattle.office_rules.specs.Lists.{put_all}
 use Rattle.office_law.specs.Fresh.{AreJoined}
 use Rattle.office_law.proofs.Idents.{not_live, same_number}
 use Rattle.office_law.proofs.KeptMessages.{is_identifier}

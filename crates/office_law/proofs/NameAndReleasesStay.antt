@@ -1,23 +1,11 @@
 -- What holds of every command that isn't refused: its reply is no refusal, the network keeps its name, and its releases
 -- stay or grow by one.
-use Rattle.std.proofs.Common.{◌≡◌, ℕ, Bool, true, false, List, [], ◌∷◌, ◌++◌, Option, Some, None}
-use Rattle.std.specs.Prelude.{if◌then◌else◌}
-use Rattle.base.specs.Refusing.{Test}
-use Rattle.dbc_sheet.specs.declared.sheet.Sheet.{Sheet}
-use Rattle.office_types.specs.Reply.{part_reply, whole_reply}
-use Rattle.office_types.specs.State.{sheet_of}
+use Rattle.office_law.proofs.Common.{◌≡◌, ℕ, Bool, true, false, List, [], ◌∷◌, ◌++◌, Option, Some, None, if◌then◌else◌}
+use Rattle.office_law.proofs.Common.{Test, Sheet, part_reply, whole_reply, sheet_of, Task, Act, Bundle, Refusal, Reply}
+use Rattle.office_law.proofs.Common.{Refused, LiveMessage, Net, live_named, Entries, Outcome, Refusing, given_or}
+use Rattle.office_law.proofs.Common.{unless, on_found}
 use Rattle.office_types.specs.declared.command.Action.TheVariants as act
-use Rattle.office_types.specs.declared.command.Task.{Task}
-use Rattle.office_types.specs.declared.command.Task.TheVariants.{Act, Bundle}
-use Rattle.office_types.specs.declared.refusal.Refusal.{Refusal}
 use Rattle.office_types.specs.declared.refusal.Refusal.TheVariants as no
-use Rattle.office_types.specs.declared.reply.Reply.{Reply}
-use Rattle.office_types.specs.declared.reply.Reply.TheVariants.{Refused}
-use Rattle.office_types.specs.declared.state.LiveMessage.{LiveMessage}
-use Rattle.office_types.specs.declared.state.Net.{Net}
-use Rattle.office_rules.specs.Facts.{live_named}
-use Rattle.office_rules.specs.Outcome.{Entries, Outcome, Refusing, given_or, unless}
-use Rattle.office_rules.specs.Signals.{on_found}
 use Rattle.office_law.proofs.NoTestHolds.{Leaves, leaves_given, leaves_unless}
 
 -- the releases after a command that isn't refused

@@ -1,15 +1,9 @@
 -- A command leaves the network that it names as its outcome does, and every other one as it was.
-use Rattle.std.proofs.Common.{◌≡◌, ◌∙◌, ℕ, Bool, true, false, cond, List, [], ◌∷◌, Option, Some, refl, ap, find}
+use Rattle.office_law.proofs.Common.{◌≡◌, ◌∙◌, ℕ, Bool, true, false, cond, List, [], ◌∷◌, Option, Some, refl, ap}
+use Rattle.office_law.proofs.Common.{bytes_eq, bytes_eq-Decides, by_name, Command, Net, Office, FileReading, Outcome}
+use Rattle.office_law.proofs.Common.{Refusing, Changing, net_named, office_after, step_outcome}
+use Rattle.std.proofs.Common.{find}
 use Rattle.std.specs.List.Sorted.{IsStrictlySortedBy}
-use Rattle.std.specs.Str.{bytes_eq}
-use Rattle.std.proofs.lemmas.Slice.Eq.{bytes_eq-Decides}
-use Rattle.office_types.specs.State.{by_name}
-use Rattle.office_types.specs.declared.command.Command.{Command}
-use Rattle.office_types.specs.declared.state.Net.{Net}
-use Rattle.office_types.specs.declared.state.Office.{Office}
-use Rattle.office_rules.specs.Importing.{FileReading}
-use Rattle.office_rules.specs.Outcome.{Outcome, Refusing, Changing}
-use Rattle.office_rules.specs.Step.{net_named, office_after, step_outcome}
 use Rattle.office_law.specs.Histories.{OutcomesAreLeft, net_after}
 use Rattle.office_law.proofs.OrderedNets.{equal_texts, has, other_put, own_put}
 use Rattle.office_law.proofs.EachLeavesNameAndReleases.{left_task}

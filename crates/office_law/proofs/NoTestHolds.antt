@@ -1,13 +1,8 @@
 -- What is known of a command that none of its tests refuses.
-use Rattle.std.proofs.Common.{◌≡◌, Bool, true, false, List, [], ◌∷◌, ◌++◌, Option, Some, None, refl, sym}
-use Rattle.std.specs.List.{All, flat_map}
-use Rattle.std.proofs.lemmas.List.Elements.{All-cons, All-nil}
+use Rattle.office_law.proofs.Common.{◌≡◌, Bool, true, false, List, [], ◌∷◌, ◌++◌, Option, Some, None, refl, sym, All}
+use Rattle.office_law.proofs.Common.{flat_map, All-cons, All-nil, Test, first_refusal, Refusal, Reply, Net, Entries}
+use Rattle.office_law.proofs.Common.{Outcome, Refusing, Changing, refused_or, unless, given_or}
 use Rattle.std.proofs.lemmas.Option.{none-some}
-use Rattle.base.specs.Refusing.{Test, first_refusal}
-use Rattle.office_types.specs.declared.refusal.Refusal.{Refusal}
-use Rattle.office_types.specs.declared.reply.Reply.{Reply}
-use Rattle.office_types.specs.declared.state.Net.{Net}
-use Rattle.office_rules.specs.Outcome.{Entries, Outcome, Refusing, Changing, refused_or, unless, given_or}
 
 -- no test of the list holds
 abbrev pub NoneHolds : List (Test Refusal) → Type 0

@@ -1,38 +1,21 @@
 -- The laws of the actions that give out numbers of new messages.
-use Rattle.std.proofs.Common.{◌≡◌, ℕ, true, false, List, Some, None, length, refl, ap, ◌∙◌, ◌≤◌, arith, ◌<◌, nat_le}
+use Rattle.office_law.proofs.Common.{◌≡◌, ℕ, true, false, List, Some, None, length, refl, ap, ◌∙◌, ◌≤◌, arith, ◌<◌}
+use Rattle.office_law.proofs.Common.{nat_le, leb-false, nat_tests, All-nil, ident_of, IsIdentifier, fields_with, Ident}
+use Rattle.office_law.proofs.Common.{message_limit, KeepsMessage, block_form, IsAction, group_form, least_free}
+use Rattle.office_law.proofs.Common.{number_form, has_form, IsPlainName, SpnBook, NewMessage, Pdu, Addressed, Broadcast}
+use Rattle.office_law.proofs.Common.{TakeIdent, TakePgn, Act, Reply, Number, Net, group_facts, ident_facts, blocks_of}
+use Rattle.office_law.proofs.Common.{taken_numbers, is_live, group_of, is_held, is_named, taken_groups, group_given}
+use Rattle.office_law.proofs.Common.{number_given, take_ident_tests, take_pgn_tests, with_message, new_message}
+use Rattle.office_law.proofs.Common.{take_ident, take_pgn, address_of, ident_with, Entries, Outcome, Changing, given_or}
+use Rattle.office_law.proofs.Common.{no_entries, on_net}
 use Rattle.std.specs.List.{IsDistinct}
-use Rattle.std.proofs.lemmas.Bool.{leb-false}
-use Rattle.std.proofs.lemmas.Bool.Decides.{nat_tests}
-use Rattle.std.proofs.lemmas.List.Elements.{All-nil}
-use Rattle.can_id.specs.Ident.{ident_of, IsIdentifier}
-use Rattle.can_id.specs.J1939.{AreInRange, Fields, IsOfGroup, fields_with, is_pgn, number_of, pgn_of}
-use Rattle.can_id.specs.declared.ident.Ident.{Ident}
+use Rattle.can_id.specs.J1939.{AreInRange, Fields, IsOfGroup, is_pgn, number_of, pgn_of}
 use Rattle.can_id.proofs.Groups.{group_of_fields_with, page_bit_below}
 use Rattle.can_id.proofs.Splits.{fields_of-number_of}
-use Rattle.dbc_words.specs.Limits.{message_limit}
-use Rattle.dbc_sheet.specs.Form.{KeepsMessage}
-use Rattle.office_types.specs.Block.{block_form}
-use Rattle.office_types.specs.Command.{IsAction, IsNewMessage, IsPdu, group_form}
-use Rattle.office_types.specs.Free.{least_free, number_form, has_form}
-use Rattle.office_types.specs.PlainName.{IsPlainName}
+use Rattle.office_types.specs.Command.{IsNewMessage, IsPdu}
 use Rattle.office_types.specs.declared.block.BlockForm.TheVariants as block
-use Rattle.office_types.specs.declared.book.SpnBook.{SpnBook}
 use Rattle.office_types.specs.declared.command.Action.TheVariants as act
-use Rattle.office_types.specs.declared.command.NewMessage.{NewMessage}
-use Rattle.office_types.specs.declared.command.Pdu.{Pdu}
-use Rattle.office_types.specs.declared.command.Pdu.TheVariants.{Addressed, Broadcast}
-use Rattle.office_types.specs.declared.command.TakeIdent.{TakeIdent}
-use Rattle.office_types.specs.declared.command.TakePgn.{TakePgn}
-use Rattle.office_types.specs.declared.command.Task.TheVariants.{Act}
 use Rattle.office_types.specs.declared.refusal.Refusal.TheVariants as no
-use Rattle.office_types.specs.declared.reply.Reply.{Reply}
-use Rattle.office_types.specs.declared.reply.Reply.TheVariants.{Number}
-use Rattle.office_types.specs.declared.state.Net.{Net}
-use Rattle.office_rules.specs.Facts.{group_facts, ident_facts, blocks_of, taken_numbers, is_live, group_of, is_held}
-use Rattle.office_rules.specs.Facts.{is_named, taken_groups}
-use Rattle.office_rules.specs.Numbers.{group_given, number_given, take_ident_tests, take_pgn_tests, with_message}
-use Rattle.office_rules.specs.Numbers.{new_message, take_ident, take_pgn, address_of, ident_with}
-use Rattle.office_rules.specs.Outcome.{Entries, Outcome, Changing, given_or, no_entries, on_net}
 use Rattle.office_law.proofs.OutcomesAlike.{given_with, unless_with, w}
 use Rattle.office_law.proofs.OutcomeFound.{answered_given, chosen_there, decided_net}
 use Rattle.office_law.proofs.ClearSignals.{IsClear-none}

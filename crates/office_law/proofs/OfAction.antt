@@ -1,15 +1,7 @@
 -- What is proved of each action.
-use Rattle.std.proofs.Common.{◌≡◌, ℕ, Bool, true, false, List, Option, Some, None}
-use Rattle.base.specs.Refusing.{first_refusal}
-use Rattle.office_types.specs.Command.{IsAction}
-use Rattle.office_types.specs.declared.book.SpnBook.{SpnBook}
-use Rattle.office_types.specs.declared.command.Action.{Action}
+use Rattle.office_law.proofs.Common.{◌≡◌, ℕ, Bool, true, false, List, Option, Some, None, first_refusal, IsAction}
+use Rattle.office_law.proofs.Common.{SpnBook, Action, Act, Refusal, Net, acted, action_tests, releases_read, Refusing}
 use Rattle.office_types.specs.declared.command.Action.TheVariants as act
-use Rattle.office_types.specs.declared.command.Task.TheVariants.{Act}
-use Rattle.office_types.specs.declared.refusal.Refusal.{Refusal}
-use Rattle.office_types.specs.declared.state.Net.{Net}
-use Rattle.office_rules.specs.Commands.{acted, action_tests, releases_read}
-use Rattle.office_rules.specs.Outcome.{Refusing}
 use Rattle.office_law.specs.Deciding.{IsDecidedBy}
 use Rattle.office_law.proofs.OutcomesAlike.{Depends}
 use Rattle.office_law.proofs.NameAndReleasesStay.{left}

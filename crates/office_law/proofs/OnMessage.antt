@@ -1,19 +1,7 @@
 -- The live message that a command names.
-use Rattle.std.proofs.Common.{◌≡◌, ℕ, List, Option, Some, subst, Contains}
-use Rattle.std.specs.Str.{bytes_eq}
-use Rattle.std.proofs.lemmas.List.Elements.{All-contains}
-use Rattle.base.specs.Refusing.{Test}
-use Rattle.dbc_sheet.specs.Form.{KeepsMessage}
-use Rattle.dbc_sheet.specs.Messages.{IsClearMessage}
-use Rattle.dbc_sheet.specs.declared.node.Node.{Node}
-use Rattle.office_types.specs.State.{sheet_of}
-use Rattle.office_types.specs.declared.refusal.Refusal.{Refusal}
-use Rattle.office_types.specs.declared.state.LiveMessage.{LiveMessage}
-use Rattle.office_types.specs.declared.state.Net.{Net}
-use Rattle.office_types.specs.declared.state.Phase.{Phase}
-use Rattle.office_rules.specs.Facts.{live_named}
-use Rattle.office_rules.specs.Kept.{IsNet}
-use Rattle.office_rules.specs.Signals.{on_message}
+use Rattle.office_law.proofs.Common.{◌≡◌, ℕ, List, Option, Some, subst, Contains, bytes_eq, All-contains, Test}
+use Rattle.office_law.proofs.Common.{KeepsMessage, IsClearMessage, Node, sheet_of, Refusal, LiveMessage, Net, Phase}
+use Rattle.office_law.proofs.Common.{live_named, IsNet, on_message}
 use Rattle.office_law.proofs.Lists.{Contains-found}
 use Rattle.office_law.proofs.NoTestHolds.{NoneHolds}
 use Rattle.office_law.proofs.Sheets.{Contains-map, keeps_message}

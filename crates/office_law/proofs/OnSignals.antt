@@ -1,39 +1,25 @@
 -- Messages whose signals change keep what every message keeps.
-use Rattle.std.proofs.Common.{◌≡◌, ◌≤◌, ◌<◌, ◌∙◌, ◌&&◌, Bool, false, cond, ℕ, List, [], ◌∷◌, ◌++◌, length, Option, Some}
-use Rattle.std.proofs.Common.{None, Contains, refl, sym, ap, subst, arith, nat_le}
-use Rattle.std.specs.List.{All, filter}
-use Rattle.std.specs.Prelude.{◌^◌, IfSome, is_none}
-use Rattle.std.specs.Str.{bytes_eq}
-use Rattle.std.proofs.lemmas.Bool.{cond_both, leb-false}
-use Rattle.std.proofs.lemmas.List.{length-append, length-map, map-append}
-use Rattle.std.proofs.lemmas.List.Elements.{All-filter, All-from_recursion, All-map, All-nil, All-push, All-weaker}
-use Rattle.std.proofs.lemmas.List.Elements.{recursion_from_All}
-use Rattle.std.proofs.lemmas.Option.{cond_some, same_Some}
-use Rattle.bitlayout.specs.Clash.{first_clash_of}
-use Rattle.bitlayout.specs.Clear.{IsClear}
-use Rattle.bitlayout.specs.Mux.{is_multiplexor}
-use Rattle.bitlayout.specs.Start.{start_if_clear}
-use Rattle.bitlayout.specs.declared.place.Place.{Place}
-use Rattle.bitlayout.proofs.Clearance.{clear_from_none}
-use Rattle.bitlayout.proofs.Search.{found_first, none_at}
-use Rattle.dbc_words.specs.Limits.{roster_limit, spn_limit, start_limit}
-use Rattle.dbc_words.specs.Named.{has_name}
-use Rattle.dbc_words.specs.Text.{IsText}
+use Rattle.office_law.proofs.Common.{◌≡◌, ◌≤◌, ◌<◌, ◌∙◌, ◌&&◌, Bool, false, cond, ℕ, List, [], ◌∷◌, ◌++◌, length}
+use Rattle.office_law.proofs.Common.{Option, Some, None, Contains, refl, sym, ap, subst, arith, nat_le, All, filter}
+use Rattle.office_law.proofs.Common.{IfSome, is_none, bytes_eq, cond_both, leb-false, length-append, length-map}
+use Rattle.office_law.proofs.Common.{All-filter, All-from_recursion, All-map, All-nil, All-push, All-weaker}
+use Rattle.office_law.proofs.Common.{recursion_from_All, same_Some, first_clash_of, IsClear, is_multiplexor}
+use Rattle.office_law.proofs.Common.{start_if_clear, Place, clear_from_none, found_first, roster_limit, spn_limit}
+use Rattle.office_law.proofs.Common.{has_name, IsText, apart_and_last, IsSignal, KeepsMessage, IsClearMessage, place_of}
+use Rattle.office_law.proofs.Common.{has_multiplexor, signal_is_multiplexor, places_of, at_signal, AreFewTexts, Signal}
+use Rattle.office_law.proofs.Common.{TakeBits, LiveMessage, new_signal, place_at, start_given, start_tests}
+use Rattle.office_law.proofs.Common.{with_signals}
+use Rattle.std.specs.Prelude.{◌^◌}
+use Rattle.std.proofs.lemmas.List.{map-append}
+use Rattle.std.proofs.lemmas.Option.{cond_some}
+use Rattle.bitlayout.proofs.Search.{none_at}
+use Rattle.dbc_words.specs.Limits.{start_limit}
 use Rattle.dbc_words.proofs.Naming.{distinct-filter}
-use Rattle.dbc_words.proofs.Rosters.{apart_and_last}
-use Rattle.dbc_sheet.specs.Form.{IsSignal, IsValueText, KeepsMessage}
-use Rattle.dbc_sheet.specs.Messages.{IsClearMessage}
-use Rattle.dbc_sheet.specs.Signal.{place_of}
-use Rattle.dbc_sheet.specs.Signals.{AreSignals, has_multiplexor, signal_is_multiplexor, places_of, signal_name}
-use Rattle.dbc_sheet.specs.Signals.{at_signal}
-use Rattle.dbc_sheet.specs.WellFormed.{AreFewTexts}
-use Rattle.dbc_sheet.specs.declared.signal.Signal.{Signal}
+use Rattle.dbc_sheet.specs.Form.{IsValueText}
+use Rattle.dbc_sheet.specs.Signals.{AreSignals, signal_name}
 use Rattle.dbc_sheet.specs.declared.value_texts.ValueText.{ValueText}
 use Rattle.dbc_sheet.proofs.Multiplexors.{any_both}
 use Rattle.office_types.specs.Command.{IsTakeBits}
-use Rattle.office_types.specs.declared.command.TakeBits.{TakeBits}
-use Rattle.office_types.specs.declared.state.LiveMessage.{LiveMessage}
-use Rattle.office_rules.specs.Signals.{new_signal, place_at, start_given, start_tests, with_signals}
 use Rattle.office_law.proofs.Lists.{IsDistinct-map, Looks, All-from_contains, length-filter_le, none_from_is}
 use Rattle.office_law.proofs.NoTestHolds.{NoneHolds}
 

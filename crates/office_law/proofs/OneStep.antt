@@ -1,25 +1,13 @@
 -- Steps agree.
-use Rattle.std.proofs.Common.{◌≡◌, ◌⊎◌, ◌∙◌, Bool, true, false, ℕ, List, ◌∷◌, Option, Some, None, inl, inr, refl, sym}
-use Rattle.std.proofs.Common.{ap}
-use Rattle.std.proofs.lemmas.Bool.{false≢true}
-use Rattle.dbc_grammar.specs.Reads.{ReadsAsOneAtMost}
-use Rattle.dbc_sheet.specs.declared.sheet.Sheet.{Sheet}
-use Rattle.office_types.specs.declared.book.SpnBook.{SpnBook}
-use Rattle.office_types.specs.declared.command.Command.{Command}
-use Rattle.office_types.specs.declared.command.Task.{Task}
-use Rattle.office_types.specs.declared.command.Task.TheVariants.{Act, Import, Bundle}
+use Rattle.office_law.proofs.Common.{◌≡◌, ◌⊎◌, ◌∙◌, Bool, true, false, ℕ, List, ◌∷◌, Option, Some, None, inl, inr, refl}
+use Rattle.office_law.proofs.Common.{sym, ap, false≢true, ReadsAsOneAtMost, Sheet, SpnBook, Command, Task, Act, Import}
+use Rattle.office_law.proofs.Common.{Bundle, Reply, Net, Office, done_task, in_review, FileReading, Reading, Unreadable}
+use Rattle.office_law.proofs.Common.{file_imported, file_tests, import, Outcome, Refusing, reply_of, unless, when}
+use Rattle.office_law.proofs.Common.{Profile, IsRead, IsReadingOf, Step, file_wanted, net_named, office_after}
+use Rattle.office_law.proofs.Common.{step_outcome}
 use Rattle.office_types.specs.declared.refusal.FileFault.{FileFault as Fault}
 use Rattle.office_types.specs.declared.refusal.Refusal.TheVariants as no
-use Rattle.office_types.specs.declared.reply.Reply.{Reply}
-use Rattle.office_types.specs.declared.state.Net.{Net}
-use Rattle.office_types.specs.declared.state.Office.{Office}
-use Rattle.office_rules.specs.Commands.{done_task}
-use Rattle.office_rules.specs.Facts.{in_review}
-use Rattle.office_rules.specs.Importing.{FileReading, Reading, Unreadable, file_imported, file_tests, import}
-use Rattle.office_rules.specs.Outcome.{Outcome, Refusing, reply_of, unless, when}
-use Rattle.office_rules.specs.Profile.{Profile}
-use Rattle.office_rules.specs.Step.{IsRead, IsReadingOf, IsUnreadable, Step, file_wanted, net_named, office_after}
-use Rattle.office_rules.specs.Step.{step_outcome}
+use Rattle.office_rules.specs.Step.{IsUnreadable}
 use Rattle.office_law.specs.Agree.{IsFileRefused, StepsAgree}
 
 -- an outcome that reports a fault of the file

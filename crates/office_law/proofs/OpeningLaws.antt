@@ -1,29 +1,16 @@
 -- The laws of the actions that open a network, grant a block and add a node.
-use Rattle.std.proofs.Common.{◌≡◌, ℕ, Bool, true, false, List, [], ◌∷◌, Option, Some, None, length, refl, sym, ap, ◌∙◌}
-use Rattle.std.proofs.Common.{cond, not, subst, ◌&&◌}
-use Rattle.std.proofs.lemmas.Bool.{false≢true, cond_both, leb-false}
-use Rattle.base.specs.Refusing.{first_refusal}
-use Rattle.dbc_words.specs.Name.{IsName}
-use Rattle.dbc_sheet.specs.declared.sheet.Sheet.{Sheet}
-use Rattle.office_types.specs.Block.{is_spn, IsRange, same_form}
-use Rattle.office_types.specs.Command.{IsAction}
-use Rattle.office_types.specs.PlainName.{is_office}
+use Rattle.office_law.proofs.Common.{◌≡◌, ℕ, Bool, true, false, List, [], ◌∷◌, Option, Some, None, length, refl, sym}
+use Rattle.office_law.proofs.Common.{ap, ◌∙◌, cond, not, subst, ◌&&◌, false≢true, cond_both, leb-false, first_refusal}
+use Rattle.office_law.proofs.Common.{IsName, Sheet, is_spn, IsRange, same_form, IsAction, is_office, SpnBook, Grant}
+use Rattle.office_law.proofs.Common.{OpenNet, Act, Reply, Done, Net, is_granted, is_j1939, is_spn_granted}
+use Rattle.office_law.proofs.Common.{add_node_tests, bare_net, grant_tests, granted, new_head, open_net_tests}
+use Rattle.office_law.proofs.Common.{with_block, with_node, grant, is_block_taken, Entries, Outcome, Changing, given_or}
+use Rattle.office_law.proofs.Common.{no_entries, refused_or, when}
 use Rattle.office_types.specs.declared.block.BlockForm.{BlockForm}
 use Rattle.office_types.specs.declared.block.BlockForm.TheVariants as block
-use Rattle.office_types.specs.declared.book.SpnBook.{SpnBook}
 use Rattle.office_types.specs.declared.command.Action.TheVariants as act
-use Rattle.office_types.specs.declared.command.Grant.{Grant}
-use Rattle.office_types.specs.declared.command.OpenNet.{OpenNet}
-use Rattle.office_types.specs.declared.command.Task.TheVariants.{Act}
 use Rattle.office_types.specs.declared.refusal.Refusal.TheVariants as no
-use Rattle.office_types.specs.declared.reply.Reply.{Reply}
-use Rattle.office_types.specs.declared.reply.Reply.TheVariants.{Done}
-use Rattle.office_types.specs.declared.state.Net.{Net}
-use Rattle.office_rules.specs.Facts.{is_granted, is_j1939, is_spn_granted}
-use Rattle.office_rules.specs.Opening.{add_node_tests, bare_net, grant_tests, granted, new_head, open_net}
-use Rattle.office_rules.specs.Opening.{open_net_tests, spn_entry, with_block, with_node, add_node, grant}
-use Rattle.office_rules.specs.Opening.{is_block_taken}
-use Rattle.office_rules.specs.Outcome.{Entries, Outcome, Changing, given_or, no_entries, refused_or, when}
+use Rattle.office_rules.specs.Opening.{open_net, spn_entry, add_node}
 use Rattle.office_law.specs.Released.{outcome_with}
 use Rattle.office_law.proofs.OutcomesAlike.{unless_with, w}
 use Rattle.office_law.proofs.OutcomeFound.{IsAnswered, decided_net, decided_office, decided_unless, refuses}

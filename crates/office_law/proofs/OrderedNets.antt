@@ -1,28 +1,18 @@
 -- Networks in the order of their names, one of which is put among them.
-use Rattle.std.proofs.Common.{◌≡◌, ◌∙◌, ◌&&◌, ◌<◌, ℕ, zero, suc, Bool, true, false, cond, List, [], ◌∷◌, Option, Some}
-use Rattle.std.proofs.Common.{None, length, drop, get_or, set, refl, sym, ap, find, arith}
-use Rattle.std.specs.List.{AllByRecursion, position_or_len}
+use Rattle.office_law.proofs.Common.{◌≡◌, ◌∙◌, ◌&&◌, ◌<◌, ℕ, zero, suc, Bool, true, false, cond, List, [], ◌∷◌, Option}
+use Rattle.office_law.proofs.Common.{Some, None, length, get_or, refl, sym, ap, arith, AllByRecursion, bytes_eq, is_eq}
+use Rattle.office_law.proofs.Common.{is_lt, Ordering, Less, Equal, Greater, false≢true, is_eq-slice_cmp}
+use Rattle.office_law.proofs.Common.{bytes_eq-Decides, are_above, put, text_cmp, IsStrictlySortedBy-put, put_cases}
+use Rattle.office_law.proofs.Common.{by_name, Net, Office, Outcome, Refusing, Changing, office_after}
+use Rattle.std.proofs.Common.{drop, set, find}
+use Rattle.std.specs.List.{position_or_len}
 use Rattle.std.specs.List.Sorted.{IsStrictlySortedBy}
-use Rattle.std.specs.Str.{bytes_eq}
 use Rattle.std.specs.Cmp.Lexicographic.{on_texts}
-use Rattle.std.specs.Ordering.{is_eq, is_lt}
-use Rattle.std.specs.declared.cmp.Ordering.{Ordering}
-use Rattle.std.specs.declared.cmp.Ordering.TheVariants.{Less, Equal, Greater}
-use Rattle.std.proofs.lemmas.Bool.{false≢true}
 use Rattle.std.proofs.lemmas.List.{set-get_or}
 use Rattle.std.proofs.lemmas.List.Folds.{find_at}
-use Rattle.std.proofs.lemmas.Map.Text.{is_eq-slice_cmp}
 use Rattle.std.proofs.lemmas.Option.{get_or_from_slice_get, slice_get_within}
-use Rattle.std.proofs.lemmas.Slice.Eq.{bytes_eq-Decides}
-use Rattle.base.specs.Keyed.{are_above, put, text_cmp}
 use Rattle.base.proofs.PutCode.{put_at}
-use Rattle.base.proofs.PutKeeps.{IsStrictlySortedBy-put, put_cases}
 use Rattle.dbc_words.proofs.Naming.{bytes_eq-flip}
-use Rattle.office_types.specs.State.{by_name}
-use Rattle.office_types.specs.declared.state.Net.{Net}
-use Rattle.office_types.specs.declared.state.Office.{Office}
-use Rattle.office_rules.specs.Outcome.{Outcome, Refusing, Changing}
-use Rattle.office_rules.specs.Step.{office_after}
 
 abbrev pub has : List ℕ → Net → Bool
 has name net = bytes_eq net.name name

@@ -1,31 +1,18 @@
 -- A command that doesn't depend on what is in a release is decided alike where there are as many other ones.
-use Rattle.std.proofs.Common.{◌≡◌, ◌∙◌, ◌+◌, ℕ, false, List, [], ◌∷◌, ◌++◌, length, Option, Some, None, refl, sym, ap}
-use Rattle.std.proofs.Common.{subst, append-nil, append_assoc, length-append}
-use Rattle.std.specs.List.{list_any}
-use Rattle.std.specs.Option.{option_map}
-use Rattle.std.proofs.lemmas.Bool.{false≢true, or_parts}
+use Rattle.office_law.proofs.Common.{◌≡◌, ◌∙◌, ◌+◌, ℕ, false, List, [], ◌∷◌, ◌++◌, length, Option, Some, None, refl}
+use Rattle.office_law.proofs.Common.{sym, ap, subst, append-nil, append_assoc, list_any, option_map, false≢true}
+use Rattle.office_law.proofs.Common.{or_parts, Sheet, SpnBook, Change, AddSignal, RemoveSignal, SetSpn, SetValues}
+use Rattle.office_law.proofs.Common.{AddRelease, Decision, Action, Task, Act, Import, Bundle, Reply, LiveMessage, Net}
+use Rattle.office_law.proofs.Common.{PartsOutcome, RefusedAt, AllDone, bundle_outcome, part_then, with_part, AllFit}
+use Rattle.office_law.proofs.Common.{Decides, IsQuiet, NetAndBook, all_applied, applied, at_message, changed_book}
+use Rattle.office_law.proofs.Common.{left_after, net_changed, acted, done_task, outcome, parts_done, OfReleases}
+use Rattle.office_law.proofs.Common.{Nothing, Count, Bodies, is_of_releases, reads_releases, releases_read, live_named}
+use Rattle.office_law.proofs.Common.{FileReading, Entries, Outcome, Refusing, Changing, entered, no_entries, reply_of}
+use Rattle.std.proofs.Common.{length-append}
 use Rattle.std.proofs.lemmas.List.{append_cancel_left}
-use Rattle.dbc_sheet.specs.declared.sheet.Sheet.{Sheet}
-use Rattle.office_types.specs.declared.book.SpnBook.{SpnBook}
-use Rattle.office_types.specs.declared.change.Change.{Change}
-use Rattle.office_types.specs.declared.change.Change.TheVariants.{SetHead, AddSignal, RemoveSignal, SetSpn, SetValues}
-use Rattle.office_types.specs.declared.change.Change.TheVariants.{AddRelease}
-use Rattle.office_types.specs.declared.change.Decision.{Decision}
-use Rattle.office_types.specs.declared.command.Action.{Action}
-use Rattle.office_types.specs.declared.command.Task.{Task}
-use Rattle.office_types.specs.declared.command.Task.TheVariants.{Act, Import, Bundle}
-use Rattle.office_types.specs.declared.reply.Reply.{Reply}
-use Rattle.office_types.specs.declared.state.LiveMessage.{LiveMessage}
-use Rattle.office_types.specs.declared.state.Net.{Net}
-use Rattle.office_rules.specs.Bundling.{PartsOutcome, RefusedAt, AllDone, bundle_outcome, part_then, with_part}
-use Rattle.office_rules.specs.Change.{AllFit, Decides, Fits, IsQuiet, NetAndBook, all_applied, applied, at_message}
-use Rattle.office_rules.specs.Change.{changed_book, changed_net, left_after, net_changed}
-use Rattle.office_rules.specs.Commands.{acted, done_task, outcome, parts_done, OfReleases, Nothing, Count, Bodies}
-use Rattle.office_rules.specs.Commands.{action_reads_bodies, is_of_bodies, is_of_releases, reads_bodies, reads_releases}
-use Rattle.office_rules.specs.Commands.{releases_read}
-use Rattle.office_rules.specs.Facts.{live_named}
-use Rattle.office_rules.specs.Importing.{FileReading}
-use Rattle.office_rules.specs.Outcome.{Entries, Outcome, Refusing, Changing, entered, no_entries, reply_of}
+use Rattle.office_types.specs.declared.change.Change.TheVariants.{SetHead}
+use Rattle.office_rules.specs.Change.{Fits, changed_net}
+use Rattle.office_rules.specs.Commands.{action_reads_bodies, is_of_bodies, reads_bodies}
 use Rattle.office_law.specs.Released.{BodiesDontCount, ReleasesDontCount, outcome_with}
 use Rattle.office_law.proofs.OutcomesAlike.{Alike, Depends, unreleased_alike, w}
 use Rattle.office_law.proofs.EachAction.{laws_of}

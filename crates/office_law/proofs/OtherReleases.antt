@@ -1,31 +1,17 @@
 -- Commands that don't depend on releases.
-use Rattle.std.proofs.Common.{◌≡◌, ◌∙◌, ◌+◌, ℕ, false, List, [], ◌∷◌, length, Option, Some, None, inl, inr, refl, sym}
-use Rattle.std.proofs.Common.{ap, subst}
-use Rattle.std.specs.List.{list_any}
-use Rattle.std.specs.Option.{option_map}
-use Rattle.std.proofs.lemmas.Bool.{false≢true, or_parts}
-use Rattle.dbc_sheet.specs.declared.sheet.Sheet.{Sheet}
-use Rattle.office_types.specs.declared.book.SpnBook.{SpnBook}
-use Rattle.office_types.specs.declared.change.Change.{Change}
-use Rattle.office_types.specs.declared.change.Change.TheVariants.{AddSignal, RemoveSignal, SetSpn, SetValues}
-use Rattle.office_types.specs.declared.change.Change.TheVariants.{AddRelease}
-use Rattle.office_types.specs.declared.change.Decision.{Decision}
-use Rattle.office_types.specs.declared.command.Action.{Action}
+use Rattle.office_law.proofs.Common.{◌≡◌, ◌∙◌, ◌+◌, ℕ, false, List, [], ◌∷◌, length, Option, Some, None, inl, inr, refl}
+use Rattle.office_law.proofs.Common.{sym, ap, subst, list_any, option_map, false≢true, or_parts, Sheet, SpnBook, Change}
+use Rattle.office_law.proofs.Common.{AddSignal, RemoveSignal, SetSpn, SetValues, AddRelease, Decision, Action, Command}
+use Rattle.office_law.proofs.Common.{Task, Act, Import, Bundle, Reply, LiveMessage, Net, PartsOutcome, RefusedAt}
+use Rattle.office_law.proofs.Common.{AllDone, bundle_outcome, part_then, with_part, AllFit, Decides, IsQuiet}
+use Rattle.office_law.proofs.Common.{NetAndBook, all_applied, at_message, changed_book, is_release, left_after}
+use Rattle.office_law.proofs.Common.{net_changed, acted, done_task, outcome, parts_done, OfReleases, Nothing, Count}
+use Rattle.office_law.proofs.Common.{Bodies, is_of_releases, reads_releases, releases_read, live_named, FileReading}
+use Rattle.office_law.proofs.Common.{Reading, Unreadable, file_imported, import_tests, Entries, Outcome, Refusing}
+use Rattle.office_law.proofs.Common.{Changing, entered, reply_of, unless}
 use Rattle.office_types.specs.declared.command.Action.TheVariants as act
-use Rattle.office_types.specs.declared.command.Command.{Command}
-use Rattle.office_types.specs.declared.command.Task.{Task}
-use Rattle.office_types.specs.declared.command.Task.TheVariants.{Act, Import, Bundle}
-use Rattle.office_types.specs.declared.reply.Reply.{Reply}
-use Rattle.office_types.specs.declared.state.LiveMessage.{LiveMessage}
-use Rattle.office_types.specs.declared.state.Net.{Net}
-use Rattle.office_rules.specs.Bundling.{PartsOutcome, RefusedAt, AllDone, bundle_outcome, part_then, with_part}
-use Rattle.office_rules.specs.Change.{AllFit, Decides, IsDecision, IsQuiet, NetAndBook, all_applied, at_message}
-use Rattle.office_rules.specs.Change.{changed_book, is_release, left_after, net_changed}
-use Rattle.office_rules.specs.Commands.{acted, done_task, outcome, parts_done, OfReleases, Nothing, Count, Bodies}
-use Rattle.office_rules.specs.Commands.{action_reads_releases, is_of_releases, reads_releases, releases_read}
-use Rattle.office_rules.specs.Facts.{live_named}
-use Rattle.office_rules.specs.Importing.{FileReading, Reading, Unreadable, file_imported, import_tests}
-use Rattle.office_rules.specs.Outcome.{Entries, Outcome, Refusing, Changing, entered, reply_of, unless}
+use Rattle.office_rules.specs.Change.{IsDecision}
+use Rattle.office_rules.specs.Commands.{action_reads_releases}
 use Rattle.office_law.specs.Apart.{KeepsReleases}
 use Rattle.office_law.specs.Released.{ReleasesDontCount, may_release, outcome_with, with_releases}
 use Rattle.office_law.proofs.OutcomesAlike.{Depends, unless_with, w}

@@ -1,13 +1,8 @@
 -- Where no test of a command's list holds, what its outcome looks for is there.
-use Rattle.std.proofs.Common.{◌≡◌, ℕ, Bool, false, List, ◌∷◌, Option, Some, None, refl, sym}
-use Rattle.std.specs.Prelude.{is_none}
-use Rattle.std.proofs.lemmas.Bool.{false≢true}
-use Rattle.base.specs.Refusing.{Test, first_refusal}
-use Rattle.office_types.specs.declared.refusal.Refusal.{Refusal}
+use Rattle.office_law.proofs.Common.{◌≡◌, ℕ, Bool, false, List, ◌∷◌, Option, Some, None, refl, sym, is_none, false≢true}
+use Rattle.office_law.proofs.Common.{Test, first_refusal, Refusal, Net, Outcome, Refusing, Changing, requested_of}
+use Rattle.office_law.proofs.Common.{given_or, on_net, refused_or, unless, when}
 use Rattle.office_types.specs.declared.refusal.Refusal.TheVariants as no
-use Rattle.office_types.specs.declared.state.Net.{Net}
-use Rattle.office_rules.specs.Outcome.{Outcome, Refusing, Changing, requested_of, given_or, on_net, refused_or, unless}
-use Rattle.office_rules.specs.Outcome.{when}
 use Rattle.office_law.specs.Deciding.{IsDecidedBy}
 use Rattle.office_law.proofs.NoTestHolds.{NoneHolds, NoneHolds-from_none}
 

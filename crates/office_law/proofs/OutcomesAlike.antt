@@ -1,15 +1,9 @@
 -- Outcomes on networks that differ in their releases.
-use Rattle.std.proofs.Common.{◌≡◌, ℕ, List, [], length, Option, Some, None, refl, sym, ap, ◌++◌, append-nil}
-use Rattle.base.specs.Refusing.{Test, first_refusal}
-use Rattle.dbc_sheet.specs.declared.sheet.Sheet.{Sheet}
-use Rattle.office_types.specs.declared.refusal.Refusal.{Refusal}
+use Rattle.office_law.proofs.Common.{◌≡◌, ℕ, List, [], length, Option, Some, None, refl, sym, ap, ◌++◌, append-nil}
+use Rattle.office_law.proofs.Common.{Test, first_refusal, Sheet, Refusal, LiveMessage, Net, OfReleases, Nothing, Count}
+use Rattle.office_law.proofs.Common.{Bodies, live_named, Outcome, Refusing, Changing, given_or, refused_or, unless}
+use Rattle.office_law.proofs.Common.{on_found}
 use Rattle.office_types.specs.declared.refusal.Refusal.TheVariants as no
-use Rattle.office_types.specs.declared.state.LiveMessage.{LiveMessage}
-use Rattle.office_types.specs.declared.state.Net.{Net}
-use Rattle.office_rules.specs.Commands.{OfReleases, Nothing, Count, Bodies}
-use Rattle.office_rules.specs.Facts.{live_named}
-use Rattle.office_rules.specs.Outcome.{Outcome, Refusing, Changing, given_or, refused_or, unless}
-use Rattle.office_rules.specs.Signals.{on_found}
 use Rattle.office_law.specs.Released.{outcome_with, with_releases}
 
 -- ---- the same outcome with other releases

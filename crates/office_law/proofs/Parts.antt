@@ -1,20 +1,9 @@
 -- What the parts of a bundle leave.
-use Rattle.std.proofs.Common.{ℕ, List, ◌∷◌, ◌++◌, [], Option, Some, None, ◌≡◌, refl, ap, ◌∙◌}
-use Rattle.std.specs.Prelude.{IfSome}
-use Rattle.std.specs.Ordering.{nat_cmp}
-use Rattle.std.specs.declared.cmp.Ordering.{Ordering}
-use Rattle.base.specs.Keyed.{put}
-use Rattle.office_types.specs.Book.{by_net}
-use Rattle.office_types.specs.Reply.{part_reply}
-use Rattle.office_types.specs.declared.book.SpnBook.{SpnBook}
-use Rattle.office_types.specs.declared.reply.PartReply.{PartReply}
-use Rattle.office_types.specs.declared.reply.Reply.{Reply}
+use Rattle.office_law.proofs.Common.{ℕ, List, ◌∷◌, ◌++◌, [], Option, Some, None, ◌≡◌, refl, ap, ◌∙◌, IfSome, nat_cmp}
+use Rattle.office_law.proofs.Common.{Ordering, put, by_net, part_reply, SpnBook, PartReply, Reply, Net, PartsOutcome}
+use Rattle.office_law.proofs.Common.{RefusedAt, AllDone, both_entries, bundle_outcome, part_then, with_part, put_all}
+use Rattle.office_law.proofs.Common.{Entries, Outcome, Refusing, Changing, entered}
 use Rattle.office_types.specs.declared.reply.Reply.TheVariants.{Bundle}
-use Rattle.office_types.specs.declared.state.Net.{Net}
-use Rattle.office_rules.specs.Bundling.{PartsOutcome, RefusedAt, AllDone, both_entries, bundle_outcome, part_then}
-use Rattle.office_rules.specs.Bundling.{with_part}
-use Rattle.office_rules.specs.Lists.{put_all}
-use Rattle.office_rules.specs.Outcome.{Entries, Outcome, Refusing, Changing, entered}
 use Rattle.office_law.proofs.NoTestHolds.{Leaves}
 
 -- what all parts leave is so; where one is refused nothing is left

@@ -1,30 +1,16 @@
 -- What is known of a command that its tests don't refuse, test by test.
-use Rattle.std.proofs.Common.{◌≡◌, ℕ, ◌&&◌, not, nat_le, nat_lt, false, List, [], ◌∷◌, length, Some, is_none}
+use Rattle.office_law.proofs.Common.{◌≡◌, ℕ, ◌&&◌, not, nat_le, nat_lt, false, List, ◌∷◌, length, Some, Test}
+use Rattle.office_law.proofs.Common.{is_multiplexor, is_under, has_multiplexor, places_of, Node, block_form, same_form}
+use Rattle.office_law.proofs.Common.{Pgn, SpnBook, Grant, NewMessage, TakeBits, TakeIdent, TakePgn, Refusal}
+use Rattle.office_law.proofs.Common.{LiveMessage, Net, NumberFacts, blocks_of, has_node, in_review, is_j1939, none_of}
+use Rattle.office_law.proofs.Common.{group_given, take_ident_tests, take_pgn_tests, want_tests, add_node_tests}
+use Rattle.office_law.proofs.Common.{grant_tests, is_block_taken, when, release_limit, release_tests, has_signal}
+use Rattle.office_law.proofs.Common.{start_tests}
+use Rattle.std.proofs.Common.{is_none}
 use Rattle.std.specs.List.{list_all}
-use Rattle.base.specs.Refusing.{Test}
-use Rattle.bitlayout.specs.Mux.{is_multiplexor, is_under}
 use Rattle.dbc_words.specs.Limits.{node_limit, signal_limit}
-use Rattle.dbc_sheet.specs.Signals.{has_multiplexor, places_of}
-use Rattle.dbc_sheet.specs.declared.node.Node.{Node}
-use Rattle.office_types.specs.Block.{block_form, same_form}
-use Rattle.office_types.specs.declared.block.BlockForm.TheVariants.{Pgn}
-use Rattle.office_types.specs.declared.book.SpnBook.{SpnBook}
-use Rattle.office_types.specs.declared.command.Grant.{Grant}
-use Rattle.office_types.specs.declared.command.NewMessage.{NewMessage}
-use Rattle.office_types.specs.declared.command.TakeBits.{TakeBits}
-use Rattle.office_types.specs.declared.command.TakeIdent.{TakeIdent}
-use Rattle.office_types.specs.declared.command.TakePgn.{TakePgn}
-use Rattle.office_types.specs.declared.refusal.Refusal.{Refusal}
 use Rattle.office_types.specs.declared.refusal.Refusal.TheVariants as no
-use Rattle.office_types.specs.declared.state.LiveMessage.{LiveMessage}
-use Rattle.office_types.specs.declared.state.Net.{Net}
-use Rattle.office_rules.specs.Facts.{NumberFacts, blocks_of, has_node, in_review, is_j1939, knows_node}
-use Rattle.office_rules.specs.Lists.{none_of}
-use Rattle.office_rules.specs.Numbers.{group_given, take_ident_tests, take_pgn_tests, want_tests}
-use Rattle.office_rules.specs.Opening.{add_node_tests, grant_tests, is_block_taken}
-use Rattle.office_rules.specs.Outcome.{when}
-use Rattle.office_rules.specs.Reviewing.{release_limit, release_tests}
-use Rattle.office_rules.specs.Signals.{has_signal, start_tests}
+use Rattle.office_rules.specs.Facts.{knows_node}
 use Rattle.office_law.proofs.NoTestHolds.{NoneHolds}
 
 -- ---- a new message

@@ -1,8 +1,8 @@
 -- Places that stay clear: none at all, and some of those that are clear.
-use Rattle.std.proofs.Common.{◌≡◌, Bool, true, false, ◌||◌, ◌&&◌, not, List, [], ◌∷◌, map, refl, sym, ap, ◌∙◌, arith}
-use Rattle.std.specs.List.{All, AllPairs, filter, list_any}
-use Rattle.std.proofs.lemmas.Bool.{cond_both, or_parts, not-false}
-use Rattle.std.proofs.lemmas.List.Elements.{All-cons, All-head, All-tail}
+use Rattle.office_law.proofs.Common.{◌≡◌, Bool, true, false, ◌||◌, ◌&&◌, not, List, [], ◌∷◌, map, refl, sym, ap, ◌∙◌}
+use Rattle.office_law.proofs.Common.{arith, All, filter, list_any, cond_both, or_parts, not-false, All-cons, All-head}
+use Rattle.office_law.proofs.Common.{All-tail}
+use Rattle.std.specs.List.{AllPairs}
 use Rattle.std.proofs.lemmas.List.Kept.{AllPairs-cons}
 use Prim.Native.Nat.{zero, suc}
 

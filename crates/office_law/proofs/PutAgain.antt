@@ -1,10 +1,6 @@
 -- A thing that is put into a list twice.
-use Rattle.std.proofs.Common.{◌≡◌, ◌∙◌, Bool, true, false, cond, List, [], ◌∷◌, ◌&&◌, refl, sym, ap}
-use Rattle.std.specs.Ordering.{is_lt}
-use Rattle.std.specs.declared.cmp.Ordering.{Ordering}
-use Rattle.std.specs.declared.cmp.Ordering.TheVariants.{Less, Equal, Greater}
-use Rattle.base.specs.Keyed.{are_above, put, put_by_order}
-use Rattle.base.proofs.PutKeeps.{put_cases}
+use Rattle.office_law.proofs.Common.{◌≡◌, ◌∙◌, Bool, true, false, cond, List, [], ◌∷◌, ◌&&◌, refl, sym, ap, is_lt}
+use Rattle.office_law.proofs.Common.{Ordering, Less, Equal, Greater, are_above, put, put_by_order, put_cases}
 
 module _ {A : Type 0} (order : A → A → Ordering) (x y : A) (alike : (z : A) → order x z ≡ order y z)
     (equal : order x y ≡ Equal) where

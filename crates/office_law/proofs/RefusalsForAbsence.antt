@@ -1,58 +1,35 @@
 -- Refusals for want of something.
-use Rattle.std.proofs.Common.{◌≡◌, ◌<◌, ◌≤◌, ◌+◌, ◌*◌, min, cond, ◌⊎◌, ◌∙◌, ◌&&◌, ◌||◌, not, Bool, true, false, ℕ, zero}
-use Rattle.std.proofs.Common.{suc, List, [], ◌∷◌, ◌++◌, take, Option, Some, None, inl, inr, refl, sym, ap, subst, arith}
-use Rattle.std.specs.Prelude.{is_none, slice_get, Any}
-use Rattle.std.specs.List.{AllByRecursion, IsDistinct, list_any}
-use Rattle.std.proofs.lemmas.Bool.{false≢true}
-use Rattle.std.proofs.lemmas.List.Folds.{list_any-from_Any}
-use Rattle.base.specs.Refusing.{Test}
-use Rattle.bitlayout.specs.Clear.{IsMultiplexor}
-use Rattle.bitlayout.specs.Mux.{is_multiplexor}
-use Rattle.bitlayout.specs.Start.{HasNoStart, least_start_of, place_from, start_if_clear}
-use Rattle.bitlayout.specs.declared.clash.Clash.{Clash}
-use Rattle.bitlayout.specs.declared.layout.TheConstants.{GREATEST_START}
+use Rattle.office_law.proofs.Common.{◌≡◌, ◌<◌, ◌≤◌, ◌+◌, ◌*◌, min, cond, ◌⊎◌, ◌∙◌, ◌&&◌, ◌||◌, not, Bool, true, false}
+use Rattle.office_law.proofs.Common.{ℕ, zero, suc, List, [], ◌∷◌, ◌++◌, Option, Some, None, inl, inr, refl, sym, ap}
+use Rattle.office_law.proofs.Common.{subst, arith, is_none, AllByRecursion, list_any, false≢true, list_any-from_Any}
+use Rattle.office_law.proofs.Common.{Test, IsMultiplexor, is_multiplexor, least_start_of, place_from, start_if_clear}
+use Rattle.office_law.proofs.Common.{Clash, GREATEST_START, Place, is_multiplexor_decides, none_from_clear, place_of}
+use Rattle.office_law.proofs.Common.{signal_is_multiplexor, places_of, Signal, block_form, group_form, IsLeastFree}
+use Rattle.office_law.proofs.Common.{has_form, is_taken, least_free, number_form, Block, SpnBook, TakeBits, TakeIdent}
+use Rattle.office_law.proofs.Common.{TakePgn, TakeSpn, NumberForm, Spn, Refusal, Reply, Number, Start, LiveMessage, Net}
+use Rattle.office_law.proofs.Common.{least_free_is, blocks_of, group_facts, ident_facts, lies_in, live_named}
+use Rattle.office_law.proofs.Common.{spn_blocks_of, taken_groups, taken_numbers, none_of, group_given, ident_with}
+use Rattle.office_law.proofs.Common.{new_message, number_given, take_ident, take_ident_tests, take_pgn, take_pgn_tests}
+use Rattle.office_law.proofs.Common.{with_message, Entries, no_entries, Outcome, Refusing, Changing, given_or, on_net}
+use Rattle.office_law.proofs.Common.{new_signal, spn_entered, spn_given, start_given, take_bits, take_bits_tests}
+use Rattle.office_law.proofs.Common.{take_spn, take_spn_tests, with_last_signal, with_spn, ident_of}
+use Rattle.std.proofs.Common.{take}
+use Rattle.std.specs.Prelude.{slice_get, Any}
+use Rattle.std.specs.List.{IsDistinct}
+use Rattle.bitlayout.specs.Start.{HasNoStart}
 use Rattle.bitlayout.specs.declared.clash.Clash.TheVariants as clash
-use Rattle.bitlayout.specs.declared.place.Place.{Place}
 use Rattle.bitlayout.proofs.Naming.{first_law}
-use Rattle.bitlayout.proofs.Presence.{is_multiplexor_decides}
-use Rattle.bitlayout.proofs.Clearance.{none_from_clear}
 use Rattle.bitlayout.proofs.Search.{none_before}
 use Rattle.bitlayout.proofs.Starts.{starts_in_payload}
-use Rattle.dbc_sheet.specs.Signal.{place_of}
-use Rattle.dbc_sheet.specs.Signals.{HaveOneMultiplexor, signal_is_multiplexor, places_of}
-use Rattle.dbc_sheet.specs.declared.signal.Signal.{Signal}
-use Rattle.office_types.specs.Block.{block_form}
-use Rattle.office_types.specs.Command.{group_form}
-use Rattle.office_types.specs.Free.{IsLeastFree, has_form, is_free, is_taken, least_free, number_form}
+use Rattle.dbc_sheet.specs.Signals.{HaveOneMultiplexor}
+use Rattle.office_types.specs.Free.{is_free}
 use Rattle.office_types.specs.Least.{IsLeastOf}
-use Rattle.office_types.specs.declared.block.Block.{Block}
 use Rattle.office_types.specs.declared.block.BlockForm.TheVariants as block
-use Rattle.office_types.specs.declared.book.SpnBook.{SpnBook}
-use Rattle.office_types.specs.declared.command.TakeBits.{TakeBits}
-use Rattle.office_types.specs.declared.command.TakeIdent.{TakeIdent}
-use Rattle.office_types.specs.declared.command.TakePgn.{TakePgn}
-use Rattle.office_types.specs.declared.command.TakeSpn.{TakeSpn}
-use Rattle.office_types.specs.declared.free.NumberForm.{NumberForm}
-use Rattle.office_types.specs.declared.free.NumberForm.TheVariants.{Spn}
-use Rattle.office_types.specs.declared.refusal.Refusal.{Refusal}
 use Rattle.office_types.specs.declared.refusal.Refusal.TheVariants as no
-use Rattle.office_types.specs.declared.reply.Reply.{Reply}
-use Rattle.office_types.specs.declared.reply.Reply.TheVariants.{Number, Start}
-use Rattle.office_types.specs.declared.state.LiveMessage.{LiveMessage}
-use Rattle.office_types.specs.declared.state.Net.{Net}
-use Rattle.office_types.proofs.Least.{least_free_is, least_once}
-use Rattle.office_rules.specs.Facts.{blocks_of, group_facts, ident_facts, lies_in, live_named, spn_blocks_of}
-use Rattle.office_rules.specs.Facts.{taken_groups, taken_numbers}
-use Rattle.office_rules.specs.Lists.{none_of}
-use Rattle.office_rules.specs.Numbers.{group_given, ident_with, new_message, number_given, take_ident, take_ident_tests}
-use Rattle.office_rules.specs.Numbers.{take_pgn, take_pgn_tests, with_message}
-use Rattle.office_rules.specs.Outcome.{Entries, no_entries, Outcome, Refusing, Changing, given_or, on_net}
-use Rattle.office_rules.specs.Signals.{new_signal, spn_entered, spn_given, start_given, take_bits, take_bits_tests}
-use Rattle.office_rules.specs.Signals.{take_spn, take_spn_tests, with_last_signal, with_spn}
+use Rattle.office_types.proofs.Least.{least_once}
 use Rattle.office_law.specs.Refusals.{HasNoRoom, LeastInsideBlocks, NeverTwoMultiplexors, RefusedForWant}
 use Rattle.office_law.proofs.Lists.{none_from_is}
 use Rattle.office_law.proofs.Inverting.{RefusedBy, refused, refused_by_those, those}
-use Rattle.can_id.specs.Ident.{ident_of}
 
 -- Lists that agree.
 

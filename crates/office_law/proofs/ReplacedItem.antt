@@ -1,17 +1,10 @@
 -- An item that is put into a list in the order of a number, where one of its number is there: it replaces that one.
 use Rattle.std.specs.Cmp.{nat_cmp_is}
-use Rattle.std.proofs.Common.{◌≡◌, ◌<◌, ◌==◌, ◌⊎◌, ◌∙◌, true, false, cond, ◌&&◌, ℕ, List, [], ◌∷◌, map, length}
-use Rattle.std.proofs.Common.{Contains, inl, inr, refl, sym, ap, arith}
+use Rattle.office_law.proofs.Common.{◌≡◌, ◌<◌, ◌==◌, ◌⊎◌, ◌∙◌, true, false, cond, ◌&&◌, ℕ, List, [], ◌∷◌, map, length}
+use Rattle.office_law.proofs.Common.{Contains, inl, inr, refl, sym, ap, arith, is_lt, nat_cmp, on, Ordering, Less}
+use Rattle.office_law.proofs.Common.{Equal, Greater, and_parts, false≢true, nat_tests, ranked, length-map, are_above}
+use Rattle.office_law.proofs.Common.{put, put_cases}
 use Rattle.std.specs.List.Sorted.{IsStrictlySortedBy}
-use Rattle.std.specs.Ordering.{is_lt, nat_cmp, on}
-use Rattle.std.specs.declared.cmp.Ordering.{Ordering}
-use Rattle.std.specs.declared.cmp.Ordering.TheVariants.{Less, Equal, Greater}
-use Rattle.std.proofs.lemmas.Bool.{and_parts, false≢true}
-use Rattle.std.proofs.lemmas.Bool.Decides.{nat_tests}
-use Rattle.std.proofs.lemmas.Cmp.{ranked}
-use Rattle.std.proofs.lemmas.List.{length-map}
-use Rattle.base.specs.Keyed.{are_above, put}
-use Rattle.base.proofs.PutKeeps.{put_cases}
 use Rattle.office_law.proofs.Lists.{Contains-cases, Contains-none, Contains-first, Contains-later, after_first}
 
 module _ {A : Type 0} (key : A → ℕ) (x : A) where

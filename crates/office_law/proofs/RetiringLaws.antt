@@ -1,19 +1,10 @@
 -- The laws of `retire`.
-use Rattle.std.proofs.Common.{◌≡◌, ℕ, List, Some, refl, ◌∙◌}
-use Rattle.std.proofs.lemmas.Bool.{cond_both}
-use Rattle.can_id.specs.declared.ident.Ident.{Ident}
-use Rattle.dbc_words.specs.Name.{IsName}
-use Rattle.office_types.specs.declared.book.SpnBook.{SpnBook}
+use Rattle.office_law.proofs.Common.{◌≡◌, ℕ, List, Some, refl, ◌∙◌, cond_both, Ident, IsName, SpnBook, Act, Reply, Done}
+use Rattle.office_law.proofs.Common.{LiveMessage, Net, live_named, message_facts, was_released, Entries, Outcome}
+use Rattle.office_law.proofs.Common.{Changing, given_or, no_entries, on_net, retired, with_held, without_message}
 use Rattle.office_types.specs.declared.command.Action.TheVariants as act
-use Rattle.office_types.specs.declared.command.Task.TheVariants.{Act}
 use Rattle.office_types.specs.declared.refusal.Refusal.TheVariants as no
-use Rattle.office_types.specs.declared.reply.Reply.{Reply}
-use Rattle.office_types.specs.declared.reply.Reply.TheVariants.{Done}
-use Rattle.office_types.specs.declared.state.LiveMessage.{LiveMessage}
-use Rattle.office_types.specs.declared.state.Net.{Net}
-use Rattle.office_rules.specs.Facts.{live_named, message_facts, was_released}
-use Rattle.office_rules.specs.Outcome.{Entries, Outcome, Changing, given_or, no_entries, on_net}
-use Rattle.office_rules.specs.Retiring.{retire_tests, retired, with_held, without_message, retire}
+use Rattle.office_rules.specs.Retiring.{retire_tests, retire}
 use Rattle.office_law.proofs.OutcomeFound.{answered_requested, decided_net}
 use Rattle.office_law.proofs.KeptEntered.{IsEntered-retired}
 use Rattle.office_law.proofs.KeptMessages.{IsNet-retired}

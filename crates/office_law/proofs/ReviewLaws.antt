@@ -1,23 +1,13 @@
 -- The laws of reviews and releases.
-use Rattle.std.proofs.Common.{◌≡◌, ℕ, true, List, [], ◌∷◌, Some, length, refl, ◌+◌, not, subst, nat_le, nat_lt}
-use Rattle.std.proofs.lemmas.Bool.{leb-false, not-false}
-use Rattle.base.specs.Refusing.{Test, first_refusal}
-use Rattle.dbc_sheet.specs.declared.sheet.Sheet.{Sheet}
-use Rattle.office_types.specs.PlainName.{is_office}
-use Rattle.office_types.specs.State.{sheet_of}
-use Rattle.office_types.specs.declared.book.SpnBook.{SpnBook}
+use Rattle.office_law.proofs.Common.{◌≡◌, ℕ, true, List, [], ◌∷◌, Some, length, refl, ◌+◌, not, subst, nat_le, nat_lt}
+use Rattle.office_law.proofs.Common.{leb-false, not-false, Test, first_refusal, Sheet, is_office, sheet_of, SpnBook}
+use Rattle.office_law.proofs.Common.{Act, Refusal, Reply, Done, Net, Draft, Review, in_review, Entries, Outcome}
+use Rattle.office_law.proofs.Common.{Changing, given_or, no_entries, on_net, refused_or, when, in_phase, release_tests}
+use Rattle.office_law.proofs.Common.{with_approval, with_release, release_limit}
 use Rattle.office_types.specs.declared.command.Action.TheVariants as act
-use Rattle.office_types.specs.declared.command.Task.TheVariants.{Act}
-use Rattle.office_types.specs.declared.refusal.Refusal.{Refusal}
 use Rattle.office_types.specs.declared.refusal.Refusal.TheVariants as no
-use Rattle.office_types.specs.declared.reply.Reply.{Reply}
-use Rattle.office_types.specs.declared.reply.Reply.TheVariants.{Done, Release}
-use Rattle.office_types.specs.declared.state.Net.{Net}
-use Rattle.office_types.specs.declared.state.Phase.TheVariants.{Draft, Review}
-use Rattle.office_rules.specs.Facts.{in_review}
-use Rattle.office_rules.specs.Outcome.{Entries, Outcome, Changing, given_or, no_entries, on_net, refused_or, when}
-use Rattle.office_rules.specs.Reviewing.{in_phase, release_tests, review_tests, submit_tests, with_approval}
-use Rattle.office_rules.specs.Reviewing.{with_release, approve, reject, submit, release, release_limit}
+use Rattle.office_types.specs.declared.reply.Reply.TheVariants.{Release}
+use Rattle.office_rules.specs.Reviewing.{review_tests, submit_tests, approve, reject, submit, release}
 use Rattle.office_law.proofs.OutcomesAlike.{Alike, refused_alike, unless_with, w}
 use Rattle.office_law.proofs.OutcomeFound.{decided_net, decided_office, refuses}
 use Rattle.office_law.proofs.KeptBlocks.{IsNet-approved, IsNet-in_phase}

@@ -1,30 +1,15 @@
 -- Live sheets with a message more, with one in place of another, and without one.
-use Rattle.std.proofs.Common.{◌≡◌, ◌≤◌, ◌<◌, ◌==◌, ◌∙◌, not, Bool, false, ℕ, zero, suc, List, [], ◌∷◌, map, length}
-use Rattle.std.proofs.Common.{get_or, Contains, refl, sym, ap, subst, arith}
-use Rattle.std.specs.List.{All, filter}
-use Rattle.std.specs.Str.{bytes_eq}
-use Rattle.std.proofs.lemmas.Bool.{cond_both}
-use Rattle.std.proofs.lemmas.Bool.Decides.{Decides-eqb}
-use Rattle.std.proofs.lemmas.Cmp.{nat_cmp_total, on_total}
-use Rattle.std.proofs.lemmas.List.Elements.{All-contains, All-filter, All-from_recursion, recursion_from_All}
-use Rattle.std.proofs.lemmas.List.Kept.{IsStrictlySortedBy-filter}
-use Rattle.base.specs.Keyed.{put}
-use Rattle.base.proofs.PutKeeps.{All-put, IsStrictlySortedBy-put, length-put}
-use Rattle.can_id.specs.Ident.{dbc_number}
-use Rattle.can_id.specs.declared.ident.Ident.{Ident}
-use Rattle.dbc_words.specs.Limits.{message_limit}
-use Rattle.dbc_words.specs.Named.{AreNamedApart, has_name}
-use Rattle.dbc_words.proofs.Naming.{apart-filter}
-use Rattle.dbc_sheet.specs.Form.{IsMessage, IsSheet, KeepsMessage}
-use Rattle.dbc_sheet.specs.Messages.{AreMessages, IsClearMessage, by_number, message_name, number_of}
+use Rattle.office_law.proofs.Common.{◌≡◌, ◌≤◌, ◌<◌, ◌==◌, ◌∙◌, not, Bool, false, ℕ, zero, suc, List, [], ◌∷◌, map}
+use Rattle.office_law.proofs.Common.{length, get_or, Contains, refl, sym, ap, subst, arith, All, filter, bytes_eq}
+use Rattle.office_law.proofs.Common.{cond_both, Decides-eqb, nat_cmp_total, on_total, All-contains, All-filter}
+use Rattle.office_law.proofs.Common.{All-from_recursion, recursion_from_All, IsStrictlySortedBy-filter, put, All-put}
+use Rattle.office_law.proofs.Common.{IsStrictlySortedBy-put, length-put, dbc_number, Ident, message_limit}
+use Rattle.office_law.proofs.Common.{AreNamedApart, has_name, apart-filter, IsMessage, IsSheet, KeepsMessage}
+use Rattle.office_law.proofs.Common.{IsClearMessage, message_name, number_of, Message, Sheet, IsPlainName}
+use Rattle.office_law.proofs.Common.{live_messages, sheet_with, LiveMessage, has_ident, same_ident, AreLive}
+use Rattle.dbc_sheet.specs.Messages.{AreMessages, by_number}
 use Rattle.dbc_sheet.specs.WellFormed.{IsWellFormedMessage}
-use Rattle.dbc_sheet.specs.declared.message.Message.{Message}
-use Rattle.dbc_sheet.specs.declared.sheet.Sheet.{Sheet}
-use Rattle.office_types.specs.PlainName.{IsPlainName}
-use Rattle.office_types.specs.State.{by_number as live_by_number, live_messages, sheet_with}
-use Rattle.office_types.specs.declared.state.LiveMessage.{LiveMessage}
-use Rattle.office_rules.specs.Facts.{has_ident, same_ident}
-use Rattle.office_rules.specs.Kept.{AreLive}
+use Rattle.office_types.specs.State.{by_number as live_by_number}
 use Rattle.office_law.proofs.Lists.{IsDistinct-map, Looks, All-from_contains, Contains-later, apart-put}
 use Rattle.office_law.proofs.Lists.{length-filter_le, map-filter, map-put, one_of_key}
 use Rattle.office_law.proofs.ReplacedItem.{in_place, length-put_replaced, put-replaced}

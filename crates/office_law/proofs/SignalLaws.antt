@@ -1,46 +1,24 @@
 -- The laws of the actions on a signal of a live message.
-use Rattle.std.proofs.Common.{◌≡◌, ℕ, Bool, true, false, List, [], ◌∷◌, ◌++◌, Option, Some, None, length, refl, sym}
-use Rattle.std.proofs.Common.{not, inl, inr, subst, ◌≤◌, Contains, arith, ◌⊎◌, ◌&&◌, nat_le, eqb-true, ◌==◌, nat_lt}
-use Rattle.std.specs.List.{filter, list_all}
-use Rattle.std.specs.Str.{bytes_eq}
-use Rattle.std.proofs.lemmas.Bool.{and_parts, leb-true, not-false}
-use Rattle.std.proofs.lemmas.Bool.Decides.{nat_tests}
-use Rattle.std.proofs.lemmas.List.Elements.{All-cons, All-filter, All-nil, All-push}
-use Rattle.std.proofs.lemmas.List.Folds.{Any-from_list_any}
-use Rattle.std.proofs.lemmas.Option.{same_Some}
-use Rattle.base.specs.Refusing.{Test}
-use Rattle.bitlayout.specs.Clear.{IsClear}
-use Rattle.bitlayout.specs.Mux.{is_multiplexor, is_under}
-use Rattle.bitlayout.specs.Start.{least_start_of}
-use Rattle.dbc_words.specs.Limits.{roster_limit, spn_limit, value_text_limit}
-use Rattle.dbc_sheet.specs.Messages.{IsClearMessage}
-use Rattle.dbc_sheet.specs.Signal.{place_of}
-use Rattle.dbc_sheet.specs.Signals.{places_of, has_multiplexor, at_signal}
-use Rattle.dbc_sheet.specs.declared.signal.Signal.{Signal}
-use Rattle.office_types.specs.Command.{IsAction}
-use Rattle.office_types.specs.Free.{least_free, is_taken}
-use Rattle.office_types.specs.declared.book.SpnBook.{SpnBook}
+use Rattle.office_law.proofs.Common.{◌≡◌, ℕ, Bool, true, false, List, [], ◌∷◌, ◌++◌, Option, Some, None, length, refl}
+use Rattle.office_law.proofs.Common.{sym, not, inl, inr, subst, ◌≤◌, Contains, arith, ◌⊎◌, ◌==◌, nat_lt, filter}
+use Rattle.office_law.proofs.Common.{bytes_eq, and_parts, leb-true, not-false, nat_tests, All-cons, All-filter, All-nil}
+use Rattle.office_law.proofs.Common.{All-push, Any-from_list_any, same_Some, IsClear, least_start_of, spn_limit}
+use Rattle.office_law.proofs.Common.{IsClearMessage, place_of, places_of, at_signal, Signal, IsAction, least_free}
+use Rattle.office_law.proofs.Common.{is_taken, SpnBook, TakeBits, TakeSpn, Act, Refusal, Reply, Done, Number, Start}
+use Rattle.office_law.proofs.Common.{LiveMessage, Net, live_named, message_facts, spn_blocks_of, IsBook, with_message}
+use Rattle.office_law.proofs.Common.{Entries, Outcome, Changing, given_or, no_entries, on_net, when, on_found}
+use Rattle.office_law.proofs.Common.{spn_given, start_given, take_bits_tests, take_spn_tests, new_signal, spn_entered}
+use Rattle.office_law.proofs.Common.{take_bits, take_spn, with_last_signal, with_spn, has_signal, is_needed, spn_tests}
+use Rattle.office_law.proofs.Common.{with_signals}
+use Rattle.std.proofs.Common.{eqb-true}
+use Rattle.dbc_words.specs.Limits.{value_text_limit}
 use Rattle.office_types.specs.declared.command.Action.TheVariants as act
 use Rattle.office_types.specs.declared.command.SetValues.{SetValues}
 use Rattle.office_types.specs.declared.command.SignalPath.{SignalPath}
-use Rattle.office_types.specs.declared.command.TakeBits.{TakeBits}
-use Rattle.office_types.specs.declared.command.TakeSpn.{TakeSpn}
-use Rattle.office_types.specs.declared.command.Task.TheVariants.{Act}
 use Rattle.office_types.specs.declared.free.NumberForm.TheVariants as form
-use Rattle.office_types.specs.declared.refusal.Refusal.{Refusal}
 use Rattle.office_types.specs.declared.refusal.Refusal.TheVariants as no
-use Rattle.office_types.specs.declared.reply.Reply.{Reply}
-use Rattle.office_types.specs.declared.reply.Reply.TheVariants.{Done, Number, Start}
-use Rattle.office_types.specs.declared.state.LiveMessage.{LiveMessage}
-use Rattle.office_types.specs.declared.state.Net.{Net}
-use Rattle.office_rules.specs.Facts.{live_named, message_facts, spn_blocks_of, has_node}
-use Rattle.office_rules.specs.Kept.{IsBook}
-use Rattle.office_rules.specs.Numbers.{with_message}
-use Rattle.office_rules.specs.Outcome.{Entries, Outcome, Changing, given_or, no_entries, on_net, when}
-use Rattle.office_rules.specs.Signals.{on_found, remove_signal_tests, set_values_tests, spn_given, start_given}
-use Rattle.office_rules.specs.Signals.{take_bits_tests, take_spn_tests, with_values, with_signal_out, new_signal}
-use Rattle.office_rules.specs.Signals.{remove_signal, set_values, spn_entered, take_bits, take_spn, with_last_signal}
-use Rattle.office_rules.specs.Signals.{with_spn, has_signal, is_needed, spn_tests, start_tests, with_signals}
+use Rattle.office_rules.specs.Signals.{remove_signal_tests, set_values_tests, with_values, with_signal_out}
+use Rattle.office_rules.specs.Signals.{remove_signal, set_values}
 use Rattle.office_law.proofs.OutcomesAlike.{found_with, given_with, unless_with, w}
 use Rattle.office_law.proofs.OutcomeFound.{answered_given, answered_requested, chosen_there, decided_net}
 use Rattle.office_law.proofs.ClearSignals.{IsClear-removed, places-at_signal}

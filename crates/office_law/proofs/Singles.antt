@@ -1,15 +1,8 @@
 -- Tests that refuse a command alone, and no part of a bundle.
-use Rattle.std.proofs.Common.{ℕ, List, [], ◌∷◌, ◌++◌, Option, Some, None, Bool, true, false}
-use Rattle.std.specs.List.{flat_map}
-use Rattle.std.specs.Prelude.{if◌then◌else◌}
-use Rattle.base.specs.Refusing.{Test}
-use Rattle.office_types.specs.declared.refusal.Refusal.{Refusal}
+use Rattle.office_law.proofs.Common.{ℕ, List, [], ◌∷◌, ◌++◌, Option, Some, None, Bool, true, false, flat_map}
+use Rattle.office_law.proofs.Common.{if◌then◌else◌, Test, Refusal, LiveMessage, Net, on_net, requested_of, on_message}
 use Rattle.office_types.specs.declared.refusal.Refusal.TheVariants as no
-use Rattle.office_types.specs.declared.state.LiveMessage.{LiveMessage}
-use Rattle.office_types.specs.declared.state.Net.{Net}
 use Rattle.office_rules.specs.Facts.{MessageFacts}
-use Rattle.office_rules.specs.Outcome.{on_net, requested_of}
-use Rattle.office_rules.specs.Signals.{on_message}
 
 -- no refusal of a bundle's part
 abbrev pub IsSingle : Refusal → Type 0

@@ -1,18 +1,9 @@
 -- Only `release` and a bundle with it have a release among their changes.
-use Rattle.std.proofs.Common.{◌≡◌, ◌∙◌, ◌+◌, ℕ, false, List, [], ◌∷◌, length, Option, Some, None, refl, sym, ap, arith}
+use Rattle.office_law.proofs.Common.{◌≡◌, ◌∙◌, ◌+◌, ℕ, false, List, [], ◌∷◌, length, Option, Some, None, refl, sym, ap}
+use Rattle.office_law.proofs.Common.{arith, list_any, Sheet, SpnBook, Change, AddSignal, RemoveSignal, SetSpn}
+use Rattle.office_law.proofs.Common.{SetValues, AddRelease, LiveMessage, Net, NetAndBook, all_applied, applied}
+use Rattle.office_law.proofs.Common.{at_message, changed_book, is_release, net_changed, live_named, with_message}
 use Rattle.std.proofs.Common.{length-append}
-use Rattle.std.specs.List.{list_any}
-use Rattle.dbc_sheet.specs.declared.sheet.Sheet.{Sheet}
-use Rattle.office_types.specs.declared.book.SpnBook.{SpnBook}
-use Rattle.office_types.specs.declared.change.Change.{Change}
-use Rattle.office_types.specs.declared.change.Change.TheVariants.{AddSignal, RemoveSignal, SetSpn, SetValues}
-use Rattle.office_types.specs.declared.change.Change.TheVariants.{AddRelease}
-use Rattle.office_types.specs.declared.state.LiveMessage.{LiveMessage}
-use Rattle.office_types.specs.declared.state.Net.{Net}
-use Rattle.office_rules.specs.Change.{NetAndBook, all_applied, applied, at_message, changed_book, is_release}
-use Rattle.office_rules.specs.Change.{net_changed}
-use Rattle.office_rules.specs.Facts.{live_named}
-use Rattle.office_rules.specs.Numbers.{with_message}
 
 -- how many releases are among changes
 abbrev released : List Change → ℕ

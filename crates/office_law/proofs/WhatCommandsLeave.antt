@@ -1,21 +1,8 @@
 -- What a command that is carried out leaves of its network and of the book.
-use Rattle.std.proofs.Common.{◌≡◌, ◌∙◌, ℕ, List, [], ◌∷◌, sym, subst}
-use Rattle.std.specs.List.{All}
-use Rattle.std.specs.Ordering.{nat_cmp}
-use Rattle.std.proofs.lemmas.List.Elements.{All-cons, All-nil}
-use Rattle.dbc_sheet.specs.declared.signal.Signal.{Signal}
-use Rattle.office_types.specs.Book.{by_net}
-use Rattle.office_types.specs.PlainName.{IsPlainName}
-use Rattle.office_types.specs.State.{live_messages}
-use Rattle.office_types.specs.declared.book.SpnBlock.{SpnBlock}
-use Rattle.office_types.specs.declared.book.SpnBook.{SpnBook}
-use Rattle.office_types.specs.declared.state.LiveMessage.{LiveMessage}
-use Rattle.office_types.specs.declared.state.Net.{Net}
-use Rattle.office_rules.specs.Kept.{AreEntered, IsBook, IsEntered, IsNet}
-use Rattle.office_rules.specs.Lists.{put_all}
-use Rattle.office_rules.specs.Numbers.{with_message}
-use Rattle.office_rules.specs.Outcome.{Entries, no_entries, entered, Outcome}
-use Rattle.office_rules.specs.Signals.{with_signals}
+use Rattle.office_law.proofs.Common.{◌≡◌, ◌∙◌, ℕ, List, [], ◌∷◌, sym, subst, All, nat_cmp, All-cons, All-nil, Signal}
+use Rattle.office_law.proofs.Common.{by_net, IsPlainName, live_messages, SpnBlock, SpnBook, LiveMessage, Net}
+use Rattle.office_law.proofs.Common.{AreEntered, IsBook, IsEntered, IsNet, put_all, with_message, Entries, no_entries}
+use Rattle.office_law.proofs.Common.{entered, Outcome, with_signals}
 use Rattle.office_law.proofs.KeptBook.{IsBook-granted, IsBook-used}
 use Rattle.office_law.proofs.KeptEntered.{IsEntered-changed, IsEntered-silent}
 use Rattle.office_law.proofs.KeptMessages.{IsNet-changed, IsNet-joined}

@@ -1,5 +1,6 @@
 -- The first line of a content that has one line.
-use Rattle.std.proofs.Common.{◌≡◌, ◌≢◌, ◌==◌, ◌+◌, ◌∙◌, ℕ, suc, List, [], ◌∷◌, take, refl, ap, arith}
+use Rattle.office_looks.proofs.Common.{◌≡◌, ◌+◌, ◌∙◌, ℕ, suc, List, [], ◌∷◌, take, refl, ap, arith}
+use Rattle.std.proofs.Common.{◌≢◌, ◌==◌}
 use Rattle.std.specs.List.{All, before_first, position_or_len}
 use Rattle.std.proofs.lemmas.Bool.{ne_eqb}
 use Rattle.std.proofs.lemmas.List.Elements.{All-head, All-tail}

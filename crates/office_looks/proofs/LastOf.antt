@@ -1,11 +1,9 @@
 -- The last of the first sheets.
-use Rattle.std.proofs.Common.{◌≡◌, ◌+◌, ◌-◌, ◌<◌, ◌++◌, ℕ, List, [], ◌∷◌}
-use Rattle.std.proofs.Common.{length, take, get_or, refl, sym, ap, ◌∙◌, arith}
-use Rattle.std.proofs.lemmas.List.{get_or_push, length-append, take_more}
+use Rattle.office_looks.proofs.Common.{◌≡◌, ◌+◌, ◌<◌, ◌++◌, ℕ, List, [], ◌∷◌, length, take, get_or, refl, sym, ap, ◌∙◌}
+use Rattle.office_looks.proofs.Common.{arith, length-append, take_more, empty_sheet, Sheet, last_release}
+use Rattle.std.proofs.Common.{◌-◌}
+use Rattle.std.proofs.lemmas.List.{get_or_push}
 use Rattle.std.proofs.lemmas.Option.{unwrap_or-slice_get}
-use Rattle.dbc_sheet.specs.Sheet.{empty_sheet}
-use Rattle.dbc_sheet.specs.declared.sheet.Sheet.{Sheet}
-use Rattle.office_seen.specs.Since.{last_release}
 
 last_pushed : (sheets : List Sheet) (s : Sheet) → last_release (sheets ++ s ∷ []) ≡ s
 last_pushed sheets s =

@@ -1,3 +1,4 @@
+pub mod Common
 pub mod Unread
 pub mod Owning
 pub mod LastOf

@@ -1,21 +1,14 @@
 -- The lines of a message computed.
-use Rattle.std.proofs.Common.{◌≡◌, ℕ, [], ◌∷◌, ◌++◌, None, Some, codes, refl, true, false}
-use Rattle.std.specs.Prelude.{pos, negsuc}
+use Rattle.office_looks.proofs.Common.{◌≡◌, ℕ, [], ◌∷◌, ◌++◌, None, Some, codes, refl, true, false, pos, flat_map}
+use Rattle.office_looks.proofs.Common.{Intel, Always, Std, Ext, Number, empty_sheet, Message, Signal, Integer, J1939}
+use Rattle.office_looks.proofs.Common.{Draft, View}
+use Rattle.std.specs.Prelude.{negsuc}
 use Rattle.std.specs.Fmt.{digits}
-use Rattle.std.specs.List.{flat_map}
-use Rattle.bitlayout.specs.declared.layout.Order.TheVariants.{Intel, Motorola}
-use Rattle.bitlayout.specs.declared.place.Mux.TheVariants.{Always, Under}
+use Rattle.bitlayout.specs.declared.layout.Order.TheVariants.{Motorola}
+use Rattle.bitlayout.specs.declared.place.Mux.TheVariants.{Under}
 use Rattle.can_id.specs.J1939.{ident_fields}
-use Rattle.can_id.specs.declared.ident.Ident.TheVariants.{Std, Ext}
-use Rattle.decimal.specs.Number.{Number}
 use Rattle.decimal.specs.Printing.{unsigned_text}
-use Rattle.dbc_sheet.specs.Sheet.{empty_sheet}
-use Rattle.dbc_sheet.specs.declared.message.Message.{Message}
-use Rattle.dbc_sheet.specs.declared.signal.Signal.{Signal}
-use Rattle.dbc_words.specs.declared.value_type.ValueType.TheVariants.{Integer, Float}
-use Rattle.office_types.specs.declared.command.NetKind.TheVariants.{J1939}
-use Rattle.office_types.specs.declared.state.Phase.TheVariants.{Draft}
-use Rattle.office_seen.specs.declared.view.View.{View}
+use Rattle.dbc_words.specs.declared.value_type.ValueType.TheVariants.{Float}
 use Rattle.office_looks.specs.Message.{field_facts, message_facts, message_table, message_text, signal_kinds}
 use Rattle.office_looks.specs.declared.message_whole.TheConstants.{MESSAGE}
 use Rattle.rows.specs.Fact.{of_maybe}

@@ -1,23 +1,16 @@
 -- The state, the messages, the held identifiers and the releases of a small network, and what changed in it.
-use Rattle.std.proofs.Common.{◌≡◌, List, [], ◌∷◌, ◌++◌, None, Some, codes, refl}
+use Rattle.office_looks.proofs.Common.{◌≡◌, List, [], ◌∷◌, ◌++◌, None, Some, codes, refl, option_map, Std, Ext}
+use Rattle.office_looks.proofs.Common.{empty_sheet, Message, Sheet, Pgn, J1939, View, table_text}
 use Rattle.std.specs.Fmt.{digits}
-use Rattle.std.specs.Prelude.{option_map}
-use Rattle.can_id.specs.declared.ident.Ident.TheVariants.{Std, Ext}
-use Rattle.dbc_sheet.specs.Sheet.{empty_sheet}
-use Rattle.dbc_sheet.specs.declared.message.Message.{Message}
-use Rattle.dbc_sheet.specs.declared.sheet.Sheet.{Sheet}
-use Rattle.office_types.specs.declared.block.BlockForm.TheVariants.{Pgn}
-use Rattle.office_types.specs.declared.command.NetKind.TheVariants.{J1939}
 use Rattle.office_types.specs.declared.state.Phase.TheVariants.{Review}
 use Rattle.dbc_compare.specs.Differences.{differences_about, field_changes, pair_differences, thing_differences}
-use Rattle.office_seen.specs.declared.view.View.{View}
 use Rattle.office_looks.specs.Compared.{compared_table}
 use Rattle.office_looks.specs.Held.{held_row, held_table}
 use Rattle.office_looks.specs.Messages.{messages_table}
 use Rattle.office_looks.specs.Releases.{releases_table}
 use Rattle.office_looks.specs.State.{state_table}
 use Rattle.office_looks.specs.declared.held.TheConstants.{HELD}
-use Rattle.rows.specs.Lines.{line_text, table_text}
+use Rattle.rows.specs.Lines.{line_text}
 
 abbrev plain : Message
 plain = record { ident = Std 256; name = codes "E1"; length = 64; transmitter = None; comment = []; signals = [] }

@@ -1,20 +1,9 @@
 -- The lines of nodes computed.
-use Rattle.std.proofs.Common.{◌≡◌, List, [], ◌∷◌, ◌++◌, None, Some, codes, refl, false}
-use Rattle.std.specs.Prelude.{option_map, pos}
+use Rattle.office_looks.proofs.Common.{◌≡◌, List, [], ◌∷◌, ◌++◌, None, Some, codes, refl, false, option_map, pos, Intel}
+use Rattle.office_looks.proofs.Common.{Always, Std, Ext, empty_sheet, Message, Node, Signal, Integer, J1939, Draft}
+use Rattle.office_looks.proofs.Common.{View, table_text}
 use Rattle.std.specs.Fmt.{digits}
-use Rattle.bitlayout.specs.declared.layout.Order.TheVariants.{Intel}
-use Rattle.bitlayout.specs.declared.place.Mux.TheVariants.{Always}
-use Rattle.can_id.specs.declared.ident.Ident.TheVariants.{Std, Ext}
-use Rattle.dbc_sheet.specs.Sheet.{empty_sheet}
-use Rattle.dbc_sheet.specs.declared.message.Message.{Message}
-use Rattle.dbc_sheet.specs.declared.node.Node.{Node}
-use Rattle.dbc_sheet.specs.declared.signal.Signal.{Signal}
-use Rattle.dbc_words.specs.declared.value_type.ValueType.TheVariants.{Integer}
-use Rattle.office_types.specs.declared.command.NetKind.TheVariants.{J1939}
-use Rattle.office_types.specs.declared.state.Phase.TheVariants.{Draft}
-use Rattle.office_seen.specs.declared.view.View.{View}
 use Rattle.office_looks.specs.Nodes.{node_table, nodes_table}
-use Rattle.rows.specs.Lines.{table_text}
 
 abbrev torque : Signal
 torque = record {

@@ -1,14 +1,10 @@
 -- The live messages with their owners, one after the other.
-use Rattle.std.proofs.Common.{◌≡◌, ◌+◌, ◌<◌, ◌≤◌, ◌++◌, ℕ, zero, suc, Bool, true, false, List, [], ◌∷◌, length, drop}
-use Rattle.std.proofs.Common.{filter, get_or, map, refl, sym, ap, ◌∙◌, arith, append_assoc, cond}
+use Rattle.office_looks.proofs.Common.{◌≡◌, ◌+◌, ◌<◌, ◌≤◌, ◌++◌, ℕ, zero, suc, Bool, true, false, List, [], ◌∷◌, length}
+use Rattle.office_looks.proofs.Common.{drop, filter, get_or, map, refl, sym, ap, ◌∙◌, arith, append_assoc, cond}
+use Rattle.office_looks.proofs.Common.{drop_more, length-append, length-map, flat_map, Message, signal_count, owned}
+use Rattle.office_looks.proofs.Common.{View}
 use Rattle.std.proofs.Math.Nat.{min-eq_left, min-eq_right}
-use Rattle.std.proofs.lemmas.List.{drop_more, length-append, length-map}
 use Rattle.std.proofs.lemmas.Slice.Zip.{get_or-zip, length-zip}
-use Rattle.std.specs.List.{flat_map}
-use Rattle.dbc_sheet.specs.declared.message.Message.{Message}
-use Rattle.office_views.specs.Table.{signal_count}
-use Rattle.office_seen.specs.View.{owned}
-use Rattle.office_seen.specs.declared.view.View.{View}
 use Rattle.office_looks.specs.Messages.{message_row}
 
 pub fewer_messages : (view : View) → length view.sheet.messages ≤ length view.owners

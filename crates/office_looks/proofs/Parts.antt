@@ -1,12 +1,11 @@
 -- The rows of parts, one after the other.
-use Rattle.std.proofs.Common.{◌≡◌, ◌∙◌, ◌+◌, ◌<◌, ℕ, zero, suc, List, [], ◌∷◌, map, ◌++◌, length, take, get_or, refl}
-use Rattle.std.proofs.Common.{sym, ap, append_assoc, arith}
+use Rattle.office_looks.proofs.Common.{◌≡◌, ◌∙◌, ◌+◌, ◌<◌, ℕ, zero, suc, List, [], ◌∷◌, map, ◌++◌, length, take, get_or}
+use Rattle.office_looks.proofs.Common.{refl, sym, ap, append_assoc, arith, take_more, Fact}
 use Rattle.std.specs.List.{enumerate_from}
-use Rattle.std.proofs.lemmas.List.{map-append, take_more}
+use Rattle.std.proofs.lemmas.List.{map-append}
 use Rattle.std.proofs.lemmas.List.FromFn.{get_or-enumerate_from, length-enumerate_from}
 use Rattle.office_types.specs.declared.reply.PartReply.{PartReply}
 use Rattle.office_looks.specs.Requests.{part_row, part_rows}
-use Rattle.rows.specs.Fact.{Fact}
 
 enumerate_take : (n i : ℕ) (xs : List PartReply) → enumerate_from n (take i xs) ≡ take i (enumerate_from n xs)
 enumerate_take n zero xs = refl

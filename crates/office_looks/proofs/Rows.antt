@@ -1,14 +1,13 @@
 -- The lists of requests computed.
-use Rattle.std.proofs.Common.{◌≡◌, ℕ, List, [], ◌∷◌, ◌++◌, codes, map, refl, arith}
+use Rattle.office_looks.proofs.Common.{◌≡◌, ℕ, List, [], ◌∷◌, ◌++◌, codes, map, refl, arith, flat_map, Lines}
+use Rattle.office_looks.proofs.Common.{table_text}
 use Rattle.std.specs.Fmt.{digits}
-use Rattle.std.specs.List.{flat_map}
 use Rattle.std.specs.List.Sorted.{IsStrictlySortedBy}
 use Rattle.std.proofs.lemmas.List.Elements.{All-from_recursion}
 use Rattle.std.proofs.lemmas.List.Sorted.{IsPermutation-refl}
 use Rattle.office_types.specs.declared.command.Action.TheVariants as act
 use Rattle.office_types.specs.declared.command.Command.{Command}
 use Rattle.office_types.specs.declared.command.Task.TheVariants.{Act}
-use Rattle.office_types.specs.declared.look.LookForm.TheVariants.{Lines}
 use Rattle.office_types.specs.declared.refusal.Refusal.TheVariants as no
 use Rattle.office_types.specs.declared.reply.PartReply.TheVariants as part
 use Rattle.office_types.specs.declared.reply.Reply.{Reply}
@@ -20,7 +19,7 @@ use Rattle.office_history.specs.History.{Answered}
 use Rattle.office_looks.specs.Requests.{IsReplied, IsRequestsText, asked, asked_of, content_front, has_more}
 use Rattle.office_looks.specs.Requests.{requests_table}
 use Rattle.rows.specs.Fact.{of_front}
-use Rattle.rows.specs.Lines.{fact_text, table_text}
+use Rattle.rows.specs.Lines.{fact_text}
 
 -- the lines of one request, and the last one
 abbrev lines_of : List ℕ → List ℕ → Reply → List ℕ

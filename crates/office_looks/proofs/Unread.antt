@@ -1,44 +1,36 @@
 -- What is shown for a look is the same where no more is read of the network than it depends on.
-use Rattle.std.proofs.Common.{Option, ◌≡◌, ◌+◌, ◌++◌, ℕ, Bool, true, false, cond, List, [], ◌∷◌, Some, None, length, map}
-use Rattle.std.proofs.Common.{filter, codes, nat_lt, refl, ap, ◌∙◌}
-use Rattle.std.specs.Prelude.{count_by, fold, option_map, sum, not, ◌==◌, if◌then◌else◌}
-use Rattle.std.specs.List.{flat_map}
-use Rattle.std.proofs.lemmas.List.{length-map}
-use Rattle.dbc_sheet.specs.Pairs.{counts_of}
-use Rattle.dbc_sheet.specs.declared.message.Message.{Message}
-use Rattle.dbc_sheet.specs.declared.node.Node.{Node}
-use Rattle.dbc_sheet.specs.declared.sheet.Sheet.{Sheet}
-use Rattle.dbc_sheet.specs.declared.signal.Signal.{Signal}
+use Rattle.office_looks.proofs.Common.{◌≡◌, ◌+◌, ◌++◌, ℕ, Bool, true, false, cond, List, [], ◌∷◌, Some, None, length}
+use Rattle.office_looks.proofs.Common.{map, filter, codes, refl, ap, ◌∙◌, count_by, option_map, flat_map, length-map}
+use Rattle.office_looks.proofs.Common.{counts_of, Message, Node, Sheet, Signal, BlockForm, Lines, GrantedBlock}
+use Rattle.office_looks.proofs.Common.{last_release, View, block_row, sends, Fact}
+use Rattle.std.proofs.Common.{Option, nat_lt}
+use Rattle.std.specs.Prelude.{fold, sum, not, ◌==◌, if◌then◌else◌}
 use Rattle.office_rules.specs.Facts.{has_node}
 use Rattle.office_types.specs.Block.{same_form}
 use Rattle.office_types.specs.State.{live_messages}
-use Rattle.office_types.specs.declared.block.BlockForm.{BlockForm}
 use Rattle.office_types.specs.declared.block.BlockForm.TheVariants as form
 use Rattle.office_types.specs.declared.book.SpnBook.{SpnBook}
 use Rattle.office_types.specs.declared.look.LookForm.{LookForm}
-use Rattle.office_types.specs.declared.look.LookForm.TheVariants.{Json, Lines}
+use Rattle.office_types.specs.declared.look.LookForm.TheVariants.{Json}
 use Rattle.office_types.specs.declared.look.NetLook.{NetLook}
 use Rattle.office_types.specs.declared.look.NetLook.TheVariants as look
 use Rattle.office_types.specs.declared.overview.Overview.TheVariants as overview
 use Rattle.office_types.specs.declared.overview.TeamOverview.TheVariants as of_team
-use Rattle.office_types.specs.declared.state.GrantedBlock.{GrantedBlock}
 use Rattle.office_types.specs.declared.state.LiveMessage.{LiveMessage}
 use Rattle.office_types.specs.declared.state.Net.{Net}
-use Rattle.office_seen.specs.Since.{last_release}
 use Rattle.office_seen.specs.View.{blocks_of, view_of}
-use Rattle.office_seen.specs.declared.view.View.{View}
-use Rattle.office_blocks.specs.Blocks.{block_row, blocks_table, free_count, free_of_form, ident_numbers, is_wanted, live_idents}
+use Rattle.office_blocks.specs.Blocks.{blocks_table, free_count, free_of_form, ident_numbers, is_wanted, live_idents}
 use Rattle.office_blocks.specs.Blocks.{live_numbers, row_with, spns_of, taken_numbers}
 use Rattle.office_blocks.specs.declared.blocks.TheConstants.{BLOCKS, BLOCK_TOTALS}
 use Rattle.office_looks.specs.Looks.{list_in, shown_of, table_of, text_of}
-use Rattle.office_views.specs.Sending.{received, receives, receives_some, sends}
+use Rattle.office_views.specs.Sending.{received, receives, receives_some}
 use Rattle.office_looks.specs.Nodes.{counts_row, node_row, received_rows, sent_rows, use_row, uses_table}
 use Rattle.office_looks.specs.Reads.{AreRead, net_read, reads_of, received_of, row_of, with_signals}
 use Rattle.office_looks.specs.State.{state_row}
 use Rattle.office_looks.specs.declared.nodes.TheConstants.{NODES, NODE_TOTALS, USES, USE_TOTALS}
 use Rattle.office_looks.specs.declared.state.TheConstants.{STATE}
-use Rattle.office_looks.specs.declared.reads.MessagesRead.TheVariants.{Nothing, Received, Rows, Whole}
-use Rattle.rows.specs.Fact.{Fact, of_number}
+use Rattle.office_looks.specs.declared.reads.MessagesRead.TheVariants.{Nothing, Rows, Whole}
+use Rattle.rows.specs.Fact.{of_number}
 use Rattle.rows.specs.Table.{Listing, headed, plain}
 
 -- ---- lists

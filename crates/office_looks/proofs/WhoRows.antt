@@ -1,26 +1,13 @@
 -- Who has a name or a number, computed on a small network.
-use Rattle.std.proofs.Common.{◌≡◌, false, ℕ, List, [], ◌∷◌, ◌++◌, None, Some, codes, refl}
+use Rattle.office_looks.proofs.Common.{◌≡◌, false, ℕ, List, [], ◌∷◌, ◌++◌, None, Some, codes, refl, option_map, pos}
+use Rattle.office_looks.proofs.Common.{Intel, Always, Number, Integer, empty_sheet, Message, Sheet, Signal, Pgn}
+use Rattle.office_looks.proofs.Common.{BlockForm, J1939, GrantedBlock, Draft, View, table_text}
 use Rattle.std.specs.Fmt.{digits}
-use Rattle.std.specs.Prelude.{option_map, pos}
-use Rattle.bitlayout.specs.declared.layout.Order.TheVariants.{Intel}
-use Rattle.bitlayout.specs.declared.place.Mux.TheVariants.{Always}
 use Rattle.can_id.specs.declared.ident.Ident.{Ident}
 use Rattle.can_id.specs.declared.ident.Ident.TheVariants as id
-use Rattle.decimal.specs.Number.{Number}
-use Rattle.dbc_words.specs.declared.value_type.ValueType.TheVariants.{Integer}
-use Rattle.dbc_sheet.specs.Sheet.{empty_sheet}
-use Rattle.dbc_sheet.specs.declared.message.Message.{Message}
-use Rattle.dbc_sheet.specs.declared.sheet.Sheet.{Sheet}
-use Rattle.dbc_sheet.specs.declared.signal.Signal.{Signal}
-use Rattle.office_types.specs.declared.block.BlockForm.TheVariants.{Std, Ext, Pgn, Spn}
-use Rattle.office_types.specs.declared.block.BlockForm.{BlockForm}
-use Rattle.office_types.specs.declared.command.NetKind.TheVariants.{J1939}
+use Rattle.office_types.specs.declared.block.BlockForm.TheVariants.{Std, Ext, Spn}
 use Rattle.office_types.specs.declared.sought.Sought.TheVariants as sought
-use Rattle.office_types.specs.declared.state.GrantedBlock.{GrantedBlock}
-use Rattle.office_types.specs.declared.state.Phase.TheVariants.{Draft}
-use Rattle.office_seen.specs.declared.view.View.{View}
 use Rattle.office_looks.specs.Who.{numbers_sought, who_table}
-use Rattle.rows.specs.Lines.{table_text}
 
 abbrev zero_value : Number
 zero_value = record { mantissa = pos 0; exponent = pos 0 }

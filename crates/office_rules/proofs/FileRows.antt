@@ -1,23 +1,15 @@
 -- Worked examples of imported files, computed from the definitions.
-use Rattle.std.proofs.Common.{◌≡◌, ℕ, false, List, [], ◌∷◌, map, Some, None, refl}
-use Rattle.std.specs.Prelude.{codes}
+use Rattle.office_rules.proofs.Common.{◌≡◌, ℕ, false, List, [], ◌∷◌, map, Some, None, refl, codes, Intel, Always}
+use Rattle.office_rules.proofs.Common.{empty_sheet, Sheet, Signal, Can, J1939, Broadcast, Done, Number, Counts, Release}
+use Rattle.office_rules.proofs.Common.{Refused, Net}
 use Rattle.bitlayout.specs.Bits.{walk, shares_bit, is_inside}
 use Rattle.bitlayout.specs.Clash.{clash_after}
 use Rattle.bitlayout.specs.First.{first_answer}
-use Rattle.bitlayout.specs.declared.layout.Order.TheVariants.{Intel}
-use Rattle.bitlayout.specs.declared.place.Mux.TheVariants.{Always}
 use Rattle.can_id.specs.declared.ident.Ident.TheVariants as id
 use Rattle.dbc_words.specs.declared.value_type.ValueType.TheVariants.{Integer}
-use Rattle.dbc_sheet.specs.Sheet.{empty_sheet}
-use Rattle.dbc_sheet.specs.declared.sheet.Sheet.{Sheet}
-use Rattle.dbc_sheet.specs.declared.signal.Signal.{Signal}
 use Rattle.office_types.specs.declared.block.BlockForm.TheVariants as block
 use Rattle.office_types.specs.declared.command.Action.TheVariants as act
-use Rattle.office_types.specs.declared.command.NetKind.TheVariants.{Can, J1939}
-use Rattle.office_types.specs.declared.command.Pdu.TheVariants.{Broadcast}
 use Rattle.office_types.specs.declared.refusal.Refusal.TheVariants as no
-use Rattle.office_types.specs.declared.reply.Reply.TheVariants.{Done, Number, Counts, Release, Refused}
-use Rattle.office_types.specs.declared.state.Net.{Net}
 use Rattle.office_rules.specs.Facts.{taken_groups}
 use Rattle.office_rules.specs.Importing.{Unreadable}
 use Rattle.office_rules.specs.Step.{opening}

@@ -1,7 +1,7 @@
 -- Identifiers that are the same.
-use Rattle.std.proofs.Common.{◌≡◌, true, ap, eqb-true}
+use Rattle.office_rules.proofs.Common.{◌≡◌, Ident}
+use Rattle.std.proofs.Common.{true, ap, eqb-true}
 use Rattle.std.proofs.lemmas.Bool.{false≢true}
-use Rattle.can_id.specs.declared.ident.Ident.{Ident}
 use Rattle.can_id.specs.declared.ident.Ident.TheVariants as id
 use Rattle.office_rules.specs.Facts.{same_ident}
 

@@ -1,3 +1,4 @@
+pub mod Common
 pub mod TeamCommand
 mod Rows
 mod FileRows

@@ -1,6 +1,7 @@
 -- Worked examples of the profiles: which sheets are of the first one, and what a file with a longer message is read as.
-use Rattle.std.proofs.Common.{◌≡◌, ◌≤◌, ◌+◌, ℕ, List, [], ◌∷◌, Some, None, refl, arith, subst}
-use Rattle.std.specs.Prelude.{codes, length}
+use Rattle.office_rules.proofs.Common.{◌≡◌, ◌≤◌, ◌+◌, ℕ, List, [], ◌∷◌, Some, None, refl, arith, subst, codes}
+use Rattle.office_rules.proofs.Common.{empty_sheet, Sheet}
+use Rattle.std.specs.Prelude.{length}
 use Rattle.std.specs.List.{IsDistinct}
 use Rattle.std.specs.List.Sorted.{IsStrictlySortedBy}
 use Rattle.std.proofs.lemmas.List.Elements.{All-from_recursion}
@@ -9,8 +10,6 @@ use Rattle.dbc_words.specs.Name.{is_name}
 use Rattle.dbc_words.specs.declared.keyword.Keyword.TheVariants as keyword
 use Rattle.dbc_words.proofs.Texts.{text-Decides}
 use Rattle.dbc_sheet.specs.Form.{IsMessage, IsNode, IsSheet, IsSignal, IsTable}
-use Rattle.dbc_sheet.specs.Sheet.{empty_sheet}
-use Rattle.dbc_sheet.specs.declared.sheet.Sheet.{Sheet}
 use Rattle.dbc_grammar.specs.Lexing.{exponent_len, first_token, lexed, lexed_in, number_len, power_len, tail_len}
 use Rattle.dbc_grammar.specs.Lexing.{token_at, word_len}
 use Rattle.dbc_grammar.specs.Parsing.{line_at, message_at, signals_at, statement_at, statements_at}

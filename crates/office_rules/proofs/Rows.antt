@@ -1,36 +1,30 @@
 -- Worked examples of commands without a file, computed from the definitions.
-use Rattle.std.proofs.Common.{◌≡◌, ◌+◌, ◌/◌, ℕ, List, [], ◌∷◌, map, Option, Some, None, refl, subst, sym}
+use Rattle.office_rules.proofs.Common.{◌≡◌, ◌+◌, ℕ, List, [], ◌∷◌, map, Option, Some, None, refl, subst, codes, Intel}
+use Rattle.office_rules.proofs.Common.{Always, Standard, Ident, roster_limit, empty_sheet, Sheet, Signal, ValueText}
+use Rattle.office_rules.proofs.Common.{Can, J1939, Broadcast, Reply, Done, Number, Counts, Release, Refused, Net}
+use Rattle.std.proofs.Common.{◌/◌, sym}
 use Rattle.std.proofs.lemmas.Bool.{true≢false}
 use Rattle.std.specs.List.{range_with_len}
-use Rattle.std.specs.Prelude.{◌%◌, codes}
+use Rattle.std.specs.Prelude.{◌%◌}
 use Rattle.base.specs.Refusing.{first_refusal}
 use Rattle.bitlayout.specs.Bits.{walk, shares_bit, is_inside}
 use Rattle.bitlayout.specs.Clash.{clash_after}
 use Rattle.bitlayout.specs.First.{first_answer}
-use Rattle.bitlayout.specs.declared.layout.Order.TheVariants.{Intel, Motorola}
-use Rattle.bitlayout.specs.declared.place.Mux.TheVariants.{Always, Multiplexor, Under}
-use Rattle.can_id.specs.declared.form.IdentForm.TheVariants.{Standard}
-use Rattle.can_id.specs.declared.ident.Ident.{Ident}
+use Rattle.bitlayout.specs.declared.layout.Order.TheVariants.{Motorola}
+use Rattle.bitlayout.specs.declared.place.Mux.TheVariants.{Multiplexor, Under}
 use Rattle.can_id.specs.declared.ident.Ident.TheVariants as id
-use Rattle.dbc_words.specs.Limits.{roster_limit}
 use Rattle.dbc_words.specs.declared.fault.SheetCode.{SheetCode}
 use Rattle.dbc_words.specs.declared.fault.SheetCode.TheVariants.{DoubleName}
-use Rattle.dbc_sheet.specs.Sheet.{empty_sheet, node_name}
+use Rattle.dbc_sheet.specs.Sheet.{node_name}
 use Rattle.dbc_sheet.specs.Signals.{signal_tests}
-use Rattle.dbc_sheet.specs.declared.sheet.Sheet.{Sheet}
-use Rattle.dbc_sheet.specs.declared.signal.Signal.{Signal}
-use Rattle.dbc_sheet.specs.declared.value_texts.ValueText.{ValueText}
 use Rattle.office_types.specs.declared.block.BlockForm.TheVariants as block
 use Rattle.office_types.specs.declared.change.Change.TheVariants.{AddSignal, RemoveSignal, SetBlock}
 use Rattle.office_types.specs.declared.command.Action.TheVariants as act
-use Rattle.office_types.specs.declared.command.NetKind.TheVariants.{Can, J1939}
-use Rattle.office_types.specs.declared.command.Pdu.TheVariants.{Addressed, Broadcast}
+use Rattle.office_types.specs.declared.command.Pdu.TheVariants.{Addressed}
 use Rattle.office_types.specs.declared.refusal.Refusal.TheVariants as no
-use Rattle.office_types.specs.declared.reply.Reply.{Reply}
-use Rattle.office_types.specs.declared.reply.Reply.TheVariants.{Done, Number, Start, Counts, Release, Refused, Bundle}
+use Rattle.office_types.specs.declared.reply.Reply.TheVariants.{Start, Bundle}
 use Rattle.office_types.specs.declared.reply.PartReply.TheVariants as part
 use Rattle.office_types.specs.declared.state.LiveMessage.{LiveMessage}
-use Rattle.office_types.specs.declared.state.Net.{Net}
 use Rattle.office_types.specs.declared.state.Phase.TheVariants.{Draft}
 use Rattle.office_rules.specs.Change.{Fits, HaveOwnBlocks, net_changed}
 use Rattle.office_rules.specs.Opening.{bare_net}

@@ -1,7 +1,5 @@
 -- Runs of the office with one step more.
-use Rattle.std.proofs.Common.{List, [], ◌∷◌, ◌++◌, refl, subst}
-use Rattle.office_types.specs.declared.reply.Reply.{Reply}
-use Rattle.office_types.specs.declared.state.Office.{Office}
+use Rattle.office_rules.proofs.Common.{List, [], ◌∷◌, ◌++◌, refl, subst, Reply, Office}
 use Rattle.office_rules.specs.Step.{TeamCommand, Run, Step}
 
 pub run_more : (a b c : Office) (qs : List TeamCommand) (rs : List Reply) (q : TeamCommand) (r : Reply)

@@ -1,15 +1,11 @@
 -- Requests, one after the other, and what they are answered: for worked examples.
-use Rattle.std.proofs.Common.{ℕ, false, List, [], ◌∷◌, map, Option, None}
-use Rattle.std.specs.Prelude.{pos, codes}
+use Rattle.office_rules.proofs.Common.{ℕ, false, List, [], ◌∷◌, map, Option, None, codes, Standard, Ident, empty_sheet}
+use Rattle.office_rules.proofs.Common.{Sheet, Signal, ValueText, Can, Reply, Office}
+use Rattle.std.specs.Prelude.{pos}
 use Rattle.bitlayout.specs.declared.layout.Order.{Order}
 use Rattle.bitlayout.specs.declared.place.Mux.{Mux}
-use Rattle.can_id.specs.declared.form.IdentForm.TheVariants.{Standard, Extended}
-use Rattle.can_id.specs.declared.ident.Ident.{Ident}
-use Rattle.dbc_sheet.specs.Sheet.{empty_sheet}
+use Rattle.can_id.specs.declared.form.IdentForm.TheVariants.{Extended}
 use Rattle.dbc_sheet.specs.declared.message.Message.{Message}
-use Rattle.dbc_sheet.specs.declared.sheet.Sheet.{Sheet}
-use Rattle.dbc_sheet.specs.declared.signal.Signal.{Signal}
-use Rattle.dbc_sheet.specs.declared.value_texts.ValueText.{ValueText}
 use Rattle.decimal.specs.Number.{Number}
 use Rattle.office_types.specs.declared.block.BlockForm.{BlockForm}
 use Rattle.office_types.specs.declared.block.BlockForm.TheVariants as block
@@ -17,15 +13,12 @@ use Rattle.office_types.specs.declared.command.Action.{Action}
 use Rattle.office_types.specs.declared.command.Action.TheVariants as act
 use Rattle.office_types.specs.declared.command.Command.{Command}
 use Rattle.office_types.specs.declared.command.NetKind.{NetKind}
-use Rattle.office_types.specs.declared.command.NetKind.TheVariants.{Can}
 use Rattle.office_types.specs.declared.command.NewMessage.{NewMessage}
 use Rattle.office_types.specs.declared.command.Pdu.{Pdu}
 use Rattle.office_types.specs.declared.command.SignalPath.{SignalPath}
 use Rattle.office_types.specs.declared.command.TakeBits.{TakeBits}
 use Rattle.office_types.specs.declared.command.Task.{Task}
 use Rattle.office_types.specs.declared.command.Task.TheVariants.{Act, Import, Bundle}
-use Rattle.office_types.specs.declared.reply.Reply.{Reply}
-use Rattle.office_types.specs.declared.state.Office.{Office}
 use Rattle.office_rules.specs.Importing.{FileReading, Reading}
 use Rattle.office_rules.specs.Outcome.{reply_of}
 use Rattle.office_rules.specs.Step.{step_outcome, office_after}

@@ -1,5 +1,6 @@
 -- The nodes or the value tables of a frame, with what is new in a file.
-use Rattle.std.proofs.Common.{◌≡◌, ◌≤◌, ◌+◌, not, false, ℕ, List, [], ◌∷◌, ◌++◌, length, arith}
+use Rattle.office_rules.proofs.Common.{◌≡◌, ◌≤◌, ◌+◌, false, ℕ, List, [], ◌∷◌, ◌++◌, arith, roster_limit}
+use Rattle.std.proofs.Common.{not, length}
 use Rattle.std.specs.Prelude.{nat_lt}
 use Rattle.std.specs.List.{AllByRecursion, IsDistinct}
 use Rattle.std.specs.Str.{bytes_eq}
@@ -7,7 +8,6 @@ use Rattle.std.proofs.lemmas.Bool.{not-true, or_parts}
 use Rattle.std.proofs.lemmas.Bool.Decides.{nat_tests}
 use Rattle.std.proofs.lemmas.List.{length-append}
 use Rattle.std.proofs.lemmas.List.Elements.{filter_passes, recursion_from_All}
-use Rattle.dbc_words.specs.Limits.{roster_limit}
 use Rattle.dbc_words.specs.Named.{AreNamedApart, has_name}
 use Rattle.dbc_words.proofs.Naming.{apart-filter}
 use Rattle.dbc_sheet.specs.WellFormed.{AreRostered}

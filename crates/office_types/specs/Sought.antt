@@ -1,9 +1,9 @@
 -- What a word looks for: `pgn=` or `spn=` and 1 to 6 digits, `0x` and 1 to 8 hexadecimal digits, 1 to 10 digits, or a
 -- name.
-use Rattle.std.specs.Prelude.{ℕ, ◌+◌, ◌*◌, ◌==◌, ◌&&◌, nat_le, nat_lt, not, List, [], ◌∷◌, length, take, drop, codes}
+use Rattle.std.specs.Prelude.{ℕ, ◌+◌, ◌*◌, ◌&&◌, nat_le, nat_lt, List, [], ◌∷◌, length, take, drop, codes}
 use Rattle.std.specs.Prelude.{Option, Some, None, if◌then◌else◌}
 use Rattle.std.specs.Char.{digit_value}
-use Rattle.std.specs.Option.{option_and_then, option_map}
+use Rattle.std.specs.Option.{option_map}
 use Rattle.std.specs.Str.{bytes_eq}
 use Rattle.base.specs.Split.{split_once}
 use Rattle.base.specs.WholeNumber.{whole_of}

@@ -1,8 +1,4 @@
-use Rattle.std.proofs.Common.{◌∷◌, [], ◌∙◌, List, sym, ap}
-use Rattle.std.proofs.lemmas.Result.{on_ok_weaker}
-use Rattle.office_types.specs.declared.book.SpnBlock.{SpnBlock}
-use Rattle.office_types.specs.declared.change.Change.{Change}
-use Rattle.office_types.specs.declared.state.Office.{Office}
+use Rattle.office.proofs.Common.{◌∷◌, [], ◌∙◌, List, sym, ap, on_ok_weaker, SpnBlock, Change, Office}
 use Rattle.office.specs.OfficeApplied.{office_applied}
 use Rattle.office.proofs.AppliedToOffice.{block_applied, number_applied}
 use Rattle.office.proofs.applying.apply_one.Goals as goal

@@ -1,6 +1,5 @@
-use Rattle.std.proofs.Common.{◌≡◌, ◌∙◌, [], ap, sym}
+use Rattle.office.proofs.Common.{◌≡◌, ◌∙◌, [], ap, sym, Office}
 use Rattle.std.proofs.lemmas.List.{nil_from_length}
-use Rattle.office_types.specs.declared.state.Office.{Office}
 use Rattle.office.specs.OfficeApplied.{office_applied}
 use Rattle.office.proofs.AppliedToOffice.{nothing_applied}
 use Rattle.office.proofs.applying.apply_without_net.Goals as goal

@@ -1,5 +1,4 @@
-use Rattle.std.proofs.Common.{◌∙◌, ap, sym, subst}
-use Rattle.office_rules.specs.Change.{AllFit, NetAndBook, all_applied}
+use Rattle.office.proofs.Common.{◌∙◌, ap, sym, subst, AllFit, NetAndBook, all_applied}
 use Rattle.office.proofs.CarriedThere.{stays_there}
 use Rattle.office.proofs.applying_in_place.apply_all.Goals as goal
 

@@ -1,7 +1,5 @@
-use Rattle.std.proofs.Common.{◌∙◌, List, Some, length, ap, sym, subst}
-use Rattle.std.proofs.lemmas.Result.{on_ok_weaker}
-use Rattle.office_types.specs.declared.change.Change.{Change}
-use Rattle.office_rules.specs.Change.{AllFit, NetAndBook, all_applied}
+use Rattle.office.proofs.Common.{◌∙◌, List, Some, length, ap, sym, subst, on_ok_weaker, Change, AllFit, NetAndBook}
+use Rattle.office.proofs.Common.{all_applied}
 use Rattle.office.proofs.CarriedThere.{by_both, one_is, one_there, two_are}
 use Rattle.office.proofs.applying_in_place.apply_in_place.Goals as goal
 

@@ -1,4 +1,4 @@
-use Rattle.std.proofs.Common.{◌∙◌, sym, subst}
+use Rattle.office.proofs.Common.{◌∙◌, sym, subst}
 use Rattle.office.specs.Indexed.{IsIndexIfThere}
 use Rattle.office.proofs.CarriedThere.{index-either}
 use Rattle.office.proofs.applying_in_place.change_otherwise.Goals as goal

@@ -1,7 +1,4 @@
-use Rattle.std.proofs.Common.{List, sym, subst}
-use Rattle.std.specs.List.Sorted.{IsStrictlySortedBy}
-use Rattle.office_types.specs.State.{by_number}
-use Rattle.office_types.specs.declared.state.LiveMessage.{LiveMessage}
+use Rattle.office.proofs.Common.{List, sym, subst, IsStrictlySortedBy, by_number, LiveMessage}
 use Rattle.office.proofs.Looked.{live_rises}
 use Rattle.office.proofs.applying_in_place.remove_and_hold.Goals as goal
 

@@ -1,5 +1,4 @@
-use Rattle.std.proofs.Common.{◌∙◌, Some, sym}
-use Rattle.office_types.specs.declared.change.Change.TheVariants.{EnterSpn, SetSpn}
+use Rattle.office.proofs.Common.{◌∙◌, Some, sym, EnterSpn, SetSpn}
 use Rattle.office.proofs.CarriedThere.{two_there}
 use Rattle.office.proofs.applying_in_place.set_and_enter.Goals as goal
 

@@ -1,5 +1,4 @@
-use Rattle.std.proofs.Common.{◌++◌, ◌∷◌, ◌∙◌, [], sym}
-use Rattle.std.proofs.lemmas.Result.{on_ok_weaker}
+use Rattle.office.proofs.Common.{◌++◌, ◌∷◌, ◌∙◌, [], sym, on_ok_weaker}
 use Rattle.office.proofs.Changed.{index-if_added}
 use Rattle.office.proofs.InPlace.{changed_in_place, fits_there, has_index, is_within}
 use Rattle.office.proofs.changing.add_signal_in.Goals as goal

@@ -1,10 +1,5 @@
-use Rattle.std.proofs.Common.{◌∙◌, List, ap, sym, subst}
-use Rattle.std.proofs.lemmas.Option.{get_or_from_slice_get}
-use Rattle.base.specs.Ascending.{IsAt, IsGap}
-use Rattle.can_id.specs.Ident.{dbc_number}
-use Rattle.can_id.specs.declared.ident.Ident.{Ident}
-use Rattle.office_types.specs.declared.state.LiveMessage.{LiveMessage}
-use Rattle.office_rules.specs.Facts.{live_name}
+use Rattle.office.proofs.Common.{◌∙◌, List, ap, sym, subst, get_or_from_slice_get, IsAt, IsGap, dbc_number, Ident}
+use Rattle.office.proofs.Common.{LiveMessage, live_name}
 use Rattle.office.specs.Indexed.{IsIndexIfThere}
 use Rattle.office.proofs.Changed.{gap_there, hold_insert, removable, without_found}
 use Rattle.office.proofs.changing.hold_message.Goals as goal

@@ -1,10 +1,5 @@
-use Rattle.std.proofs.Common.{◌∙◌, List, ap, sym, subst}
-use Rattle.std.specs.List.{list_any}
-use Rattle.std.specs.List.Sorted.{IsStrictlySortedBy}
-use Rattle.std.proofs.lemmas.Option.{get_or_from_slice_get}
-use Rattle.office_types.specs.State.{by_number}
-use Rattle.office_types.specs.declared.state.LiveMessage.{LiveMessage}
-use Rattle.office_rules.specs.Facts.{has_ident, live_name}
+use Rattle.office.proofs.Common.{◌∙◌, List, ap, sym, subst, list_any, IsStrictlySortedBy, get_or_from_slice_get}
+use Rattle.office.proofs.Common.{by_number, LiveMessage, has_ident, live_name}
 use Rattle.office.specs.Indexed.{IsIndexIfThere, IsFoundAt}
 use Rattle.office.proofs.Changed.{none_without, removable, without_found}
 use Rattle.office.proofs.Looked.{live_rises}

@@ -1,5 +1,4 @@
-use Rattle.std.proofs.Common.{◌≡◌, ◌∙◌, List, get_or, ap, sym, subst}
-use Rattle.office_types.specs.declared.state.LiveMessage.{LiveMessage}
+use Rattle.office.proofs.Common.{◌≡◌, ◌∙◌, List, get_or, ap, sym, subst, LiveMessage}
 use Rattle.office.specs.Indexed.{IsIndexIfThere, indexed_alike}
 use Rattle.office.proofs.Indexes.{index-replaced}
 use Rattle.office.proofs.changing.replace_message.Goals as goal

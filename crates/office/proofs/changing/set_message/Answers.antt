@@ -1,7 +1,4 @@
-use Rattle.std.proofs.Common.{◌∙◌, List, ap, sym, subst}
-use Rattle.std.proofs.lemmas.Result.{on_ok_weaker}
-use Rattle.base.specs.Ascending.{IsAt, IsGap}
-use Rattle.office_types.specs.declared.state.LiveMessage.{LiveMessage}
+use Rattle.office.proofs.Common.{◌∙◌, List, ap, sym, subst, on_ok_weaker, IsAt, IsGap, LiveMessage}
 use Rattle.office.specs.Indexed.{live_number}
 use Rattle.office.proofs.Changed.{put_insert, put_set}
 use Rattle.office.proofs.changing.set_message.Goals as goal

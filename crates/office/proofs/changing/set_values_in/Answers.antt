@@ -1,7 +1,4 @@
-use Rattle.std.proofs.Common.{◌∙◌, List, sym}
-use Rattle.dbc_sheet.specs.Signals.{at_signal}
-use Rattle.office_types.specs.declared.state.LiveMessage.{LiveMessage}
-use Rattle.dbc_sheet.specs.declared.signal.Signal.{Signal}
+use Rattle.office.proofs.Common.{◌∙◌, List, sym, at_signal, LiveMessage, Signal}
 use Rattle.office.proofs.Changed.{index-with_signals}
 use Rattle.office.proofs.InPlace.{changed_in_place, is_within, none_changed}
 use Rattle.office.proofs.changing.set_values_in.Goals as goal

@@ -1,4 +1,4 @@
-use Rattle.std.proofs.Common.{sym}
+use Rattle.office.proofs.Common.{sym}
 use Rattle.office.proofs.Kept.{first_came, none_came}
 use Rattle.office.proofs.first.answer_at.Goals as goal
 

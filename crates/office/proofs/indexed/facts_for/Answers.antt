@@ -1,5 +1,4 @@
-use Rattle.std.proofs.Common.{sym, subst}
-use Rattle.office_facts.specs.Excerpt.{AreFacts}
+use Rattle.office.proofs.Common.{sym, subst, AreFacts}
 use Rattle.office_facts.specs.FactsOf.{Numbers, number_facts_of}
 use Rattle.office_facts.specs.Scope.{scope_as}
 use Rattle.office_facts.specs.declared.scope.Scope.{Scope}

@@ -1,6 +1,4 @@
-use Rattle.std.proofs.Common.{◌∙◌, [], ap, sym}
-use Rattle.std.specs.Prelude.{is_some}
-use Rattle.office_types.specs.Free.{is_taken}
+use Rattle.office.proofs.Common.{◌∙◌, [], ap, sym, is_some, is_taken}
 use Rattle.office_rules.specs.Facts.{NumberFacts, group_facts}
 use Rattle.office.specs.Indexed.{live_number}
 use Rattle.office.proofs.Indexes.{named}

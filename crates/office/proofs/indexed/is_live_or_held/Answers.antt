@@ -1,8 +1,5 @@
-use Rattle.std.proofs.Common.{◌∙◌, ap, sym, subst}
-use Rattle.std.specs.List.Sorted.{IsStrictlySortedBy}
-use Rattle.can_id.specs.Ident.{ident_of}
-use Rattle.office_types.specs.State.{by_number}
-use Rattle.office_rules.specs.Facts.{is_held, is_live, is_wanted}
+use Rattle.office.proofs.Common.{◌∙◌, ap, sym, subst, IsStrictlySortedBy, ident_of, by_number, is_held}
+use Rattle.office_rules.specs.Facts.{is_live, is_wanted}
 use Rattle.office.proofs.Looked.{live_rises, no_identifier, not_held, not_live}
 use Rattle.office.proofs.indexed.is_live_or_held.Goals as goal
 

@@ -1,5 +1,4 @@
-use Rattle.std.proofs.Common.{◌∙◌, sym, subst}
-use Rattle.base.specs.Ascending.{IsAt, IsGap}
+use Rattle.office.proofs.Common.{◌∙◌, sym, subst, IsAt, IsGap}
 use Rattle.office.specs.Indexed.{live_number}
 use Rattle.office.proofs.Looked.{none_there, other_there, ident_found}
 use Rattle.office.proofs.looking_up.find_ident.Goals as goal

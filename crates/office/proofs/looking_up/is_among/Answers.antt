@@ -1,7 +1,4 @@
-use Rattle.std.proofs.Common.{◌∙◌, ap, sym, subst}
-use Rattle.base.specs.Ascending.{IsAt, IsGap}
-use Rattle.can_id.specs.Ident.{dbc_number}
-use Rattle.office_rules.specs.Facts.{same_ident}
+use Rattle.office.proofs.Common.{◌∙◌, ap, sym, subst, IsAt, IsGap, dbc_number, same_ident}
 use Rattle.office.proofs.Looked.{among_at, among_none}
 use Rattle.office.proofs.looking_up.is_among.Goals as goal
 

@@ -1,4 +1,4 @@
-use Rattle.std.proofs.Common.{◌∙◌}
+use Rattle.office.proofs.Common.{◌∙◌}
 use Rattle.office.proofs.Looked.{live_if_found}
 use Rattle.office.proofs.looking_up.is_live.Goals as goal
 

@@ -1,6 +1,5 @@
-use Rattle.std.proofs.Common.{◌∙◌, sym, ap, subst}
+use Rattle.office.proofs.Common.{◌∙◌, sym, ap, subst, IsAt, IsGap}
 use Rattle.std.specs.Option.{option_copied}
-use Rattle.base.specs.Ascending.{IsAt, IsGap}
 use Rattle.office.specs.Indexed.{live_number}
 use Rattle.office.proofs.Looked.{leads_there, never_gap, not_named}
 use Rattle.office.proofs.looking_up.look_up.Goals as goal

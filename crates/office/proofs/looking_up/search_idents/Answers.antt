@@ -1,7 +1,4 @@
-use Rattle.std.proofs.Common.{rules}
-use Rattle.std.proofs.lemmas.List.Sorted.{answers_always}
-use Rattle.base.proofs.AscendingLists.{searched}
-use Rattle.can_id.specs.Ident.{dbc_number}
+use Rattle.office.proofs.Common.{rules, answers_always, searched, dbc_number}
 use Rattle.office.proofs.looking_up.search_idents.Goals as goal
 
 pub returns : goal.returns

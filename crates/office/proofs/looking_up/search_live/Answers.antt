@@ -1,6 +1,4 @@
-use Rattle.std.proofs.Common.{rules}
-use Rattle.std.proofs.lemmas.List.Sorted.{answers_always}
-use Rattle.base.proofs.AscendingLists.{searched}
+use Rattle.office.proofs.Common.{rules, answers_always, searched}
 use Rattle.office.specs.Indexed.{live_number}
 use Rattle.office.proofs.looking_up.search_live.Goals as goal
 

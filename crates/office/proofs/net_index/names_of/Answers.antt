@@ -1,10 +1,5 @@
-use Rattle.std.proofs.Common.{◌≡◌, ◌∙◌, ◌+◌, ◌-◌, ◌<◌, ◌∷◌, List, Some, cond, length, drop, get_or, sym, ap, subst}
-use Rattle.std.proofs.Common.{arith}
-use Rattle.std.specs.BTreeMap.{get}
-use Rattle.std.specs.Ordering.{is_eq}
-use Rattle.std.proofs.lemmas.List.{drop_more}
-use Rattle.base.specs.Keyed.{text_cmp}
-use Rattle.office_types.specs.declared.state.LiveMessage.{LiveMessage}
+use Rattle.office.proofs.Common.{◌≡◌, ◌∙◌, ◌+◌, ◌-◌, ◌<◌, ◌∷◌, List, Some, cond, length, drop, get_or, sym, ap, subst}
+use Rattle.office.proofs.Common.{arith, get, is_eq, drop_more, text_cmp, LiveMessage}
 use Rattle.office.proofs.Indexes.{AreNames, names-first}
 use Rattle.office.proofs.net_index.names_of.Goals as goal
 

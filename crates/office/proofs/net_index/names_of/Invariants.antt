@@ -1,4 +1,4 @@
-use Rattle.std.proofs.Common.{◌≤◌, length, drop}
+use Rattle.office.proofs.Common.{◌≤◌, length, drop}
 use Rattle.office.proofs.Indexes.{AreNames}
 use Rattle.office.proofs.net_index.names_of.Given as goal
 

@@ -1,6 +1,5 @@
-use Rattle.std.proofs.Common.{◌∙◌, refl, sym, ap, subst}
-use Rattle.std.proofs.lemmas.Result.{IfOk-weaker}
-use Rattle.office_facts.specs.Excerpt.{AreFacts, fits}
+use Rattle.office.proofs.Common.{◌∙◌, refl, sym, ap, subst, IfOk-weaker, AreFacts}
+use Rattle.office_facts.specs.Excerpt.{fits}
 use Rattle.office_facts.specs.FactsOf.{facts_of}
 use Rattle.office_decide.proofs.ByFacts.{by_action}
 use Rattle.office.proofs.stepping.decide_by_index.Goals as goal

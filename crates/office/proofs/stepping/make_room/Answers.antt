@@ -1,4 +1,4 @@
-use Rattle.std.proofs.Common.{◌<◌, List, Option, length, sym, subst, arith}
+use Rattle.office.proofs.Common.{◌<◌, List, Option, length, sym, subst, arith}
 use Rattle.office.specs.Indexed.{AreIndexes}
 use Rattle.office.specs.declared.net_index.NetIndex.{NetIndex}
 use Rattle.office.proofs.Runs.{indexes-push}

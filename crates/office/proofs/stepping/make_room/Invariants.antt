@@ -1,4 +1,4 @@
-use Rattle.std.proofs.Common.{◌+◌, ◌-◌, length}
+use Rattle.office.proofs.Common.{◌+◌, ◌-◌, length}
 use Rattle.office.specs.Indexed.{AreIndexes}
 use Rattle.office.proofs.stepping.make_room.Given as goal
 

@@ -1,9 +1,5 @@
-use Rattle.std.proofs.Common.{◌<◌, ◌≤◌, List, Some, length, get_or, set, sym, subst, arith}
-use Rattle.std.proofs.lemmas.Result.{IfOk-weaker}
-use Rattle.office_types.specs.declared.state.Net.{Net}
-use Rattle.office_types.specs.declared.state.Office.{Office}
-use Rattle.office_rules.specs.Profile.{Two}
-use Rattle.office_rules.specs.Step.{Step}
+use Rattle.office.proofs.Common.{◌<◌, ◌≤◌, List, Some, length, get_or, set, sym, subst, arith, IfOk-weaker, Net, Office}
+use Rattle.office.proofs.Common.{Two, Step}
 use Rattle.office.specs.OfficeApplied.{IsNetFound}
 use Rattle.office.specs.Indexed.{AreIndexes, IsIndexIfThere}
 use Rattle.office.proofs.Runs.{done_step, indexes-at, indexes-past, indexes-set}

@@ -1,5 +1,4 @@
-use Rattle.std.proofs.Common.{◌∙◌, sym, refl}
-use Rattle.std.specs.Option.{option_copied}
+use Rattle.office_blocks.proofs.Common.{◌∙◌, sym, refl, option_copied}
 use Rattle.office_blocks.specs.Blocks.{block_row, is_wanted}
 use Rattle.office_blocks.proofs.Wanted.{row_kept, row_passed}
 use Rattle.office_blocks.proofs.blocks.block_rows.Goals.{then-is_wanted+in_ok-push_block, else-is_wanted}

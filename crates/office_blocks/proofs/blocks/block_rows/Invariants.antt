@@ -1,6 +1,4 @@
-use Rattle.std.proofs.Common.{◌≡◌, map, take}
-use Rattle.std.specs.List.{filter}
-use Rattle.std.specs.Option.{option_copied}
+use Rattle.office_blocks.proofs.Common.{◌≡◌, map, take, filter, option_copied}
 use Rattle.office_blocks.specs.Blocks.{block_row, is_wanted}
 use Rattle.office_blocks.proofs.blocks.block_rows.Given as goal
 

@@ -1,7 +1,5 @@
-use Rattle.std.proofs.Common.{◌∙◌, ap, sym, arith}
-use Rattle.std.specs.Option.{option_copied}
+use Rattle.office_blocks.proofs.Common.{◌∙◌, ap, sym, arith, option_copied, GrantedBlock}
 use Rattle.office_types.specs.Block.{same_form}
-use Rattle.office_types.specs.declared.state.GrantedBlock.{GrantedBlock}
 use Rattle.office_blocks.specs.Blocks.{free_count, is_wanted, taken_numbers}
 use Rattle.office_blocks.proofs.Same.{free_is}
 use Rattle.office_blocks.proofs.Wanted.{sum_kept, sum_passed}

@@ -1,6 +1,5 @@
-use Rattle.std.proofs.Common.{◌≡◌, ◌≤◌, ◌*◌, ◌^◌, take}
-use Rattle.std.specs.List.{filter}
-use Rattle.std.specs.Option.{option_copied}
+use Rattle.office_blocks.proofs.Common.{◌≡◌, ◌≤◌, take, filter, option_copied}
+use Rattle.std.proofs.Common.{◌*◌, ◌^◌}
 use Rattle.office_blocks.specs.Blocks.{free_of_form, is_wanted}
 use Rattle.office_blocks.proofs.blocks.free_of_form.Given as goal
 

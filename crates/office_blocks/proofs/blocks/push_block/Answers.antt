@@ -1,4 +1,4 @@
-use Rattle.std.proofs.Common.{◌++◌, [], ◌∷◌, ◌∙◌, ap}
+use Rattle.office_blocks.proofs.Common.{◌++◌, [], ◌∷◌, ◌∙◌, ap}
 use Rattle.office_blocks.specs.Blocks.{row_with}
 use Rattle.office_blocks.specs.Numbers.{of_form}
 use Rattle.office_blocks.proofs.Same.{row_is}

@@ -1,7 +1,5 @@
-use Rattle.std.proofs.Common.{◌<◌, get_or, arith}
-use Rattle.std.proofs.lemmas.List.Sorted.{searched}
-use Rattle.std.specs.Prelude.{Ok, Err}
-use Rattle.office_types.proofs.Split.{weakly, split-found}
+use Rattle.office_blocks.proofs.Common.{◌<◌, get_or, arith, searched, Ok, Err, weakly}
+use Rattle.office_types.proofs.Split.{split-found}
 use Rattle.office_blocks.proofs.free.count_below.Goals as goal
 
 pub returns-in-Ok : goal.returns-in-Ok

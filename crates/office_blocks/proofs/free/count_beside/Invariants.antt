@@ -1,6 +1,4 @@
-use Rattle.std.proofs.Common.{◌≡◌, ◌≤◌, not, take}
-use Rattle.std.specs.List.{count_by}
-use Rattle.office_types.specs.Free.{is_taken}
+use Rattle.office_blocks.proofs.Common.{◌≡◌, ◌≤◌, not, take, count_by, is_taken}
 use Rattle.office_blocks.proofs.free.count_beside.Given as goal
 
 abbrev pub invariant-loop-number : goal.invariant-loop-number

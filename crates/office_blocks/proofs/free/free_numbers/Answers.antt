@@ -1,5 +1,4 @@
-use Rattle.std.proofs.Common.{◌∙◌, ◌≤◌, ◌&&◌, ℕ, not, sym, arith, ap}
-use Rattle.office_types.specs.Free.{has_form, is_taken}
+use Rattle.office_blocks.proofs.Common.{◌∙◌, ◌≤◌, ◌&&◌, ℕ, not, sym, arith, ap, has_form, is_taken}
 use Rattle.office_blocks.proofs.Counting.{kept_further, passed_further}
 use Rattle.office_blocks.proofs.free.free_numbers.Goals.{then-is_free+in_ok-push, else-is_free}
 use Rattle.office_blocks.proofs.free.free_numbers.Goals as goal

@@ -1,6 +1,4 @@
-use Rattle.std.proofs.Common.{◌≡◌, ◌-◌, ◌&&◌, not}
-use Rattle.std.specs.List.{filter, range_with_len}
-use Rattle.office_types.specs.Free.{has_form, is_taken}
+use Rattle.office_blocks.proofs.Common.{◌≡◌, ◌-◌, ◌&&◌, not, filter, range_with_len, has_form, is_taken}
 use Rattle.office_blocks.proofs.free.free_numbers.Given as goal
 
 -- those of the numbers so far

@@ -1,4 +1,4 @@
-use Rattle.std.proofs.Common.{◌≡◌, ◌+◌, ◌<◌, [], get_or, drop, arith}
+use Rattle.office_blocks.proofs.Common.{◌≡◌, ◌+◌, ◌<◌, [], get_or, drop, arith}
 use Rattle.std.proofs.lemmas.List.{drop_all}
 use Rattle.office_blocks.proofs.Gaps.{gap_step, gaps_done, next_low, next_within, no_more_gaps, same_step}
 use Rattle.office_blocks.proofs.free.gaps.Goals.{then-next-number+in_ok-push, else-next-number}

@@ -1,5 +1,4 @@
-use Rattle.std.proofs.Common.{◌≡◌, ◌+◌, ◌-◌, ◌++◌, drop}
-use Rattle.columns.specs.Run.{runs_of}
+use Rattle.office_blocks.proofs.Common.{◌≡◌, ◌+◌, ◌-◌, ◌++◌, drop, runs_of}
 use Rattle.office_blocks.specs.Numbers.{AreWithin, left_numbers}
 use Rattle.office_blocks.proofs.free.gaps.Given as goal
 

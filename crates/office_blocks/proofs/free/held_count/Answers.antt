@@ -1,4 +1,4 @@
-use Rattle.std.proofs.Common.{◌∙◌}
+use Rattle.office_blocks.proofs.Common.{◌∙◌}
 use Rattle.office_blocks.proofs.Remaining.{held_is}
 use Rattle.office_blocks.proofs.free.held_count.Goals as goal
 

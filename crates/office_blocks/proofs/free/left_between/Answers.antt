@@ -1,4 +1,4 @@
-use Rattle.std.proofs.Common.{◌∙◌}
+use Rattle.office_blocks.proofs.Common.{◌∙◌}
 use Rattle.office_blocks.proofs.Remaining.{count_is, room, runs_are}
 use Rattle.office_blocks.proofs.free.left_between.Goals as goal
 

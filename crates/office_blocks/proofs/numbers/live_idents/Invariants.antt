@@ -1,4 +1,4 @@
-use Rattle.std.proofs.Common.{◌≡◌, map, take}
+use Rattle.office_blocks.proofs.Common.{◌≡◌, map, take}
 use Rattle.office_blocks.proofs.numbers.live_idents.Given as goal
 
 abbrev pub invariant-loop-message : goal.invariant-loop-message

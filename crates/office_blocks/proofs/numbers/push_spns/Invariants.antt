@@ -1,6 +1,4 @@
-use Rattle.std.proofs.Common.{◌≡◌, ◌++◌, not, map, take}
-use Rattle.std.specs.Prelude.{◌==◌}
-use Rattle.std.specs.List.{filter}
+use Rattle.office_blocks.proofs.Common.{◌≡◌, ◌++◌, not, map, take, ◌==◌, filter}
 use Rattle.office_blocks.proofs.numbers.push_spns.Given as goal
 
 abbrev pub invariant-loop-signal : goal.invariant-loop-signal

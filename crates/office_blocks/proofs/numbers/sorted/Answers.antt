@@ -1,9 +1,8 @@
-use Rattle.std.proofs.Common.{ap, ◌∙◌, sym, eqb}
-use Rattle.std.specs.Prelude.{◌==◌}
+use Rattle.office_blocks.proofs.Common.{ap, ◌∙◌, sym, ◌==◌, is_taken}
+use Rattle.std.proofs.Common.{eqb}
 use Rattle.std.proofs.lemmas.List.Filters.{dedup_is}
 use Rattle.std.proofs.lemmas.List.Sorted.{list_any-IsPermutation}
 use Rattle.std.proofs.lemmas.Map.Keys.{IsStrictlyIncreasing-dedup}
-use Rattle.office_types.specs.Free.{is_taken}
 use Rattle.office_facts.proofs.Least.{is_taken-dedup}
 use Rattle.office_blocks.proofs.numbers.sorted.Goals as goal
 

@@ -1,6 +1,5 @@
-use Rattle.std.proofs.Common.{◌≡◌}
+use Rattle.office_decide.proofs.Common.{◌≡◌, AllFit, all_applied}
 use Rattle.std.specs.Vec.Iter.{into_iter_items}
-use Rattle.office_rules.specs.Change.{AllFit, all_applied}
 use Rattle.office_decide.proofs.applying.change_all.Given as goal
 
 abbrev pub invariant-loop-change : goal.invariant-loop-change

@@ -1,13 +1,9 @@
-use Rattle.std.proofs.Common.{◌≡◌, ◌∙◌, ◌+◌, ◌<◌, ℕ, List, ◌∷◌, length, drop, get_or, Option, refl, sym, ap, subst}
-use Rattle.std.proofs.Common.{arith}
-use Rattle.std.specs.Option.{option_copied}
+use Rattle.office_decide.proofs.Common.{◌≡◌, ◌∙◌, ◌+◌, ℕ, List, ◌∷◌, length, drop, Option, refl, sym, ap, subst, arith}
+use Rattle.office_decide.proofs.Common.{option_copied, Action, Refusal, Bundle, Refused, NetAndBook}
+use Rattle.std.proofs.Common.{◌<◌, get_or}
 use Rattle.std.proofs.lemmas.List.{drop_all, drop_more}
 use Rattle.office_types.specs.Refusal.{refusal_number}
-use Rattle.office_types.specs.declared.command.Action.{Action}
-use Rattle.office_types.specs.declared.refusal.Refusal.{Refusal}
 use Rattle.office_types.specs.declared.refusal.Refusal.TheVariants as no
-use Rattle.office_types.specs.declared.reply.Reply.TheVariants.{Bundle, Refused}
-use Rattle.office_rules.specs.Change.{NetAndBook}
 use Rattle.office_decide.specs.Bundled.{IsPartDecided}
 use Rattle.office_decide.proofs.BundleDecided.{IsProgress, begins, ends, next_added, next_refused}
 use Rattle.office_decide.proofs.bundling.decide_bundle.Goals as goal

@@ -1,5 +1,4 @@
-use Rattle.std.proofs.Common.{◌≡◌}
-use Rattle.std.specs.Option.{option_copied}
+use Rattle.office_decide.proofs.Common.{◌≡◌, option_copied}
 use Rattle.office_decide.proofs.BundleDecided.{IsProgress}
 use Rattle.office_decide.proofs.bundling.decide_bundle.Given as goal
 

@@ -1,13 +1,7 @@
-use Rattle.std.proofs.Common.{Some, refl, sym, subst}
-use Rattle.std.proofs.lemmas.Result.{IfOk-weaker}
-use Rattle.office_types.specs.declared.book.SpnBook.{SpnBook}
-use Rattle.office_types.specs.declared.command.Action.{Action}
-use Rattle.office_types.specs.declared.state.Net.{Net}
-use Rattle.office_rules.specs.Change.{Decides}
+use Rattle.office_decide.proofs.Common.{Some, refl, sym, subst, IfOk-weaker, SpnBook, Action, Net, Decides, Facts}
 use Rattle.office_rules.specs.Opening.{add_node, grant}
 use Rattle.office_rules.specs.Reviewing.{approve, reject, release, submit}
 use Rattle.office_rules.specs.Signals.{remove_signal, set_values, take_bits, take_spn}
-use Rattle.office_facts.specs.declared.excerpt.Facts.{Facts}
 use Rattle.office_net.proofs.Inside.{group_inside, ident_inside}
 use Rattle.office_decide.proofs.ByFacts.{DecidesAll, by_head, by_message, matched, with_its_parts}
 use Rattle.office_decide.proofs.by_facts.decide_by.Goals as goal

@@ -1,9 +1,5 @@
-use Rattle.std.proofs.Common.{◌≡◌, ◌∙◌, Option, Some, ap, sym, subst}
-use Rattle.std.specs.Option.{option_copied}
-use Rattle.std.proofs.lemmas.Result.{IfOk-weaker}
-use Rattle.office_types.specs.declared.command.Task.TheVariants.{Import}
-use Rattle.office_types.specs.declared.state.Net.{Net}
-use Rattle.office_rules.specs.Change.{NetAndBook}
+use Rattle.office_decide.proofs.Common.{◌≡◌, ◌∙◌, Option, Some, ap, sym, subst, option_copied, IfOk-weaker, Import, Net}
+use Rattle.office_decide.proofs.Common.{NetAndBook}
 use Rattle.office_decide.specs.Imported.{IsImportDecision}
 use Rattle.office_decide.proofs.Decisions.{action_decided, bundle_decided, decision_if_read, import_decided}
 use Rattle.office_decide.proofs.Decisions.{no_net_decided}

@@ -1,7 +1,5 @@
-use Rattle.std.proofs.Common.{◌∙◌, ap, sym, subst}
-use Rattle.std.proofs.lemmas.Result.{IfOk-weaker}
-use Rattle.office_facts.specs.Excerpt.{AreFacts, IsExcerptOf}
-use Rattle.office_facts.specs.Scope.{reads_book, scope_of}
+use Rattle.office_decide.proofs.Common.{◌∙◌, ap, sym, subst, IfOk-weaker, AreFacts, reads_book, scope_of}
+use Rattle.office_facts.specs.Excerpt.{IsExcerptOf}
 use Rattle.office_decide.proofs.ByFacts.{by_action}
 use Rattle.office_decide.proofs.deciding.decide_by_excerpt.Goals as goal
 

@@ -1,11 +1,6 @@
-use Rattle.std.proofs.Common.{◌≡◌, ◌∙◌, Option, Some, refl, sym, ap, subst}
-use Rattle.std.specs.Option.{option_copied}
-use Rattle.std.proofs.lemmas.Result.{IfOk-weaker}
-use Rattle.office_types.specs.declared.state.Net.{Net}
-use Rattle.office_facts.specs.Excerpt.{AreFacts, fits}
-use Rattle.office_facts.specs.FactsOf.{facts_of}
-use Rattle.office_rules.specs.Change.{Decides}
-use Rattle.office_rules.specs.Commands.{acted}
+use Rattle.office_decide.proofs.Common.{◌≡◌, ◌∙◌, Option, Some, refl, sym, ap, subst, option_copied, IfOk-weaker, Net}
+use Rattle.office_decide.proofs.Common.{AreFacts, facts_of, Decides, acted}
+use Rattle.office_facts.specs.Excerpt.{fits}
 use Rattle.office_decide.proofs.deciding.decide_by_walk.Goals as goal
 
 pub decide_by-requires : goal.decide_by-requires

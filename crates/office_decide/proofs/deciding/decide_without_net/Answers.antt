@@ -1,7 +1,4 @@
-use Rattle.std.proofs.Common.{None, sym, subst}
-use Rattle.std.proofs.lemmas.Result.{IfOk-weaker}
-use Rattle.office_rules.specs.Change.{Decides}
-use Rattle.office_rules.specs.Commands.{acted}
+use Rattle.office_decide.proofs.Common.{None, sym, subst, IfOk-weaker, Decides, acted}
 use Rattle.office_decide.proofs.deciding.decide_without_net.Goals as goal
 
 pub returns-in-OpenNet : goal.returns-in-OpenNet

@@ -1,5 +1,4 @@
-use Rattle.std.proofs.Common.{sym, subst}
-use Rattle.std.proofs.lemmas.Result.{IfOk-weaker}
+use Rattle.office_decide.proofs.Common.{sym, subst, IfOk-weaker}
 use Rattle.office_decide.specs.Imported.{IsWantedReading}
 use Rattle.office_decide.proofs.Decisions.{no_reading}
 use Rattle.office_decide.proofs.importing.decide_import_of.Goals as goal

@@ -1,7 +1,5 @@
-use Rattle.std.proofs.Common.{refl}
-use Rattle.std.proofs.lemmas.Result.{IfOk-weaker}
+use Rattle.office_decide.proofs.Common.{refl, IfOk-weaker, Reading, Unreadable}
 use Rattle.dbc_read.proofs.ReadFaults.{read_fault}
-use Rattle.office_rules.specs.Importing.{Reading, Unreadable}
 use Rattle.office_decide.specs.Imported.{IsReadDecision}
 use Rattle.office_decide.proofs.importing.decide_read.Goals as goal
 

@@ -1,4 +1,4 @@
-use Rattle.office_law.proofs.OneStep.{steps_agree}
+use Rattle.office_history.proofs.Common.{steps_agree}
 use Rattle.office_history.proofs.Offices.{histories_leave_offices}
 use Rattle.office_history.proofs.laws.histories_leave_offices.Goals as goal
 

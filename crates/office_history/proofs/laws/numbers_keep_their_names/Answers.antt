@@ -1,4 +1,4 @@
-use Rattle.office_law.proofs.OneStep.{steps_agree}
+use Rattle.office_history.proofs.Common.{steps_agree}
 use Rattle.office_history.proofs.Names.{numbers_keep_their_names}
 use Rattle.office_history.proofs.laws.numbers_keep_their_names.Goals as goal
 

@@ -1,4 +1,4 @@
-use Rattle.office_law.proofs.OneStep.{steps_agree}
+use Rattle.office_history.proofs.Common.{steps_agree}
 use Rattle.office_history.proofs.Releases.{releases_stay}
 use Rattle.office_history.proofs.laws.releases_stay.Goals as goal
 

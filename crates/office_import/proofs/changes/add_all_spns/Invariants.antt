@@ -1,6 +1,4 @@
-use Rattle.std.proofs.Common.{◌≡◌, ◌++◌, map, take}
-use Rattle.office_types.specs.declared.change.Change.TheVariants.{EnterSpn}
-use Rattle.office_rules.specs.Importing.{new_messages, spns_of}
+use Rattle.office_import.proofs.Common.{◌≡◌, ◌++◌, map, take, EnterSpn, new_messages, spns_of}
 use Rattle.office_import.proofs.changes.add_all_spns.Given as goal
 
 abbrev pub invariant-loop-message : goal.invariant-loop-message

@@ -1,6 +1,4 @@
-use Rattle.std.proofs.Common.{◌≡◌, ◌++◌, map, take}
-use Rattle.office_types.specs.declared.change.Change.TheVariants.{SetMessage}
-use Rattle.office_rules.specs.Importing.{new_messages, owned_by}
+use Rattle.office_import.proofs.Common.{◌≡◌, ◌++◌, map, take, SetMessage, new_messages, owned_by}
 use Rattle.office_import.proofs.changes.add_messages.Given as goal
 
 abbrev pub invariant-loop-message : goal.invariant-loop-message

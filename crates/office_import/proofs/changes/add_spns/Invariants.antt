@@ -1,5 +1,5 @@
-use Rattle.std.proofs.Common.{◌≡◌, ◌++◌, map, take, filter, not, eqb}
-use Rattle.office_types.specs.declared.change.Change.TheVariants.{EnterSpn}
+use Rattle.office_import.proofs.Common.{◌≡◌, ◌++◌, map, take, EnterSpn}
+use Rattle.std.proofs.Common.{filter, not, eqb}
 use Rattle.office_import.proofs.changes.add_spns.Given as goal
 
 abbrev pub invariant-loop-signal : goal.invariant-loop-signal

@@ -1,7 +1,5 @@
-use Rattle.std.proofs.Common.{◌≡◌, ◌-◌, List, length, ap, arith, ◌∙◌}
-use Rattle.dbc_sheet.specs.declared.message.Message.{Message}
+use Rattle.office_import.proofs.Common.{◌≡◌, ◌-◌, List, length, ap, arith, ◌∙◌, Message, live_already, new_messages}
 use Rattle.office_types.specs.declared.reply.Reply.TheVariants.{Counts}
-use Rattle.office_rules.specs.Importing.{live_already, new_messages}
 use Rattle.office_import.proofs.Counted.{counted}
 use Rattle.office_import.proofs.changes.counts.Goals as goal
 

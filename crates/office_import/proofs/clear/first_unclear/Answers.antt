@@ -1,5 +1,4 @@
-use Rattle.office_rules.specs.Importing.{clear_tests}
-use Rattle.std.proofs.Common.{sym, ◌∙◌}
+use Rattle.office_import.proofs.Common.{clear_tests, sym, ◌∙◌}
 use Rattle.office_import.proofs.Each.{of_found}
 use Rattle.office_import.proofs.clear.first_unclear.Goals as goal
 

@@ -1,7 +1,4 @@
-use Rattle.std.proofs.Common.{◌≡◌, None, take}
-use Rattle.std.specs.List.{flat_map}
-use Rattle.base.specs.Refusing.{first_refusal}
-use Rattle.office_rules.specs.Importing.{clear_tests}
+use Rattle.office_import.proofs.Common.{◌≡◌, None, take, flat_map, first_refusal, clear_tests}
 use Rattle.office_import.proofs.clear.first_unclear.Given as goal
 
 abbrev pub invariant-loop-message : goal.invariant-loop-message

@@ -1,6 +1,4 @@
-use Rattle.std.proofs.Common.{◌++◌}
-use Rattle.std.specs.Vec.Iter.{into_iter_items}
-use Rattle.dbc_sheet.specs.Sheet.{node_name}
+use Rattle.office_import.proofs.Common.{◌++◌, into_iter_items, node_name}
 use Rattle.office_import.proofs.Rostered.{memory_alone}
 use Rattle.office_import.proofs.frame.add_nodes.Goals as goal
 

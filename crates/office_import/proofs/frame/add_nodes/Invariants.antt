@@ -1,6 +1,4 @@
-use Rattle.std.proofs.Common.{◌≡◌, ◌++◌}
-use Rattle.std.specs.Vec.Iter.{into_iter_items}
-use Rattle.dbc_sheet.specs.declared.sheet.Sheet.{Sheet}
+use Rattle.office_import.proofs.Common.{◌≡◌, ◌++◌, into_iter_items, Sheet}
 use Rattle.office_import.proofs.frame.add_nodes.Given as goal
 
 abbrev pub invariant-loop-node : goal.invariant-loop-node

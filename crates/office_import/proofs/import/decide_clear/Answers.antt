@@ -1,13 +1,9 @@
-use Rattle.std.proofs.Common.{◌≡◌, List, None, Some, sym, ap, subst, ◌∙◌}
-use Rattle.std.specs.List.{flat_map}
-use Rattle.base.specs.Refusing.{first_refusal}
-use Rattle.dbc_sheet.specs.declared.message.Message.{Message}
-use Rattle.office_types.specs.declared.change.Decision.{Decision}
+use Rattle.office_import.proofs.Common.{◌≡◌, List, None, Some, sym, ap, subst, ◌∙◌, flat_map, first_refusal, Message}
+use Rattle.office_import.proofs.Common.{Decision, Net, Reading, import_sheet, import_tests, message_import_tests}
+use Rattle.office_import.proofs.Common.{Decides-refused}
 use Rattle.office_types.specs.declared.refusal.Refusal.TheVariants as no
-use Rattle.office_types.specs.declared.state.Net.{Net}
-use Rattle.office_rules.specs.Importing.{Reading, import_sheet, import_tests, message_import_tests}
 use Rattle.office_import.specs.News.{CanWiden, HasRosters, frame_news}
-use Rattle.office_facts.proofs.Deciding.{Decides-given, Decides-refused}
+use Rattle.office_facts.proofs.Deciding.{Decides-given}
 use Rattle.office_import.proofs.Imported.{Decides-imported}
 use Rattle.office_import.proofs.Refused.{none_refused, refused_each, refused_last}
 use Rattle.office_import.proofs.Rostered.{can_widen}

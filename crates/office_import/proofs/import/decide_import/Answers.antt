@@ -1,9 +1,7 @@
-use Rattle.std.proofs.Common.{ℕ, List, Some, IfOk, sym, subst, ◌∙◌}
-use Rattle.office_types.specs.declared.book.SpnBook.{SpnBook}
-use Rattle.office_types.specs.declared.state.Net.{Net}
-use Rattle.office_rules.specs.Change.{Decides}
-use Rattle.office_rules.specs.Importing.{Reading, import, import_tests}
-use Rattle.office_facts.proofs.Deciding.{Decides-refused}
+use Rattle.office_import.proofs.Common.{ℕ, List, Some, sym, subst, ◌∙◌, SpnBook, Net, Decides, Reading, import_tests}
+use Rattle.office_import.proofs.Common.{Decides-refused}
+use Rattle.std.proofs.Common.{IfOk}
+use Rattle.office_rules.specs.Importing.{import}
 use Rattle.office_import.proofs.Refused.{refused_early}
 use Rattle.office_import.proofs.import.decide_import.Goals as goal
 

@@ -1,5 +1,4 @@
-use Rattle.office_rules.specs.Importing.{message_import_tests}
-use Rattle.std.proofs.Common.{sym, ◌∙◌}
+use Rattle.office_import.proofs.Common.{message_import_tests, sym, ◌∙◌}
 use Rattle.office_import.proofs.Each.{of_found, of_more}
 use Rattle.office_import.proofs.joining.first_refused.Goals as goal
 

@@ -1,7 +1,4 @@
-use Rattle.std.proofs.Common.{◌≡◌, None, take}
-use Rattle.std.specs.List.{flat_map}
-use Rattle.base.specs.Refusing.{first_refusal}
-use Rattle.office_rules.specs.Importing.{message_import_tests}
+use Rattle.office_import.proofs.Common.{◌≡◌, None, take, flat_map, first_refusal, message_import_tests}
 use Rattle.office_import.proofs.joining.first_refused.Given as goal
 
 abbrev pub invariant-loop-message : goal.invariant-loop-message

@@ -1,7 +1,4 @@
-use Rattle.std.proofs.Common.{ap, cond, true, ◌∙◌}
-use Rattle.std.specs.BTreeSet.{contains}
-use Rattle.std.specs.Ordering.{is_eq}
-use Rattle.base.specs.Keyed.{text_cmp}
+use Rattle.office_import.proofs.Common.{ap, cond, true, ◌∙◌, contains, is_eq, text_cmp}
 use Rattle.office_import.proofs.NameSets.{one_more}
 use Rattle.office_import.proofs.names.names_of.Goals as goal
 

@@ -1,7 +1,4 @@
-use Rattle.std.proofs.Common.{◌≡◌, ℕ, List, take}
-use Rattle.std.specs.BTreeSet.{contains}
-use Rattle.base.specs.Keyed.{text_cmp}
-use Rattle.dbc_words.specs.Named.{has_name}
+use Rattle.office_import.proofs.Common.{◌≡◌, ℕ, List, take, contains, text_cmp, has_name}
 use Rattle.office_import.proofs.names.names_of.Given as goal
 
 abbrev pub invariant-loop-thing : goal.invariant-loop-thing

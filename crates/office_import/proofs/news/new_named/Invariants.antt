@@ -1,4 +1,4 @@
-use Rattle.std.proofs.Common.{◌≡◌, take}
+use Rattle.office_import.proofs.Common.{◌≡◌, take}
 use Rattle.office_rules.specs.Importing.{new_named}
 use Rattle.office_import.proofs.news.new_named.Given as goal
 

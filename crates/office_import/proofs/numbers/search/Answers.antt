@@ -1,4 +1,4 @@
-use Rattle.std.proofs.Common.{rules, ◌∙◌}
+use Rattle.office_import.proofs.Common.{rules, ◌∙◌}
 use Rattle.std.proofs.lemmas.Fn.{always_returns_same}
 use Rattle.office_import.specs.Rising.{side}
 use Rattle.office_import.proofs.Sides.{searched}

@@ -1,4 +1,4 @@
-use Rattle.std.proofs.Common.{rules}
+use Rattle.office_import.proofs.Common.{rules}
 use Rattle.std.proofs.lemmas.List.Sorted.{answers_always}
 use Rattle.base.proofs.AscendingLists.{searched}
 use Rattle.office_import.specs.Searching.{number_by}

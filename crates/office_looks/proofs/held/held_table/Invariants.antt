@@ -1,4 +1,4 @@
-use Rattle.std.proofs.Common.{◌≡◌, map, take}
+use Rattle.office_looks.proofs.Common.{◌≡◌, map, take}
 use Rattle.office_looks.specs.Held.{held_row}
 use Rattle.office_looks.proofs.held.held_table.Given as goal
 

@@ -1,4 +1,4 @@
-use Rattle.std.proofs.Common.{refl}
+use Rattle.office_looks.proofs.Common.{refl}
 use Rattle.office_looks.proofs.laws.messages_are_the_table.Goals as goal
 
 pub returns : goal.returns

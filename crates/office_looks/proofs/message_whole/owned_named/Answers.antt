@@ -1,9 +1,9 @@
-use Rattle.std.proofs.Common.{ℕ, List, rules}
+use Rattle.office_looks.proofs.Common.{ℕ, List, Message}
+use Rattle.std.proofs.Common.{rules}
 use Rattle.std.specs.Str.{bytes_eq}
 use Rattle.std.proofs.lemmas.Iterator.{YieldsList-from_slice, YieldsList-from_zip}
 use Rattle.std.proofs.lemmas.Iterator.Search.{find_from_yields_List}
 use borrow.Author.Tests.{tests}
-use Rattle.dbc_sheet.specs.declared.message.Message.{Message}
 use Rattle.office_looks.proofs.message_whole.owned_named.Goals as goal
 
 pub returns : goal.returns

@@ -1,9 +1,5 @@
-use Rattle.std.proofs.Common.{◌≡◌, ◌+◌, ◌≤◌, ◌<◌, ◌++◌, ℕ, List, ◌∷◌, length, drop, filter, get_or, map, refl, sym, ap}
-use Rattle.std.proofs.Common.{◌∙◌, arith}
-use Rattle.std.specs.Option.{option_copied}
-use Rattle.dbc_sheet.specs.declared.message.Message.{Message}
-use Rattle.office_views.specs.Table.{signal_count}
-use Rattle.office_seen.specs.View.{owned}
+use Rattle.office_looks.proofs.Common.{◌≡◌, ◌+◌, ◌≤◌, ◌<◌, ◌++◌, ℕ, List, ◌∷◌, length, drop, filter, get_or, map, refl}
+use Rattle.office_looks.proofs.Common.{sym, ap, ◌∙◌, arith, option_copied, Message, signal_count, owned}
 use Rattle.office_looks.specs.Messages.{is_wanted, message_row}
 use Rattle.office_looks.proofs.Owning.{element, failing, item_more, owned_at, passing, signals_more}
 use Rattle.office_looks.proofs.messages.message_rows.Goals as goal

@@ -1,7 +1,5 @@
-use Rattle.std.proofs.Common.{◌≡◌, ◌++◌, ◌+◌, ◌*◌, ◌≤◌, drop, filter, map}
-use Rattle.std.specs.Option.{option_copied}
-use Rattle.office_views.specs.Table.{signal_count}
-use Rattle.office_seen.specs.View.{owned}
+use Rattle.office_looks.proofs.Common.{◌≡◌, ◌++◌, ◌+◌, ◌≤◌, drop, filter, map, option_copied, signal_count, owned}
+use Rattle.std.proofs.Common.{◌*◌}
 use Rattle.office_looks.specs.Messages.{is_wanted, message_row}
 use Rattle.office_looks.proofs.messages.message_rows.Given as goal
 

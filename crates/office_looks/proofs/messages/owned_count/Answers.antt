@@ -1,4 +1,4 @@
-use Rattle.std.proofs.Common.{◌≡◌, ◌≤◌, length, ap, ◌∙◌, arith}
+use Rattle.office_looks.proofs.Common.{◌≡◌, ◌≤◌, length, ap, ◌∙◌, arith}
 use Rattle.office_looks.proofs.Owning.{fewer_messages, fewer_owners}
 use Rattle.office_looks.proofs.messages.owned_count.Goals as goal
 

@@ -1,6 +1,4 @@
-use Rattle.std.proofs.Common.{◌∙◌, ap}
-use Rattle.std.specs.Prelude.{count_by}
-use Rattle.office_views.specs.Sending.{sends}
+use Rattle.office_looks.proofs.Common.{◌∙◌, ap, count_by, sends}
 use Rattle.office_looks.specs.Nodes.{counts_row, node_row}
 use Rattle.office_looks.proofs.nodes.node_rows.Goals as goal
 use Rattle.rows.proofs.Pushing.{row_more}

@@ -1,4 +1,4 @@
-use Rattle.std.proofs.Common.{◌≡◌, map, take}
+use Rattle.office_looks.proofs.Common.{◌≡◌, map, take}
 use Rattle.office_looks.specs.Nodes.{node_row}
 use Rattle.office_looks.proofs.nodes.node_rows.Given as goal
 

@@ -1,4 +1,4 @@
-use Rattle.std.proofs.Common.{◌≡◌, ◌++◌, take}
+use Rattle.office_looks.proofs.Common.{◌≡◌, ◌++◌, take}
 use Rattle.office_looks.specs.Nodes.{received_rows, sent_rows}
 use Rattle.office_looks.proofs.nodes.use_rows.Given as goal
 

@@ -1,6 +1,5 @@
-use Rattle.std.proofs.Common.{◌≡◌, ◌+◌, ◌<◌, ◌++◌, ◌∷◌, [], length, drop, take, get_or, sym, ap, ◌∙◌, append_assoc}
-use Rattle.std.proofs.lemmas.List.{drop_more}
-use Rattle.office_seen.specs.Since.{last_release}
+use Rattle.office_looks.proofs.Common.{◌≡◌, ◌+◌, ◌<◌, ◌++◌, ◌∷◌, [], length, drop, take, get_or, sym, ap, ◌∙◌}
+use Rattle.office_looks.proofs.Common.{append_assoc, drop_more, last_release}
 use Rattle.office_looks.specs.Releases.{release_row, rows_after}
 use Rattle.office_looks.proofs.LastOf.{last_taken}
 use Rattle.office_looks.proofs.releases.releases_table.Goals as goal

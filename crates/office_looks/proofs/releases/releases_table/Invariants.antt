@@ -1,6 +1,4 @@
-use Rattle.std.proofs.Common.{◌≡◌, ◌++◌, ◌+◌, drop, take}
-use Rattle.dbc_sheet.specs.Sheet.{empty_sheet}
-use Rattle.office_seen.specs.Since.{last_release}
+use Rattle.office_looks.proofs.Common.{◌≡◌, ◌++◌, ◌+◌, drop, take, empty_sheet, last_release}
 use Rattle.office_looks.specs.Releases.{rows_after}
 use Rattle.office_looks.proofs.releases.releases_table.Given as goal
 

@@ -1,4 +1,4 @@
-use Rattle.std.proofs.Common.{◌+◌, get_or, refl}
+use Rattle.office_looks.proofs.Common.{◌+◌, get_or, refl}
 use Rattle.office_types.specs.declared.reply.PartReply.TheVariants.{Done}
 use Rattle.office_looks.specs.Requests.{part_row}
 use Rattle.office_looks.proofs.Parts.{one_more}

@@ -1,4 +1,4 @@
-use Rattle.std.proofs.Common.{◌≡◌, ◌++◌, take}
+use Rattle.office_looks.proofs.Common.{◌≡◌, ◌++◌, take}
 use Rattle.office_looks.specs.Requests.{part_rows}
 use Rattle.office_looks.proofs.requests.push_parts.Given as goal
 

@@ -1,5 +1,4 @@
-use Rattle.std.proofs.Common.{◌≡◌, ◌≤◌, take}
-use Rattle.std.specs.Prelude.{count_by}
+use Rattle.office_looks.proofs.Common.{◌≡◌, ◌≤◌, take, count_by}
 use Rattle.office_looks.specs.Requests.{was_refused}
 use Rattle.office_looks.proofs.requests.refused_count.Given as goal
 

@@ -1,4 +1,4 @@
-use Rattle.std.proofs.Common.{ap}
+use Rattle.office_looks.proofs.Common.{ap}
 use Rattle.office_looks.specs.Requests.{request_rows}
 use Rattle.office_looks.proofs.requests.requests_table.Goals as goal
 use Rattle.columns.proofs.Pieces.{items_more}

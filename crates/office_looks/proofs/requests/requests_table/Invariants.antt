@@ -1,5 +1,4 @@
-use Rattle.std.proofs.Common.{◌≡◌, take}
-use Rattle.std.specs.List.{flat_map}
+use Rattle.office_looks.proofs.Common.{◌≡◌, take, flat_map}
 use Rattle.office_looks.specs.Requests.{request_rows}
 use Rattle.office_looks.proofs.requests.requests_table.Given as goal
 

@@ -1,4 +1,4 @@
-use Rattle.std.proofs.Common.{◌≡◌, drop}
+use Rattle.office_looks.proofs.Common.{◌≡◌, drop}
 use Rattle.office_looks.specs.Who.{has_one}
 use Rattle.office_looks.proofs.seeking.has_one.Given as goal
 

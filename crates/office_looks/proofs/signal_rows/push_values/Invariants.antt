@@ -1,4 +1,4 @@
-use Rattle.std.proofs.Common.{◌≡◌, ◌++◌, map, take}
+use Rattle.office_looks.proofs.Common.{◌≡◌, ◌++◌, map, take}
 use Rattle.office_looks.specs.Message.{value_row}
 use Rattle.office_looks.proofs.signal_rows.push_values.Given as goal
 

@@ -1,5 +1,4 @@
-use Rattle.std.proofs.Common.{◌≡◌, map, take}
-use Rattle.std.specs.List.{flat_map}
+use Rattle.office_looks.proofs.Common.{◌≡◌, map, take, flat_map}
 use Rattle.office_looks.specs.Message.{note_rows, signal_row, type_rows, value_rows}
 use Rattle.office_looks.proofs.signal_rows.signal_kinds.Given as goal
 

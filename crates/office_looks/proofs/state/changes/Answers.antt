@@ -1,6 +1,4 @@
-use Rattle.std.proofs.Common.{ap, ◌∙◌}
-use Rattle.dbc_sheet.specs.Pairs.{counts_of}
-use Rattle.dbc_sheet.specs.declared.sheet.Sheet.{Sheet}
+use Rattle.office_looks.proofs.Common.{ap, ◌∙◌, counts_of, Sheet}
 use Rattle.office_looks.proofs.state.changes.Goals as goal
 
 pub returns : goal.returns

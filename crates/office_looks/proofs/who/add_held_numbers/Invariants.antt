@@ -1,7 +1,5 @@
-use Rattle.std.proofs.Common.{◌≡◌, ◌++◌, drop, filter}
-use Rattle.std.specs.Prelude.{[], unwrap_or}
-use Rattle.std.specs.List.{flat_map}
-use Rattle.office_seen.specs.Owners.{last_name}
+use Rattle.office_looks.proofs.Common.{◌≡◌, ◌++◌, drop, filter, unwrap_or, flat_map, last_name}
+use Rattle.std.specs.Prelude.{[]}
 use Rattle.office_looks.specs.Who.{held_numbers, is_sought, numbers_of}
 use Rattle.office_looks.proofs.who.add_held_numbers.Given as goal
 

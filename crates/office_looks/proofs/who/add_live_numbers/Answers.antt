@@ -1,8 +1,5 @@
-use Rattle.std.proofs.Common.{◌≡◌, ◌+◌, ◌<◌, ◌++◌, List, ℕ, ◌∷◌, length, drop}
-use Rattle.std.proofs.Common.{filter, get_or, refl, sym, ap, ◌∙◌, arith}
-use Rattle.std.specs.List.{flat_map}
-use Rattle.dbc_sheet.specs.declared.message.Message.{Message}
-use Rattle.office_seen.specs.View.{owned}
+use Rattle.office_looks.proofs.Common.{◌≡◌, ◌+◌, ◌<◌, ◌++◌, List, ℕ, ◌∷◌, length, drop, filter, get_or, refl, sym, ap}
+use Rattle.office_looks.proofs.Common.{◌∙◌, arith, flat_map, Message, owned}
 use Rattle.office_looks.specs.Who.{is_sought, live_numbers, numbers_of}
 use Rattle.office_looks.proofs.Owning.{element, failing, line_more, owned_at, passing}
 use Rattle.office_looks.proofs.who.add_live_numbers.Goals as goal

@@ -1,6 +1,4 @@
-use Rattle.std.proofs.Common.{◌≡◌, ◌++◌, drop, filter}
-use Rattle.std.specs.List.{flat_map}
-use Rattle.office_seen.specs.View.{owned}
+use Rattle.office_looks.proofs.Common.{◌≡◌, ◌++◌, drop, filter, flat_map, owned}
 use Rattle.office_looks.specs.Who.{is_sought, live_numbers, numbers_of}
 use Rattle.office_looks.proofs.who.add_live_numbers.Given as goal
 

@@ -1,6 +1,5 @@
-use Rattle.std.proofs.Common.{◌≡◌, ◌+◌, ◌<◌, ◌++◌, ◌∷◌, length, drop, filter, map, get_or, refl, sym, ap, ◌∙◌, arith}
-use Rattle.std.proofs.lemmas.List.{drop_more}
-use Rattle.office_blocks.specs.Blocks.{block_row}
+use Rattle.office_looks.proofs.Common.{◌≡◌, ◌+◌, ◌<◌, ◌++◌, ◌∷◌, length, drop, filter, map, get_or, refl, sym, ap, ◌∙◌}
+use Rattle.office_looks.proofs.Common.{arith, drop_more, block_row}
 use Rattle.office_looks.specs.Who.{block_rows, has_one}
 use Rattle.office_looks.proofs.Owning.{failing, item_more, passing}
 use Rattle.office_looks.proofs.who.block_rows.Goals as goal

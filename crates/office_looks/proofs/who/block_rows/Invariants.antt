@@ -1,5 +1,4 @@
-use Rattle.std.proofs.Common.{◌≡◌, ◌++◌, drop, filter, map}
-use Rattle.office_blocks.specs.Blocks.{block_row}
+use Rattle.office_looks.proofs.Common.{◌≡◌, ◌++◌, drop, filter, map, block_row}
 use Rattle.office_looks.specs.Who.{block_rows, has_one}
 use Rattle.office_looks.proofs.who.block_rows.Given as goal
 

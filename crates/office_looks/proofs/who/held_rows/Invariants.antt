@@ -1,6 +1,5 @@
-use Rattle.std.proofs.Common.{◌≡◌, ◌++◌, drop, filter, map}
-use Rattle.std.specs.Prelude.{[], unwrap_or}
-use Rattle.office_seen.specs.Owners.{last_name}
+use Rattle.office_looks.proofs.Common.{◌≡◌, ◌++◌, drop, filter, map, unwrap_or, last_name}
+use Rattle.std.specs.Prelude.{[]}
 use Rattle.office_looks.specs.Held.{held_row}
 use Rattle.office_looks.specs.Who.{held_rows, is_sought}
 use Rattle.office_looks.proofs.who.held_rows.Given as goal

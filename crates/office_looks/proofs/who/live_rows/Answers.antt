@@ -1,7 +1,5 @@
-use Rattle.std.proofs.Common.{◌≡◌, ◌+◌, ◌<◌, ◌++◌, List, ℕ, ◌∷◌, length}
-use Rattle.std.proofs.Common.{drop, filter, map, get_or, refl, sym, ap, ◌∙◌, arith}
-use Rattle.dbc_sheet.specs.declared.message.Message.{Message}
-use Rattle.office_seen.specs.View.{owned}
+use Rattle.office_looks.proofs.Common.{◌≡◌, ◌+◌, ◌<◌, ◌++◌, List, ℕ, ◌∷◌, length, drop, filter, map, get_or, refl, sym}
+use Rattle.office_looks.proofs.Common.{ap, ◌∙◌, arith, Message, owned}
 use Rattle.office_looks.specs.Messages.{message_row}
 use Rattle.office_looks.specs.Who.{is_sought, live_rows}
 use Rattle.office_looks.proofs.Owning.{element, failing, item_more, owned_at, passing}

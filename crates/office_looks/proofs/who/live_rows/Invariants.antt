@@ -1,5 +1,4 @@
-use Rattle.std.proofs.Common.{◌≡◌, ◌++◌, drop, filter, map}
-use Rattle.office_seen.specs.View.{owned}
+use Rattle.office_looks.proofs.Common.{◌≡◌, ◌++◌, drop, filter, map, owned}
 use Rattle.office_looks.specs.Messages.{message_row}
 use Rattle.office_looks.specs.Who.{is_sought, live_rows}
 use Rattle.office_looks.proofs.who.live_rows.Given as goal

@@ -1,5 +1,4 @@
-use Rattle.std.proofs.Common.{◌≡◌, ◌++◌, drop, filter}
-use Rattle.std.specs.List.{flat_map}
+use Rattle.office_looks.proofs.Common.{◌≡◌, ◌++◌, drop, filter, flat_map}
 use Rattle.office_spns.specs.Spns.{spn_rows}
 use Rattle.office_looks.specs.Who.{is_spn_sought, spn_hit_rows}
 use Rattle.office_looks.proofs.who.spn_hit_rows.Given as goal

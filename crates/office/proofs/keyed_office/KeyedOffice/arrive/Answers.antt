@@ -1,8 +1,6 @@
 use Rattle.std.specs.Option.{MatchOption}
-use Rattle.std.proofs.Common.{◌≡◌, Option, Some, None, sym, ap, subst, ◌∙◌}
-use Rattle.office_history.specs.declared.arrival.Answer.{Answer}
-use Rattle.office_history.specs.Answering.{answered}
-use Rattle.office_history.specs.History.{Answered, answer_again, first_of}
+use Rattle.office.proofs.Common.{◌≡◌, Option, Some, None, sym, ap, subst, ◌∙◌, Answer, answered, Answered, first_of}
+use Rattle.office_history.specs.History.{answer_again}
 use Rattle.office.specs.Keyed.{HoldsHistory}
 use Rattle.office.proofs.Kept.{again_holds}
 use Rattle.office.proofs.keyed_office.KeyedOffice.arrive.Goals as goal

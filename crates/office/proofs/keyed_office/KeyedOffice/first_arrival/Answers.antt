@@ -1,9 +1,6 @@
-use Rattle.std.proofs.Common.{◌≡◌, ◌++◌, ◌∷◌, [], List, None, refl, sym, ap, subst, ◌∙◌}
-use Rattle.std.specs.Map.{lookup}
+use Rattle.office.proofs.Common.{◌≡◌, ◌++◌, ◌∷◌, [], List, None, refl, sym, ap, subst, ◌∙◌, lookup, answered, Answered}
 use Rattle.indexmap.proofs.CallerLemmas.{insert_entry-new}
 use Rattle.office_history.specs.declared.arrival.Answer.TheVariants as answer
-use Rattle.office_history.specs.Answering.{answered}
-use Rattle.office_history.specs.History.{Answered}
 use Rattle.office.specs.declared.first.First.{First}
 use Rattle.office.specs.declared.first.Pair.{Pair}
 use Rattle.office.specs.Keyed.{HoldsHistory, pair_eq}

@@ -1,5 +1,4 @@
-use Rattle.std.proofs.Common.{List, ◌++◌, ◌∷◌, [], ap, ◌∙◌}
-use Rattle.office_history.specs.declared.arrival.Answer.{Answer}
+use Rattle.office.proofs.Common.{List, ◌++◌, ◌∷◌, [], ap, ◌∙◌, Answer}
 use Rattle.office.proofs.Ran.{run_more, run_none}
 use Rattle.office.proofs.keyed_office.KeyedOffice.run.Goals as goal
 

@@ -1,4 +1,4 @@
-use Rattle.std.proofs.Common.{take}
+use Rattle.office.proofs.Common.{take}
 use Rattle.office.specs.Running.{HasAnswered}
 use Rattle.office.proofs.keyed_office.KeyedOffice.run.Given as goal
 

@@ -1,9 +1,4 @@
-use Rattle.std.proofs.Common.{◌∙◌, ◌||◌, Some, cond, refl, sym, ap}
-use Rattle.std.specs.BTreeMap.{get}
-use Rattle.std.specs.Ordering.{is_eq}
-use Rattle.base.specs.Keyed.{text_cmp}
-use Rattle.can_id.specs.Ident.{dbc_number}
-use Rattle.office_types.specs.Free.{is_taken}
+use Rattle.office.proofs.Common.{◌∙◌, ◌||◌, Some, cond, refl, sym, ap, get, is_eq, text_cmp, dbc_number, is_taken}
 use Rattle.office.specs.Indexed.{indexed_numbers, has_form_and_number}
 use Rattle.office.specs.declared.net_index.NetIndex.{NetIndex}
 use Rattle.office.proofs.Indexes.{index-inserted, numbers_apart, ok_holds}

@@ -1,7 +1,4 @@
-use Rattle.std.proofs.Common.{◌∙◌, ◌&&◌, not, refl, ap}
-use Rattle.std.specs.BTreeMap.{get}
-use Rattle.base.specs.Keyed.{text_cmp}
-use Rattle.office_types.specs.Free.{is_taken}
+use Rattle.office.proofs.Common.{◌∙◌, ◌&&◌, not, refl, ap, get, text_cmp, is_taken}
 use Rattle.office.specs.Indexed.{has_form_and_number}
 use Rattle.office.specs.declared.net_index.NetIndex.{NetIndex}
 use Rattle.office.proofs.Indexes.{index-removed, numbers_apart}

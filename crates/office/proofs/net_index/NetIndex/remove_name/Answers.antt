@@ -1,4 +1,4 @@
-use Rattle.std.proofs.Common.{refl}
+use Rattle.office.proofs.Common.{refl}
 use Rattle.office.proofs.Indexes.{index-moved}
 use Rattle.office.proofs.net_index.NetIndex.remove_name.Goals as goal
 

@@ -1,8 +1,4 @@
-use Rattle.std.proofs.Common.{ℕ, List, Option, sym, subst}
-use Rattle.office_types.specs.declared.book.SpnBlock.{SpnBlock}
-use Rattle.office_types.specs.declared.state.Net.{Net}
-use Rattle.office_rules.specs.Kept.{IsOffice}
-use Rattle.office_law.proofs.KeptOffice.{offices_are_kept}
+use Rattle.office.proofs.Common.{ℕ, List, Option, sym, subst, SpnBlock, Net, IsOffice, offices_are_kept}
 use Rattle.office.specs.Indexed.{AreIndexes}
 use Rattle.office.specs.declared.net_index.NetIndex.{NetIndex}
 use Rattle.office.proofs.plain.PlainOffice.new.Goals as goal

@@ -1,5 +1,4 @@
-use Rattle.office_types.specs.declared.reply.Reply.{Reply}
-use Rattle.std.proofs.Common.{List, ◌++◌, ◌∷◌, [], ap, ◌∙◌}
+use Rattle.office.proofs.Common.{Reply, List, ◌++◌, ◌∷◌, [], ap, ◌∙◌}
 use Rattle.office.proofs.Runs.{HasRun-more}
 use Rattle.office.proofs.plain.PlainOffice.run.Goals as goal
 

@@ -1,5 +1,4 @@
-use Rattle.std.proofs.Common.{take}
-use Rattle.office_rules.specs.Step.{HasRun}
+use Rattle.office.proofs.Common.{take, HasRun}
 use Rattle.office.proofs.plain.PlainOffice.run.Given as goal
 
 abbrev pub invariant-loop-team : goal.invariant-loop-team

@@ -1,4 +1,4 @@
-use Rattle.office_types.specs.declared.state.Office.{Office}
+use Rattle.office.proofs.Common.{Office}
 use Rattle.office.proofs.Runs.{IsOffice-after}
 use Rattle.office.proofs.plain.PlainOffice.step_with_copy.Goals as goal
 

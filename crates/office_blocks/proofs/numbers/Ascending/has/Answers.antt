@@ -1,6 +1,5 @@
-use Rattle.std.proofs.Common.{◌≡◌, ◌∙◌, ap, sym, subst, rules}
-use Rattle.std.specs.List.Sorted.{IsStrictlyIncreasing}
-use Rattle.office_types.specs.Free.{is_taken}
+use Rattle.office_blocks.proofs.Common.{◌≡◌, ◌∙◌, ap, sym, subst, IsStrictlyIncreasing, is_taken}
+use Rattle.std.proofs.Common.{rules}
 use Rattle.office_blocks.proofs.Parts.{found_is}
 use Rattle.office_blocks.proofs.numbers.Ascending.has.Goals as goal
 

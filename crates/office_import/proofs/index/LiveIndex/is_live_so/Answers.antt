@@ -1,9 +1,7 @@
-use Rattle.std.proofs.Common.{sym, ap, ◌∙◌}
-use Rattle.std.specs.List.{list_any}
+use Rattle.office_import.proofs.Common.{sym, ap, ◌∙◌, list_any, Net}
 use Rattle.dbc_sheet.specs.Messages.{number_of}
 use Rattle.dbc_sheet.specs.Same.{same_message}
 use Rattle.office_types.specs.declared.state.LiveMessage.{LiveMessage}
-use Rattle.office_types.specs.declared.state.Net.{Net}
 use Rattle.office_import.proofs.index.LiveIndex.is_live_so.Goals as goal
 
 pub returns : goal.returns

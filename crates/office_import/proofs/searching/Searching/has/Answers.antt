@@ -1,4 +1,4 @@
-use Rattle.std.proofs.Common.{ap, sym, ◌∙◌}
+use Rattle.office_import.proofs.Common.{ap, sym, ◌∙◌}
 use Rattle.can_id.specs.Ident.{dbc_number}
 use Rattle.office_rules.specs.Facts.{same_ident}
 use Rattle.office_rules.proofs.Idents.{same_ident-true}

@@ -1,5 +1,4 @@
-use Rattle.std.proofs.Common.{◌≡◌, ◌+◌, ◌-◌, ap, sym, take, drop, arith, ◌∙◌}
-use Rattle.std.specs.List.{list_any}
+use Rattle.office_import.proofs.Common.{◌≡◌, ◌+◌, ◌-◌, ap, sym, take, drop, arith, ◌∙◌, list_any}
 use Rattle.office_import.specs.Searching.{number_by}
 use Rattle.office_facts.proofs.Searched.{gap_passes, passes_at}
 use Rattle.office_import.proofs.searching.Searching.of_number.Goals as goal

@@ -1,9 +1,8 @@
 -- In a loop over the first numbers something is added for each.
-use Rattle.std.proofs.Common.{◌≡◌, ◌+◌, ◌++◌, ◌∙◌, ℕ, zero, suc, List, [], ◌∷◌, ap, sym, add-one, arith, append-nil}
-use Rattle.std.specs.List.{flat_map, range_with_len}
+use Rattle.page_changes.proofs.Common.{◌≡◌, ◌+◌, ◌++◌, ◌∙◌, ℕ, suc, List, [], ◌∷◌, ap, sym, arith, append-nil, flat_map}
+use Rattle.page_changes.proofs.Common.{range_with_len, Becomes, Writing, adding, added}
+use Rattle.std.proofs.Common.{zero, add-one}
 use Rattle.std.proofs.lemmas.List.Concat.{flat_map-append}
-use Rattle.markup.specs.Writing.{Becomes, Writing, adding}
-use Rattle.markup.proofs.Changes.{added}
 
 range_more : (a n : ℕ) → range_with_len a (suc n) ≡ range_with_len a n ++ (a + n) ∷ []
 range_more a zero = let e : a ≡ a + 0 = omega arith in ap (λ k. k ∷ []) e

@@ -1,18 +1,15 @@
 -- Differences that are side by side in one message.
-use Rattle.std.proofs.Common.{◌≡◌, ◌+◌, ◌++◌, ◌==◌, ◌∙◌, Bool, true, false, cond, ℕ, suc, List, [], ◌∷◌, take, drop}
-use Rattle.std.proofs.Common.{Option, Some, None, Bor, map, get_or, refl, sym, ap, subst, arith, append-nil, append_assoc}
+use Rattle.page_changes.proofs.Common.{◌≡◌, ◌+◌, ◌++◌, ◌∙◌, Bool, true, false, cond, ℕ, suc, List, [], ◌∷◌, take, drop}
+use Rattle.page_changes.proofs.Common.{Option, Some, None, Bor, map, get_or, refl, sym, ap, subst, arith, append-nil}
+use Rattle.page_changes.proofs.Common.{append_assoc, prefix_len, false≢true, Decides-eqb, dbc_number, Difference, Place}
+use Rattle.std.proofs.Common.{◌==◌}
 use Rattle.std.specs.Prelude.{unwrap_or}
-use Rattle.std.specs.List.{filter, find, prefix_len}
-use Rattle.std.proofs.lemmas.Bool.{false≢true}
-use Rattle.std.proofs.lemmas.Bool.Decides.{Decides-eqb}
+use Rattle.std.specs.List.{filter, find}
 use Rattle.base.specs.Ascending.{IsAt, IsGap}
 use Rattle.base.proofs.AscendingLists.{find_at, find_gap}
-use Rattle.can_id.specs.Ident.{dbc_number}
-use Rattle.dbc_compare.specs.declared.difference.Difference.{Difference}
-use Rattle.dbc_compare.specs.declared.place.Place.{Place}
 use Rattle.dbc_compare.specs.declared.place.Place.TheVariants as place
-use Rattle.page_changes.specs.Changes.{are_one_message, change_at, is_beside, is_in_message, is_of_message, kept_if, list_of}
-use Rattle.page_changes.specs.Changes.{number_in, number_of_change, place_is_in}
+use Rattle.page_changes.specs.Changes.{are_one_message, change_at, is_beside, is_in_message, is_of_message, kept_if}
+use Rattle.page_changes.specs.Changes.{list_of, number_in, number_of_change, place_is_in}
 use Rattle.page_changes.specs.Parts.{parts_by}
 use Rattle.page_changes.proofs.Cutting.{cut}
 

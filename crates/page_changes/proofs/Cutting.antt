@@ -1,8 +1,6 @@
 -- A list, cut where neighbours aren't alike.
-use Rattle.std.proofs.Common.{◌≡◌, ◌+◌, ◌++◌, ◌∙◌, Bool, true, false, cond, ℕ, suc, List, [], ◌∷◌, take, drop}
-use Rattle.std.proofs.Common.{refl, sym, ap, arith, append_assoc}
-use Rattle.std.specs.List.{flat_map, prefix_len}
-use Rattle.std.proofs.lemmas.Bool.{cond-false, cond-true}
+use Rattle.page_changes.proofs.Common.{◌≡◌, ◌+◌, ◌++◌, ◌∙◌, Bool, true, false, cond, ℕ, suc, List, [], ◌∷◌, take, drop}
+use Rattle.page_changes.proofs.Common.{refl, sym, ap, arith, append_assoc, flat_map, prefix_len, cond-false, cond-true}
 use Rattle.page_changes.specs.Parts.{parts_by, with_alike}
 
 agree : {X : Type 0} (p q : X → Bool) → ((x : X) → p x ≡ q x) → (xs : List X) → prefix_len p xs ≡ prefix_len q xs

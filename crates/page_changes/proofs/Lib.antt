@@ -1,3 +1,4 @@
+pub mod Common
 pub mod RisingNames
 pub mod Backwards
 pub mod Cutting

@@ -1,9 +1,7 @@
 -- What is lost: differences of one thing, and losses of one node, that are side by side.
-use Rattle.std.proofs.Common.{◌≡◌, true, ℕ, List, Option, Some, None, refl, ap}
-use Rattle.std.proofs.lemmas.Bool.{false≢true}
+use Rattle.page_changes.proofs.Common.{◌≡◌, true, ℕ, List, Option, Some, None, refl, ap, false≢true, bytes_eq}
+use Rattle.page_changes.proofs.Common.{Difference}
 use Rattle.std.proofs.lemmas.Slice.Eq.{bytes_eq-Decides}
-use Rattle.std.specs.Str.{bytes_eq}
-use Rattle.dbc_compare.specs.declared.difference.Difference.{Difference}
 use Rattle.page_changes.specs.Act.{Lost, is_one_node, is_one_thing, node_of, same_name}
 
 same_names : (a b : Option (List ℕ)) → same_name a b ≡ true → a ≡ b

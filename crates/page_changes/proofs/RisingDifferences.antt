@@ -1,18 +1,16 @@
 -- The differences of two sheets come in order.
-use Rattle.std.proofs.Common.{◌≡◌, ◌+◌, ◌<◌, ◌≤◌, ◌++◌, ◌∙◌, Bool, true, false, ℕ, List, [], ◌∷◌, take, drop}
-use Rattle.std.proofs.Common.{Option, Some, None, suc, not, nat_lt, refl, sym, subst, arith}
-use Rattle.std.specs.List.{flat_map}
+use Rattle.page_changes.proofs.Common.{◌≡◌, ◌+◌, ◌<◌, ◌≤◌, ◌++◌, ◌∙◌, Bool, true, false, ℕ, List, [], ◌∷◌, take, drop}
+use Rattle.page_changes.proofs.Common.{Option, Some, None, suc, refl, sym, subst, arith, flat_map, Less, cond-false}
+use Rattle.page_changes.proofs.Common.{cond-true, number_of, Message, Sheet, Difference, Place}
+use Rattle.std.proofs.Common.{not, nat_lt}
 use Rattle.std.specs.List.Sorted.{IsStrictlySortedBy}
-use Rattle.std.specs.declared.cmp.Ordering.TheVariants.{Less}
-use Rattle.std.proofs.lemmas.Bool.{cond-false, cond-true, ltb-false, ltb-true}
+use Rattle.std.proofs.lemmas.Bool.{ltb-false, ltb-true}
 use Rattle.std.proofs.lemmas.Cmp.{ranked}
 use Rattle.dbc_words.specs.Named.{has_name, thing_named}
-use Rattle.dbc_sheet.specs.Messages.{AreMessages, by_number, number_of}
+use Rattle.dbc_sheet.specs.Messages.{AreMessages, by_number}
 use Rattle.dbc_sheet.specs.Sheet.{node_name, table_name}
 use Rattle.dbc_sheet.specs.Signals.{signal_name}
 use Rattle.dbc_sheet.specs.Pairs.{partner}
-use Rattle.dbc_sheet.specs.declared.message.Message.{Message}
-use Rattle.dbc_sheet.specs.declared.sheet.Sheet.{Sheet}
 use Rattle.dbc_compare.specs.Differences.{are_reordered, below, between, by_numbers, change_if, changes_between}
 use Rattle.dbc_compare.specs.Differences.{changes_since, differences, differences_about, gone_message, gone_thing}
 use Rattle.dbc_compare.specs.Differences.{message_differences, pair_differences, sheet_differences, shown_message}
@@ -20,8 +18,6 @@ use Rattle.dbc_compare.specs.Differences.{shown_thing, thing_differences}
 use Rattle.dbc_compare.specs.Fields.{Valued, message_fields, node_fields, sheet_fields, signal_fields, table_fields}
 use Rattle.dbc_compare.specs.declared.difference.Change.{Change}
 use Rattle.dbc_compare.specs.declared.difference.Change.TheVariants as change
-use Rattle.dbc_compare.specs.declared.difference.Difference.{Difference}
-use Rattle.dbc_compare.specs.declared.place.Place.{Place}
 use Rattle.dbc_compare.specs.declared.place.Place.TheVariants as place
 use Rattle.page_changes.specs.Changes.{AreRising, Rise, order_at}
 

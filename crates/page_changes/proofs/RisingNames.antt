@@ -1,19 +1,17 @@
 -- Names in ascending order, each once.
-use Rattle.std.proofs.Common.{◌≡◌, ◌||◌, ◌∙◌, ℕ, Bool, true, false, cond, List, [], ◌∷◌, map, Option, Some, None, T}
-use Rattle.std.proofs.Common.{refl, sym, ap, subst}
+use Rattle.page_changes.proofs.Common.{◌≡◌, ◌∙◌, ℕ, Bool, true, false, cond, List, [], ◌∷◌, map, Option, Some, None}
+use Rattle.page_changes.proofs.Common.{refl, sym, ap, subst, AllByRecursion, IsStrictlySortedBy, is_lt, bytes_eq}
+use Rattle.page_changes.proofs.Common.{nat_list_cmp_total, Less, text_cmp}
+use Rattle.std.proofs.Common.{◌||◌, T}
 use Rattle.std.specs.FinMap.{entries-from_sorted, find, from_entries, from_sorted, get-from_entries, get-from_sorted}
 use Rattle.std.specs.FinMap.{is_sorted, keys, nat_cmp-IsAntisymmetric, same_map, slice_cmp-IsAntisymmetric}
 use Rattle.std.specs.FinMap.Entries.{below_all}
-use Rattle.std.specs.List.{AllByRecursion, list_any}
-use Rattle.std.specs.List.Sorted.{IsStrictlySortedBy}
-use Rattle.std.specs.Ordering.{eq_by_cmp, is_lt}
-use Rattle.std.specs.Str.{bytes_eq}
-use Rattle.std.specs.Cmp.Lexicographic.{nat_list_cmp_total, nat_list_eq_equiv}
-use Rattle.std.specs.declared.cmp.Ordering.TheVariants.{Less}
+use Rattle.std.specs.List.{list_any}
+use Rattle.std.specs.Ordering.{eq_by_cmp}
+use Rattle.std.specs.Cmp.Lexicographic.{nat_list_eq_equiv}
 use Rattle.std.proofs.lemmas.Bool.{and_from}
 use Rattle.std.proofs.lemmas.Map.Keys.{sorted_head, sorted_tail}
 use Rattle.std.proofs.lemmas.Map.Text.{is_eq-slice_cmp}
-use Rattle.base.specs.Keyed.{text_cmp}
 use Rattle.page_parts.specs.Names.{AreAscending, HaveSame, has_name}
 use Rattle.page_changes.specs.Names.{ascending}
 

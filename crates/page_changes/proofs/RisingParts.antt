@@ -1,16 +1,9 @@
 -- Of differences that come in order, the messages ascend by their numbers.
-use Rattle.std.proofs.Common.{◌≡◌, ◌+◌, ◌<◌, ◌≤◌, ◌∙◌, Bool, true, false, cond, ℕ, List, [], ◌∷◌, Bor, take, drop, map, filter}
-use Rattle.std.proofs.Common.{refl, sym, subst, arith}
-use Rattle.std.specs.List.{AllByRecursion, prefix_len}
+use Rattle.page_changes.proofs.Common.{◌≡◌, ◌+◌, ◌<◌, ◌≤◌, ◌∙◌, Bool, true, false, cond, ℕ, List, [], ◌∷◌, Bor, take}
+use Rattle.page_changes.proofs.Common.{drop, map, filter, refl, sym, subst, arith, AllByRecursion, prefix_len, nat_cmp}
+use Rattle.page_changes.proofs.Common.{on, Less, false≢true, Decides-eqb, dbc_number, Difference, Place}
 use Rattle.std.specs.List.Sorted.{IsStrictlySortedBy}
-use Rattle.std.specs.Ordering.{nat_cmp, on}
 use Rattle.std.specs.Cmp.{nat_cmp_is}
-use Rattle.std.specs.declared.cmp.Ordering.TheVariants.{Less}
-use Rattle.std.proofs.lemmas.Bool.{false≢true}
-use Rattle.std.proofs.lemmas.Bool.Decides.{Decides-eqb}
-use Rattle.can_id.specs.Ident.{dbc_number}
-use Rattle.dbc_compare.specs.declared.difference.Difference.{Difference}
-use Rattle.dbc_compare.specs.declared.place.Place.{Place}
 use Rattle.dbc_compare.specs.declared.place.Place.TheVariants as place
 use Rattle.page_changes.specs.Changes.{AreRising, Rise, are_one_message, is_beside, is_in_message, is_of_message}
 use Rattle.page_changes.specs.Changes.{list_of, messages_in, number_at, number_in, number_of_change, order_at}

@@ -1,7 +1,7 @@
 -- What is written step by step.
-use Rattle.std.proofs.Common.{◌≡◌, ◌++◌, ◌∙◌, ℕ, List, [], append_assoc, refl}
+use Rattle.page_changes.proofs.Common.{◌≡◌, ◌++◌, ◌∙◌, ℕ, List, [], append_assoc, refl, Becomes, Writing, adding}
 use Rattle.markup.specs.Html.{end_tag, start_tag}
-use Rattle.markup.specs.Writing.{Becomes, Writing, adding, beginning, ending}
+use Rattle.markup.specs.Writing.{beginning, ending}
 use Rattle.markup.specs.declared.tag.Tag.{Tag}
 use Rattle.markup.proofs.Changes.{next}
 

@@ -1,11 +1,9 @@
 -- What is added to a page, one thing after another.
-use Rattle.std.proofs.Common.{◌≡◌, ◌+◌, ◌<◌, ◌++◌, ◌∙◌, ℕ, List, [], ◌∷◌, length, take, get_or, refl, sym, ap, subst}
-use Rattle.std.proofs.Common.{append-nil, append_assoc, OnOk, Result, Ok, Err}
-use Rattle.std.proofs.lemmas.List.{take_more}
-use Rattle.markup.specs.Html.{end_tag, start_tag}
-use Rattle.markup.specs.Writing.{Becomes, Writing, adding, beginning, ending}
+use Rattle.page_messages.proofs.Common.{◌≡◌, ◌+◌, ◌<◌, ◌++◌, ◌∙◌, ℕ, List, [], ◌∷◌, length, take, get_or, refl, sym, ap}
+use Rattle.page_messages.proofs.Common.{subst, append-nil, append_assoc, take_more, end_tag, start_tag, Becomes}
+use Rattle.page_messages.proofs.Common.{Writing, adding, beginning, ending, added, next}
+use Rattle.std.proofs.Common.{OnOk, Result, Ok, Err}
 use Rattle.markup.specs.declared.tag.Tag.{Tag}
-use Rattle.markup.proofs.Changes.{added, next}
 pub use Rattle.markup.proofs.Changes.{back}
 use Rattle.page_messages.specs.Layouts.{Adds, AreFor}
 

@@ -1,14 +1,12 @@
 -- A drawing depends only on which bits are at the places of the payload.
-use Rattle.std.proofs.Common.{◌≡◌, ◌+◌, ◌-◌, ◌*◌, ◌<◌, ◌≤◌, ◌==◌, ◌&&◌, ◌++◌, ◌∙◌, ℕ, zero, suc, Bool, true, false, List, []}
-use Rattle.std.proofs.Common.{◌∷◌, All, cond, length, refl, ap, arith}
-use Rattle.std.specs.List.{flat_map, list_all, range_with_len}
-use Rattle.std.proofs.lemmas.List.Elements.{All-cons, All-head, All-nil, All-tail}
-use Rattle.columns.specs.declared.run.Run.{Run}
+use Rattle.page_messages.proofs.Common.{◌≡◌, ◌+◌, ◌-◌, ◌*◌, ◌<◌, ◌≤◌, ◌==◌, ◌&&◌, ◌++◌, ◌∙◌, ℕ, zero, suc, Bool, true}
+use Rattle.page_messages.proofs.Common.{false, List, [], ◌∷◌, All, cond, length, refl, ap, arith, flat_map, list_all}
+use Rattle.page_messages.proofs.Common.{range_with_len, All-head, All-nil, All-tail, Run, end_tag, start_tag}
+use Rattle.std.proofs.lemmas.List.Elements.{All-cons}
 use Rattle.page_messages.specs.Layouts.{are_alike, are_free, bits_html, byte_head, byte_row, cell_html, cells_html}
-use Rattle.page_messages.specs.Layouts.{free_row, have_same, is_free, is_unheld, joined, layout_heads, row_html, rows_html}
-use Rattle.page_messages.specs.Layouts.{run_cell, runs_of}
+use Rattle.page_messages.specs.Layouts.{free_row, have_same, is_free, is_unheld, joined, layout_heads, row_html}
+use Rattle.page_messages.specs.Layouts.{rows_html, run_cell, runs_of}
 use Rattle.page_messages.specs.declared.bits.Held.{Held}
-use Rattle.markup.specs.Html.{end_tag, start_tag}
 use Rattle.markup.specs.declared.tag.Tag.TheVariants as tag
 
 -- ---- runs

@@ -1,12 +1,8 @@
 -- The cards of messages, one after another.
-use Rattle.std.proofs.Common.{◌≡◌, ◌+◌, ◌<◌, ◌==◌, ◌∙◌, ℕ, Bool, true, false, List, [], length, take, get_or, refl, sym}
-use Rattle.std.proofs.Common.{ap, arith, subst}
-use Rattle.std.specs.Bool.{MatchBool}
-use Rattle.std.specs.List.{enumerate_from}
-use Rattle.std.proofs.lemmas.List.FromFn.{get_or-enumerate_from, length-enumerate_from}
-use Rattle.markup.specs.Writing.{Becomes, Writing, adding}
-use Rattle.page_parts.specs.Subjects.{messages_of}
-use Rattle.page_parts.specs.declared.marks.Marks.{Marks}
+use Rattle.page_messages.proofs.Common.{◌≡◌, ◌+◌, ◌<◌, ◌==◌, ◌∙◌, ℕ, Bool, true, false, List, [], length, take, get_or}
+use Rattle.page_messages.proofs.Common.{refl, sym, ap, arith, subst, MatchBool, enumerate_from, length-enumerate_from}
+use Rattle.page_messages.proofs.Common.{Becomes, Writing, adding, messages_of, Marks}
+use Rattle.std.proofs.lemmas.List.FromFn.{get_or-enumerate_from}
 use Rattle.page_parts.specs.declared.subject.Subject.{Subject}
 use Rattle.page_messages.specs.Each.{AreCards, IsEach, each_html}
 use Rattle.page_messages.specs.Layouts.{Adds, AreFor}

@@ -1,9 +1,7 @@
 -- The cells of a byte, one after another.
-use Rattle.std.proofs.Common.{◌≡◌, ◌+◌, ◌-◌, ◌<◌, ◌≤◌, ◌⊎◌, ◌++◌, ◌∙◌, ℕ, suc, true, false, List, inl, inr, refl, sym, ap}
-use Rattle.std.proofs.Common.{subst, arith, append-nil, Bool}
-use Rattle.std.specs.List.{flat_map}
-use Rattle.std.proofs.lemmas.Bool.{cases_lt}
-use Rattle.markup.specs.Writing.{Becomes, Writing, adding}
+use Rattle.page_messages.proofs.Common.{◌≡◌, ◌+◌, ◌-◌, ◌<◌, ◌≤◌, ◌⊎◌, ◌++◌, ◌∙◌, ℕ, suc, true, false, List, inl, inr}
+use Rattle.page_messages.proofs.Common.{refl, sym, ap, subst, arith, append-nil, Bool, flat_map, cases_lt, Becomes}
+use Rattle.page_messages.proofs.Common.{Writing, adding}
 use Rattle.page_messages.specs.Layouts.{are_alike, cell_html, cells_html, have_same, run_cell, runs_of}
 use Rattle.page_messages.specs.declared.bits.Held.{Held}
 use Rattle.page_messages.proofs.Adding.{added_as, remains}

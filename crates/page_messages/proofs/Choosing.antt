@@ -1,6 +1,5 @@
 -- Of two, the first where it is so, and otherwise the second.
-use Rattle.std.proofs.Common.{◌≡◌, ◌∙◌, Bool, true, false, ap, cond, not, refl, sym}
-use Rattle.markup.specs.Writing.{Becomes, Writing}
+use Rattle.page_messages.proofs.Common.{◌≡◌, ◌∙◌, Bool, true, false, ap, cond, not, refl, sym, Becomes, Writing}
 
 pub then_so : (b : Bool) (x y new : Writing) → b ≡ true → Becomes new x → Becomes new (cond b x y)
 then_so b x y new e h kept = h kept ∙ sym (ap (λ v. cond v x y) e)

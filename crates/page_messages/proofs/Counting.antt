@@ -1,7 +1,7 @@
 -- Counts over the numbers below one, one number more.
-use Rattle.std.proofs.Common.{◌≡◌, ◌+◌, ◌++◌, ℕ, Bool, true, false, [], ◌∷◌, zero, suc, cond, sym, ap, ◌∙◌, add-one, arith}
-use Rattle.std.specs.Prelude.{count_by}
-use Rattle.std.specs.List.{range_with_len}
+use Rattle.page_messages.proofs.Common.{◌≡◌, ◌+◌, ◌++◌, ℕ, Bool, true, false, [], ◌∷◌, zero, suc, cond, sym, ap, ◌∙◌}
+use Rattle.page_messages.proofs.Common.{arith, count_by, range_with_len}
+use Rattle.std.proofs.Common.{add-one}
 use Rattle.std.proofs.lemmas.List.Sums.{sum_by_push}
 
 range_more : (a n : ℕ) → range_with_len a (suc n) ≡ range_with_len a n ++ (a + n) ∷ []

@@ -1,8 +1,6 @@
 -- The layouts of a message that has one for each value of its multiplexor.
-use Rattle.std.proofs.Common.{◌≡◌, ◌==◌, ℕ, Bool, false, List, [], ◌∷◌, Option, Some, find, length, sym, subst}
-use Rattle.std.specs.Bool.{MatchBool}
-use Rattle.dbc_sheet.specs.declared.message.Message.{Message}
-use Rattle.markup.specs.Writing.{Writing}
+use Rattle.page_messages.proofs.Common.{◌≡◌, ◌==◌, ℕ, Bool, false, List, [], ◌∷◌, Option, Some, find, length, sym}
+use Rattle.page_messages.proofs.Common.{subst, MatchBool, Message, Writing}
 use Rattle.page_messages.specs.Layouts.{Adds, AreDrawn, AreLayouts, AreLayoutsBy, AreValueLayouts, AreValues}
 use Rattle.page_messages.specs.Layouts.{is_multiplexor}
 use Rattle.page_messages.specs.declared.shown.Shown.{Shown}

@@ -1,24 +1,21 @@
 -- The bits at a place, among all that signals hold: those of the signals that have the place.
-use Rattle.std.proofs.Common.{◌≡◌, ◌+◌, ◌-◌, ◌<◌, ◌≤◌, ◌⊎◌, ◌==◌, ◌&&◌, ◌++◌, ◌∙◌, ℕ, zero, suc, Bool, true, false, not}
-use Rattle.std.proofs.Common.{List, [], ◌∷◌, All, cond, filter, get_or, inl, inr, length, map, max, min, refl, sym, ap, subst}
-use Rattle.std.proofs.Common.{append-nil, arith, take}
-use Rattle.std.specs.List.{flat_map, range_with_len}
+use Rattle.page_messages.proofs.Common.{◌≡◌, ◌+◌, ◌-◌, ◌<◌, ◌≤◌, ◌⊎◌, ◌==◌, ◌&&◌, ◌++◌, ◌∙◌, ℕ, zero, suc, Bool, true}
+use Rattle.page_messages.proofs.Common.{false, not, List, [], ◌∷◌, All, cond, filter, get_or, inl, inr, length, map}
+use Rattle.page_messages.proofs.Common.{refl, sym, ap, subst, append-nil, arith, take, flat_map, range_with_len}
+use Rattle.page_messages.proofs.Common.{cases_lt, nat_tests, All-head, All-nil, All-tail, take_more}
+use Rattle.page_messages.proofs.Common.{get_or-range_with_len, length-range_with_len, is_bit, is_bit_decides}
+use Rattle.std.proofs.Common.{max, min}
 use Rattle.std.specs.List.Sorted.{IsStableByKey}
 use Rattle.std.specs.Ordering.{is_lt, nat_cmp}
-use Rattle.std.proofs.lemmas.Bool.{cases_Bool, cases_lt}
-use Rattle.std.proofs.lemmas.Bool.Decides.{nat_tests}
-use Rattle.std.proofs.lemmas.List.Elements.{All-append, All-filter, All-head, All-map, All-nil, All-tail, filter-append}
-use Rattle.std.proofs.lemmas.List.Elements.{filter_agree}
-use Rattle.std.proofs.lemmas.List.{take_more}
+use Rattle.std.proofs.lemmas.Bool.{cases_Bool}
+use Rattle.std.proofs.lemmas.List.Elements.{All-append, All-filter, All-map, filter-append, filter_agree}
 use Rattle.std.proofs.lemmas.List.Concat.{flat_map-append}
-use Rattle.std.proofs.lemmas.List.FromFn.{get_or-range_with_len, length-range_with_len}
-use Rattle.bitlayout.specs.Bits.{is_bit}
 use Rattle.bitlayout.specs.Interval.{rank}
 use Rattle.bitlayout.specs.Limits.{size_limit}
 use Rattle.bitlayout.specs.declared.layout.Layout.{Layout}
 use Rattle.bitlayout.specs.declared.layout.Order.{Order}
 use Rattle.bitlayout.specs.declared.layout.Order.TheVariants.{Intel, Motorola}
-use Rattle.bitlayout.proofs.Walks.{bit_within, is_bit_decides}
+use Rattle.bitlayout.proofs.Walks.{bit_within}
 use Rattle.page_messages.specs.Bits.{bit_at, held_of, is_held, start_of_byte, turned}
 use Rattle.page_messages.specs.Layouts.{bits_at, holders, place_of}
 use Rattle.page_messages.specs.declared.bits.Held.{Held}

@@ -1,3 +1,4 @@
+pub mod Common
 mod Adding
 mod Alike
 mod Cards

@@ -1,9 +1,7 @@
 -- Signals with their indices, one signal more.
-use Rattle.std.proofs.Common.{◌≡◌, ◌+◌, ◌<◌, ◌≤◌, ◌++◌, ◌∙◌, ℕ, suc, List, [], ◌∷◌, length, take, map, get_or, sym, ap, arith}
-use Rattle.std.specs.List.{enumerate_from}
-use Rattle.std.proofs.lemmas.List.{length-take-le, map-append, take_more}
-use Rattle.dbc_sheet.specs.declared.signal.Signal.{Signal}
-use Rattle.page_parts.specs.declared.marks.Marks.{Marks}
+use Rattle.page_messages.proofs.Common.{◌≡◌, ◌+◌, ◌<◌, ◌≤◌, ◌++◌, ◌∙◌, ℕ, suc, List, [], ◌∷◌, length, take, map, get_or}
+use Rattle.page_messages.proofs.Common.{sym, ap, arith, enumerate_from, length-take-le, take_more, Signal, Marks}
+use Rattle.std.proofs.lemmas.List.{map-append}
 use Rattle.page_messages.specs.Signals.{listed, listed_by, listed_of}
 use Rattle.page_messages.specs.declared.shown.Shown.{Shown}
 

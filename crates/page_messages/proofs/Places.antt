@@ -1,8 +1,9 @@
 -- Bits in reading order: those at a place are side by side.
-use Rattle.std.proofs.Common.{◌≡◌, ◌+◌, ◌-◌, ◌<◌, ◌≤◌, ◌==◌, ◌∙◌, ℕ, zero, suc, Bool, true, false, List, [], ◌∷◌, length}
-use Rattle.std.proofs.Common.{take, drop, filter, cond, get_or, leb, ltb, refl, sym, ap, arith}
+use Rattle.page_messages.proofs.Common.{◌≡◌, ◌+◌, ◌-◌, ◌<◌, ◌≤◌, ◌==◌, ◌∙◌, ℕ, zero, suc, Bool, true, false, List, []}
+use Rattle.page_messages.proofs.Common.{◌∷◌, length, take, filter, cond, get_or, leb, ltb, refl, sym, ap, arith}
+use Rattle.page_messages.proofs.Common.{nat_tests}
+use Rattle.std.proofs.Common.{drop}
 use Rattle.std.specs.List.Sorted.{IsPartitionPoint}
-use Rattle.std.proofs.lemmas.Bool.Decides.{nat_tests}
 use Rattle.std.proofs.lemmas.List.{get_or-drop, length-drop}
 use Rattle.page_messages.specs.Layouts.{bits_at, place_of}
 use Rattle.page_messages.specs.declared.bits.Held.{Held}

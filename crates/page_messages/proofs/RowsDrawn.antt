@@ -1,18 +1,14 @@
 -- The rows of a layout, one after another.
-use Rattle.std.proofs.Common.{◌≡◌, ◌+◌, ◌-◌, ◌*◌, ◌/◌, ◌<◌, ◌≤◌, ◌⊎◌, ◌==◌, ◌&&◌, ◌++◌, ◌∙◌, ℕ, zero, suc, Bool, true, false}
-use Rattle.std.proofs.Common.{List, [], ◌∷◌, All, cond, filter, get_or, length, nat_lt, inl, inr, refl, sym, ap, subst, arith}
-use Rattle.std.proofs.Common.{append-nil, append_assoc, true≢false}
-use Rattle.std.specs.List.{flat_map, list_all, range_with_len}
-use Rattle.std.proofs.lemmas.Bool.{cases_lt}
-use Rattle.std.proofs.lemmas.Bool.Decides.{nat_tests}
+use Rattle.page_messages.proofs.Common.{◌≡◌, ◌+◌, ◌-◌, ◌*◌, ◌/◌, ◌<◌, ◌≤◌, ◌⊎◌, ◌==◌, ◌&&◌, ◌++◌, ◌∙◌, ℕ, zero, suc}
+use Rattle.page_messages.proofs.Common.{Bool, true, false, List, [], ◌∷◌, All, cond, filter, get_or, length, nat_lt}
+use Rattle.page_messages.proofs.Common.{inl, inr, refl, sym, ap, subst, arith, append-nil, append_assoc, flat_map}
+use Rattle.page_messages.proofs.Common.{list_all, range_with_len, cases_lt, nat_tests, All-head, All-tail}
+use Rattle.page_messages.proofs.Common.{get_or-range_with_len, length-range_with_len, Becomes, Writing, adding, added}
+use Rattle.std.proofs.Common.{true≢false}
 use Rattle.std.proofs.lemmas.List.{get_or_default}
-use Rattle.std.proofs.lemmas.List.Elements.{All-head, All-tail}
 use Rattle.std.proofs.lemmas.List.Folds.{list_all_at}
-use Rattle.std.proofs.lemmas.List.FromFn.{get_or-range_with_len, length-range_with_len}
-use Rattle.markup.specs.Writing.{Becomes, Writing, adding}
-use Rattle.markup.proofs.Changes.{added}
-use Rattle.page_messages.specs.Layouts.{AreInOrder, are_free, bits_at, byte_row, free_row, free_rows, is_free, is_unheld}
-use Rattle.page_messages.specs.Layouts.{row_html, rows_html, runs_of}
+use Rattle.page_messages.specs.Layouts.{AreInOrder, are_free, bits_at, byte_row, free_row, free_rows, is_free}
+use Rattle.page_messages.specs.Layouts.{is_unheld, row_html, rows_html, runs_of}
 use Rattle.page_messages.specs.declared.bits.Held.{Held}
 use Rattle.page_messages.proofs.Adding.{added_as, remains}
 use Rattle.page_messages.proofs.Runs.{cut, none, run}

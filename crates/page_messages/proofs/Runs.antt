@@ -1,7 +1,6 @@
 -- Runs of neighbours that are alike, from the first one to the last.
-use Rattle.std.proofs.Common.{◌≡◌, ◌+◌, ◌<◌, ◌≤◌, ◌⊎◌, ◌∙◌, ℕ, zero, suc, Bool, true, false, List, [], ◌∷◌, inl, inr}
-use Rattle.std.proofs.Common.{refl, sym, ap, arith}
-use Rattle.columns.specs.declared.run.Run.{Run}
+use Rattle.page_messages.proofs.Common.{◌≡◌, ◌+◌, ◌<◌, ◌≤◌, ◌⊎◌, ◌∙◌, ℕ, zero, suc, Bool, true, false, List, [], ◌∷◌}
+use Rattle.page_messages.proofs.Common.{inl, inr, refl, sym, ap, arith, Run}
 use Rattle.page_messages.specs.Layouts.{joined, runs_of}
 
 abbrev pub run : ℕ → ℕ → Run

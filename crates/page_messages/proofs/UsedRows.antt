@@ -1,13 +1,10 @@
 -- The positions that signals have, one signal more.
-use Rattle.std.proofs.Common.{ℕ, ◌+◌, ◌<◌, ◌↔◌, ◌⊎◌, ◌∙◌, inl, inr, List, length, take, get_or, sym, IsTrue}
+use Rattle.page_messages.proofs.Common.{ℕ, ◌+◌, ◌<◌, ◌↔◌, ◌⊎◌, ◌∙◌, inl, inr, List, length, take, get_or, sym, IsTrue}
+use Rattle.page_messages.proofs.Common.{list_any, is_bit, mask_end, Has, is_bit_decides, Signal}
 use Rattle.std.proofs.lemmas.Bool.{or_cases, or_left, or_right}
-use Rattle.std.specs.List.{list_any}
 use Rattle.std.proofs.lemmas.List.Folds.{list_any_more}
-use Rattle.bitlayout.specs.Bits.{IsBit, is_bit}
-use Rattle.bitlayout.specs.Mask.{mask_end, Has}
+use Rattle.bitlayout.specs.Bits.{IsBit}
 use Rattle.bitlayout.specs.declared.mask.Mask.{Mask}
-use Rattle.bitlayout.proofs.Walks.{is_bit_decides}
-use Rattle.dbc_sheet.specs.declared.signal.Signal.{Signal}
 use Rattle.page_messages.specs.Used.{has_position}
 
 pub position_more : (old new : Mask) (signals : List Signal) (i q : ℕ) (d : Signal) → i < length signals → q < mask_end

@@ -1,7 +1,8 @@
 -- The values of a multiplexor on which signals depend.
-use Rattle.std.proofs.Common.{◌≡◌, ◌<◌, ◌==◌, ◌||◌, ◌∙◌, ℕ, Bool, true, false, List, [], ◌∷◌, Option, None, Some, Contains, eqb}
-use Rattle.std.proofs.Common.{length, get_or, refl, sym, ap, subst, eq-eqb, eqb-true}
-use Rattle.std.specs.List.{cons_option, dedup, filter_map, list_any}
+use Rattle.page_messages.proofs.Common.{◌≡◌, ◌<◌, ◌==◌, ◌∙◌, ℕ, Bool, true, false, List, [], ◌∷◌, Option, None, Some}
+use Rattle.page_messages.proofs.Common.{eqb, length, get_or, refl, sym, ap, subst, list_any}
+use Rattle.std.proofs.Common.{◌||◌, Contains, eq-eqb, eqb-true}
+use Rattle.std.specs.List.{cons_option, dedup, filter_map}
 use Rattle.std.proofs.lemmas.List.Folds.{Any-from_list_any, list_any-from_Any}
 use Rattle.std.proofs.lemmas.List.Kept.{Contains-dedup_nat, Contains-from_dedup}
 use Rattle.page_messages.specs.Layouts.{depends_on, is_number, value_if}

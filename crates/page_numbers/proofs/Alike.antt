@@ -1,16 +1,10 @@
 -- What is left depends on which numbers are live and taken, and not on their order.
-use Rattle.std.proofs.Common.{◌≡◌, ◌&&◌, not, ℕ, List, length, map, sum}
+use Rattle.page_numbers.proofs.Common.{◌≡◌, ◌&&◌, not, ℕ, List, length, map, sum, flat_map, runs_of, has_form}
+use Rattle.page_numbers.proofs.Common.{NumberForm, GrantedBlock, free_numbers, numbers_in, HaveSame, names_of}
 use Rattle.std.specs.Prelude.{count_by, filter}
-use Rattle.std.specs.List.{flat_map}
-use Rattle.columns.specs.Run.{runs_of}
-use Rattle.office_types.specs.Free.{has_form}
-use Rattle.office_types.specs.declared.free.NumberForm.{NumberForm}
-use Rattle.office_types.specs.declared.state.GrantedBlock.{GrantedBlock}
-use Rattle.office_blocks.specs.Blocks.{free_numbers, numbers_in}
-use Rattle.office_blocks.specs.Numbers.{AreNumbersOf, HaveSame}
+use Rattle.office_blocks.specs.Numbers.{AreNumbersOf}
 use Rattle.office_blocks.specs.declared.numbers.Numbers.{Numbers}
 use Rattle.office_seen.specs.declared.view.View.{View}
-use Rattle.page_parts.specs.Subjects.{names_of}
 use Rattle.page_parts.specs.declared.subject.Subject.{Subject}
 use Rattle.page_numbers.specs.Counts.{Known, counts_in, known_in, known_of, left_of}
 use Rattle.page_numbers.specs.Left.{all_rows, forms, row_if}

@@ -1,10 +1,11 @@
 -- Elements that begin, and end.
-use Rattle.std.proofs.Common.{◌≡◌, ◌++◌, ◌∙◌, ℕ, Bool, List, [], Option, refl, sym, ap, append-nil, append_assoc}
+use Rattle.page_numbers.proofs.Common.{◌≡◌, ◌++◌, ◌∙◌, ℕ, Bool, List, [], Option, refl, sym, ap, append-nil}
+use Rattle.page_numbers.proofs.Common.{append_assoc, Becomes, Writing, adding, with_fold, with_part}
 use Rattle.markup.specs.Html.{end_tag, start_tag}
-use Rattle.markup.specs.Writing.{Becomes, Writing, adding, beginning, ending}
+use Rattle.markup.specs.Writing.{beginning, ending}
 use Rattle.markup.specs.declared.tag.Tag.{Tag}
 use Rattle.markup.proofs.Changes.{next}
-use Rattle.page_parts.specs.Frames.{with_fold, with_part, with_table, with_wide}
+use Rattle.page_parts.specs.Frames.{with_table, with_wide}
 use Rattle.page_numbers.specs.Elements.{around, fold_html, part_html, table_html, wide_html}
 
 -- nothing is added

@@ -1,20 +1,15 @@
 -- Numbers in a block, counted over the ascending ones that are in it, and by which numbers are there.
-use Rattle.std.proofs.Common.{◌≡◌, ◌+◌, ◌-◌, ◌≤◌, ◌^◌, ◌&&◌, not, ℕ, Bool, true, false, List, [], ◌∷◌, length}
-use Rattle.std.proofs.Common.{refl, sym, ap, ◌∙◌, arith, append-nil}
-use Rattle.std.specs.List.{count_by, flat_map}
+use Rattle.page_numbers.proofs.Common.{◌≡◌, ◌+◌, ◌-◌, ◌≤◌, ◌^◌, ◌&&◌, not, ℕ, Bool, true, false, List, [], ◌∷◌, length}
+use Rattle.page_numbers.proofs.Common.{refl, sym, ap, ◌∙◌, arith, append-nil, count_by, flat_map, and_parts, false≢true}
+use Rattle.page_numbers.proofs.Common.{length-filter, runs_of, same_form, has_form, is_taken, BlockForm, NumberForm}
+use Rattle.page_numbers.proofs.Common.{GrantedBlock, free_numbers, numbers_in}
 use Rattle.std.specs.Str.{bytes_eq}
-use Rattle.std.proofs.lemmas.Bool.{and_parts, false≢true}
 use Rattle.std.proofs.lemmas.List.FromFn.{length-range_with_len}
-use Rattle.std.proofs.lemmas.List.Sums.{count_by-le-length, length-filter}
-use Rattle.columns.specs.Run.{runs_of}
-use Rattle.office_types.specs.Block.{IsRange, Range, greatest_of, same_form}
-use Rattle.office_types.specs.Free.{has_form, is_taken}
-use Rattle.office_types.specs.declared.block.BlockForm.{BlockForm}
+use Rattle.std.proofs.lemmas.List.Sums.{count_by-le-length}
+use Rattle.office_types.specs.Block.{IsRange, Range, greatest_of}
 use Rattle.office_types.specs.declared.block.BlockForm.TheVariants as form
-use Rattle.office_types.specs.declared.free.NumberForm.{NumberForm}
 use Rattle.office_types.specs.declared.free.NumberForm.TheVariants as number
-use Rattle.office_types.specs.declared.state.GrantedBlock.{GrantedBlock}
-use Rattle.office_blocks.specs.Blocks.{forms_in, free_count, free_numbers, free_runs, numbers_in, runs_in, step_of}
+use Rattle.office_blocks.specs.Blocks.{forms_in, free_count, free_runs, runs_in, step_of}
 use Rattle.office_blocks.specs.Numbers.{ArePart}
 use Rattle.office_blocks.proofs.Counting.{count_alike, count_within}
 use Rattle.page_numbers.specs.Tally.{block_form, free_at, held_at, is_beside, is_group, is_of, live_at}

@@ -1,11 +1,6 @@
 -- The cells of a chart, by what the code has at hand.
-use Rattle.std.proofs.Common.{◌≡◌, ◌≤◌, ◌&&◌, ℕ, arith, Bool, true, false, List, [], Option, Some, None, sym, subst}
-use Rattle.std.specs.Prelude.{is_some}
-use Rattle.std.proofs.lemmas.Bool.{false≢true}
-use Rattle.dbc_sheet.specs.declared.message.Message.{Message}
-use Rattle.office_blocks.specs.Numbers.{HaveSame}
-use Rattle.office_seen.specs.Owners.{team_at}
-use Rattle.office_types.specs.Free.{is_taken}
+use Rattle.page_numbers.proofs.Common.{◌≡◌, ◌≤◌, ◌&&◌, ℕ, arith, Bool, true, false, List, [], Option, Some, None, sym}
+use Rattle.page_numbers.proofs.Common.{subst, is_some, false≢true, Message, HaveSame, team_at, is_taken, GrantedBlock}
 use Rattle.page_numbers.specs.CellHtml.{IsCellHtml, IsCellOf, nobody_cell}
 use Rattle.page_numbers.specs.Cells.{IsCell}
 use Rattle.page_numbers.specs.Charts.{has, number_in, numbers_of}
@@ -13,7 +8,6 @@ use Rattle.page_numbers.specs.Index.{live_at}
 use Rattle.page_numbers.specs.Map.{Facts, IsCellAt, IsRow, IsTable}
 use Rattle.page_numbers.specs.declared.cells.Cell.{Cell}
 use Rattle.page_numbers.specs.declared.cells.Cell.TheVariants.{Live, Held, Free, Nobody}
-use Rattle.office_types.specs.declared.state.GrantedBlock.{GrantedBlock}
 use Rattle.page_numbers.specs.declared.charts.Chart.{Chart}
 use Rattle.page_numbers.specs.declared.charts.Chart.TheVariants.{Standard}
 use Rattle.page_numbers.proofs.Pieces.{pieces_weaker}

@@ -1,13 +1,10 @@
 -- The first block that has a number, among fewer blocks.
-use Rattle.std.proofs.Common.{◌≡◌, ℕ, zero, suc, ◌<◌, ◌≤◌, ◌&&◌, Bool, true, false, cond, List, [], ◌∷◌, drop, take}
-use Rattle.std.proofs.Common.{get_or, length, None, Some, refl, ap, sym, ◌∙◌, arith, leb}
-use Rattle.std.specs.List.{find, list_any}
-use Rattle.std.proofs.lemmas.Bool.{and_from, and_parts, both_ways, false_from_ne_true, leb-true, le-leb, or_from}
-use Rattle.std.proofs.lemmas.Bool.{or_parts}
-use Rattle.office_types.specs.Block.{same_form, form_number}
-use Rattle.office_types.specs.declared.block.BlockForm.{BlockForm}
-use Rattle.office_types.specs.declared.state.GrantedBlock.{GrantedBlock}
-use Rattle.office_seen.specs.Granted.{has_number_in}
+use Rattle.page_numbers.proofs.Common.{◌≡◌, ℕ, zero, suc, ◌<◌, ◌≤◌, ◌&&◌, Bool, true, false, cond, List, [], ◌∷◌, drop}
+use Rattle.page_numbers.proofs.Common.{take, get_or, length, None, Some, refl, ap, sym, ◌∙◌, arith, leb, find}
+use Rattle.page_numbers.proofs.Common.{and_parts, same_form, BlockForm, GrantedBlock, has_number_in}
+use Rattle.std.specs.List.{list_any}
+use Rattle.std.proofs.lemmas.Bool.{and_from, both_ways, false_from_ne_true, leb-true, le-leb, or_from, or_parts}
+use Rattle.office_types.specs.Block.{form_number}
 use Rattle.page_numbers.specs.Charts.{is_near}
 use Rattle.page_numbers.specs.Ordered.{high, key, low}
 use Rattle.page_numbers.proofs.InBlocks.{same_block}

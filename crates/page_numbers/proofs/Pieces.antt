@@ -1,11 +1,8 @@
 -- Pieces, one for each item.
-use Rattle.std.proofs.Common.{◌≡◌, ◌+◌, ◌<◌, ◌++◌, ◌∙◌, ℕ, List, [], ◌∷◌, length, take, get_or, map, refl, sym, ap, subst}
-use Rattle.std.proofs.Common.{append-nil, append_assoc, arith}
-use Rattle.std.specs.List.{range_with_len}
-use Rattle.std.proofs.lemmas.List.{map-append, take_more}
+use Rattle.page_numbers.proofs.Common.{◌≡◌, ◌+◌, ◌<◌, ◌++◌, ◌∙◌, ℕ, List, [], ◌∷◌, length, take, get_or, map, refl, sym}
+use Rattle.page_numbers.proofs.Common.{ap, subst, append-nil, append_assoc, arith, range_with_len, map-append}
+use Rattle.page_numbers.proofs.Common.{take_more, Writing, added}
 use Rattle.std.proofs.lemmas.List.FromFn.{map-range_with_len_more}
-use Rattle.markup.specs.Writing.{Writing}
-use Rattle.markup.proofs.Changes.{added}
 use Rattle.page_numbers.specs.Elements.{ArePieces, IsMoreBy}
 use Rattle.page_numbers.proofs.Closing.{unchanged}
 

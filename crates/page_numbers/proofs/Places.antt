@@ -1,18 +1,17 @@
 -- The messages of one number among those that are in order.
-use Rattle.std.proofs.Common.{◌≡◌, ℕ, zero, suc, ◌+◌, ◌-◌, ◌<◌, ◌≤◌, ◌==◌, ◌&&◌, not, ◌++◌, Bool, true, false, List, []}
-use Rattle.std.proofs.Common.{◌∷◌}
-use Rattle.std.proofs.Common.{length, take, drop, map, cond, get_or, Option, None, Some, refl, sym, ap, ◌∙◌, arith, ltb}
+use Rattle.page_numbers.proofs.Common.{◌≡◌, ℕ, zero, suc, ◌+◌, ◌-◌, ◌<◌, ◌≤◌, ◌&&◌, not, ◌++◌, Bool, true, false, List}
+use Rattle.page_numbers.proofs.Common.{[], ◌∷◌, length, take, drop, map, cond, get_or, Option, None, Some, refl, sym}
+use Rattle.page_numbers.proofs.Common.{ap, ◌∙◌, arith, ltb, flat_map, length-drop, map-append, filter-append, BlockForm}
+use Rattle.page_numbers.proofs.Common.{Message}
+use Rattle.std.proofs.Common.{◌==◌}
 use Rattle.std.specs.Prelude.{filter}
-use Rattle.std.specs.List.{flat_map}
 use Rattle.std.specs.List.Sorted.{IsNonDecreasingBy, IsStableByKey}
 use Rattle.std.specs.Ordering.{is_lt, nat_cmp}
 use Rattle.std.proofs.lemmas.Bool.Decides.{nat_tests}
-use Rattle.std.proofs.lemmas.List.{get_or-drop, length-drop, map-append}
-use Rattle.std.proofs.lemmas.List.Elements.{filter-append, filter_agree}
-use Rattle.office_types.specs.declared.block.BlockForm.{BlockForm}
-use Rattle.dbc_sheet.specs.declared.message.Message.{Message}
-use Rattle.page_numbers.specs.Index.{AreBelow, AreInOrder, Numbered, all_numbered, has_number, is_number}
-use Rattle.page_numbers.specs.Index.{message_at, number_at, number_of, numbered, numbered_if}
+use Rattle.std.proofs.lemmas.List.{get_or-drop}
+use Rattle.std.proofs.lemmas.List.Elements.{filter_agree}
+use Rattle.page_numbers.specs.Index.{AreBelow, AreInOrder, Numbered, all_numbered, has_number, is_number, message_at}
+use Rattle.page_numbers.specs.Index.{number_at, number_of, numbered, numbered_if}
 
 abbrev has : ℕ → Numbered → Bool
 has n x = number_at x == n

@@ -1,15 +1,12 @@
 -- Lists that have the same numbers, however often.
-use Rattle.std.proofs.Common.{◌≡◌, ◌+◌, ◌-◌, ◌<◌, ◌≤◌, ◌||◌, ◌++◌, ◌∙◌, ℕ, zero, suc, Bool, true, false, List, [], ◌∷◌}
-use Rattle.std.proofs.Common.{length, take, get_or, Some, refl, sym, ap, append-nil, append_assoc, arith, inl, inr}
-use Rattle.std.specs.Prelude.{◌==◌, slice_get}
-use Rattle.std.specs.List.{flat_map, range_with_len}
+use Rattle.page_numbers.proofs.Common.{◌≡◌, ◌+◌, ◌-◌, ◌<◌, ◌≤◌, ◌++◌, ◌∙◌, ℕ, zero, suc, Bool, true, false, List, []}
+use Rattle.page_numbers.proofs.Common.{◌∷◌, length, take, get_or, Some, refl, sym, ap, append-nil, append_assoc, arith}
+use Rattle.page_numbers.proofs.Common.{◌==◌, flat_map, range_with_len, take_more, flat_map-append, HaveSame, is_taken}
+use Rattle.std.proofs.Common.{◌||◌, inl, inr}
+use Rattle.std.specs.Prelude.{slice_get}
 use Rattle.std.proofs.lemmas.Bool.{cases_Bool}
-use Rattle.std.proofs.lemmas.List.{take_more}
-use Rattle.std.proofs.lemmas.List.Concat.{flat_map-append}
 use Rattle.std.proofs.lemmas.List.Folds.{list_any-append, list_any_at}
 use Rattle.std.proofs.lemmas.Option.{get_or_from_slice_get, slice_get_within}
-use Rattle.office_blocks.specs.Numbers.{HaveSame}
-use Rattle.office_types.specs.Free.{is_taken}
 
 append_taken : (n : ℕ) (xs ys : List ℕ) → is_taken n (xs ++ ys) ≡ (is_taken n xs || is_taken n ys)
 append_taken n xs ys = list_any-append (λ t. t == n) xs ys

@@ -1,11 +1,9 @@
 -- Sums and lists over the items that pass a test, item by item.
-use Rattle.std.proofs.Common.{◌≡◌, ◌+◌, ◌<◌, ◌++◌, ℕ, Bool, true, false, List, [], ◌∷◌, length, take, filter, get_or}
-use Rattle.std.proofs.Common.{cond, map, sum, sym, ap, ◌∙◌, append-nil}
-use Rattle.std.specs.List.{flat_map, sum_by}
-use Rattle.std.proofs.lemmas.List.{take_more}
-use Rattle.std.proofs.lemmas.List.Concat.{flat_map-append}
+use Rattle.page_numbers.proofs.Common.{◌≡◌, ◌+◌, ◌<◌, ◌++◌, ℕ, Bool, true, false, List, [], ◌∷◌, length, take, filter}
+use Rattle.page_numbers.proofs.Common.{get_or, cond, map, sum, sym, ap, ◌∙◌, append-nil, flat_map, take_more}
+use Rattle.page_numbers.proofs.Common.{flat_map-append, filter-append}
+use Rattle.std.specs.List.{sum_by}
 use Rattle.std.proofs.lemmas.List.Sums.{sum-map, sum_by_push}
-use Rattle.std.proofs.lemmas.List.Elements.{filter-append}
 
 -- ---- the items that pass a test, with one item more
 

@@ -1,12 +1,10 @@
 -- What is left of each team's numbers, as HTML.
-use Rattle.std.specs.Prelude.{ℕ, ◌+◌, ◌-◌, ◌==◌, ◌&&◌, nat_le, nat_lt, Bool, false, List, [], ◌∷◌, ◌++◌, None, Option}
+use Rattle.std.specs.Prelude.{ℕ, ◌+◌, ◌-◌, ◌==◌, false, List, [], ◌∷◌, ◌++◌, None, Option}
 use Rattle.std.specs.Prelude.{Some, codes, decimal, length, map, take, if◌then◌else◌}
 use Rattle.std.specs.List.{flat_map}
 use Rattle.columns.specs.declared.run.Run.{Run}
 use Rattle.markup.specs.Html.{element_html, escaped, valued}
 use Rattle.markup.specs.declared.tag.Tag.TheVariants as tag
-use Rattle.office_blocks.specs.Blocks.{live_numbers, taken_numbers}
-use Rattle.office_blocks.specs.Numbers.{of_form}
 use Rattle.office_blocks.specs.declared.numbers.Numbers.{Numbers}
 use Rattle.office_seen.specs.declared.view.View.{View}
 use Rattle.office_types.specs.Block.{Range}

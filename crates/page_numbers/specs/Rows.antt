@@ -1,6 +1,6 @@
 -- Which rows of the map there are.
 use Rattle.std.specs.Prelude.{ℕ, ◌+◌, ◌-◌, Bool, List, [], ◌∷◌, ◌++◌, Option, Some, None, if◌then◌else◌}
-use Rattle.std.specs.List.{flat_map, range_with_len}
+use Rattle.std.specs.List.{flat_map}
 use Rattle.std.specs.List.Sorted.{IsStrictlyIncreasing}
 use Rattle.can_id.specs.declared.ident.Ident.{Ident}
 use Rattle.dbc_sheet.specs.declared.message.Message.{Message}

@@ -1,6 +1,5 @@
 -- What is left of a team's numbers.
-use Rattle.std.specs.Prelude.{◌≡◌, ℕ, ◌+◌, ◌&&◌, not, Bool, true, false, List, count_by, filter, length, map, sum}
-use Rattle.std.specs.List.{flat_map}
+use Rattle.std.specs.Prelude.{ℕ, ◌&&◌, not, Bool, true, false, List, count_by, filter, length}
 use Rattle.std.specs.Str.{bytes_eq}
 use Rattle.columns.specs.Run.{runs_of}
 use Rattle.columns.specs.declared.run.Run.{Run}

@@ -1,9 +1,6 @@
 -- What a crash may leave.
-use Rattle.std.proofs.Common.{◌≡◌, ◌⊎◌, inl, inr, Err, Ok, Result, sym, subst, arith}
-use Rattle.std.specs.Prelude.{OnErr}
-use Rattle.sqlite.specs.State.{HasCleanDisk, State, Survives}
-use Rattle.sqlite.specs.Tree.{Trees}
-use Rattle.sqlite.specs.declared.error.Error.{Error}
+use Rattle.store.proofs.Common.{◌≡◌, ◌⊎◌, inl, inr, Err, Ok, Result, sym, subst, arith, OnErr, HasCleanDisk, State}
+use Rattle.store.proofs.Common.{Survives, Trees, Error}
 use Rattle.store.specs.Holding.{Leaves}
 
 pub on_err : {Y X : Type 0} (r : Result Y Error) → X → OnErr r X

@@ -1,22 +1,18 @@
 -- Networks of held histories.
-use Rattle.std.proofs.Common.{◌≡◌, ℕ, pos, List, [], ◌∷◌, map, refl, ap, subst, ◌∙◌}
+use Rattle.store.proofs.Common.{◌≡◌, ℕ, List, [], ◌∷◌, refl, ap, subst, ◌∙◌, All-contains, Row, IsNet, net_named}
+use Rattle.store.proofs.Common.{Contains-found, HistoriesLeaveOffices, IsNetAt}
+use Rattle.std.proofs.Common.{pos, map}
 use Rattle.std.specs.Prelude.{filter, IsPermutation}
-use Rattle.std.proofs.lemmas.List.Elements.{All-contains}
 use Rattle.std.proofs.lemmas.List.Sorted.{IsPermutation-map}
-use Rattle.sqlite.specs.Order.{Row, column}
+use Rattle.sqlite.specs.Order.{column}
 use Rattle.sqlite.specs.declared.types.Value.{Value}
 use Rattle.sqlite.specs.declared.types.Value.TheVariants.{Int}
 use Rattle.can_id.specs.Ident.{dbc_number}
 use Rattle.office_types.specs.declared.state.LiveMessage.{LiveMessage}
-use Rattle.office_rules.specs.Kept.{IsNet}
-use Rattle.office_rules.specs.Step.{net_named}
-use Rattle.office_law.proofs.Lists.{Contains-found}
 use Rattle.office_law.proofs.OrderedNets.{has}
 use Rattle.store_statements.specs.Rows.{is_of_net}
-use Rattle.office_history.specs.Laws.{HistoriesLeaveOffices}
 use Rattle.store_rows.specs.Listed.{AreShown}
 use Rattle.store_rows.specs.Live.{IsMsgRow}
-use Rattle.store_rows.specs.NetIn.{IsNetAt}
 use Rattle.store.specs.Laws.{HeldNetworksAreClear}
 
 abbrev number_in : Row → Value

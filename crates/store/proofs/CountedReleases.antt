@@ -1,14 +1,9 @@
 -- A network that was read by how many releases it has.
-use Rattle.std.proofs.Common.{◌≡◌, ◌∙◌, ◌+◌, ℕ, false, List, Option, Some, None, ap, subst}
-use Rattle.office_types.specs.declared.book.SpnBook.{SpnBook}
-use Rattle.office_types.specs.declared.change.Decision.{Decision}
-use Rattle.office_types.specs.declared.command.Command.{Command}
-use Rattle.office_types.specs.declared.state.Net.{Net}
-use Rattle.office_rules.specs.Change.{IsDecision}
+use Rattle.store.proofs.Common.{◌≡◌, ◌∙◌, ◌+◌, ℕ, false, List, Option, Some, None, ap, subst, SpnBook, Decision}
+use Rattle.store.proofs.Common.{Command, Net, IsDecision, IsNext, next_number}
 use Rattle.office_rules.specs.Commands.{reads_bodies}
 use Rattle.office_law.specs.Released.{BodiesDontCount}
 use Rattle.store_net.specs.Counted.{HasAsMany}
-use Rattle.store_changes.specs.Writing.{IsNext, next_number}
 
 pub net_counted : BodiesDontCount → (team : List ℕ) (c : Command) (d : Decision) (net made : Option Net)
     (book : SpnBook) (next : ℕ) → reads_bodies c.task ≡ false → HasAsMany net made → next ≡ next_number made

@@ -1,32 +1,25 @@
 -- What is decided on a part of a network is decided on the network that the tables have.
-use Rattle.std.proofs.Common.{◌≡◌, ◌∙◌, ℕ, true, false, List, [], Option, Some, None, refl, sym, ap, subst}
-use Rattle.std.specs.Prelude.{IfSome, is_some}
+use Rattle.store.proofs.Common.{◌≡◌, ◌∙◌, ℕ, true, false, List, [], Option, Some, None, refl, sym, ap, subst, IfSome}
+use Rattle.store.proofs.Common.{option_map, false≢true, SpnBook, Change, Decision, Command, Net, HaveOwnBlocks}
+use Rattle.store.proofs.Common.{IsDecision, IsHeadFirst, all_applied, Refusing, reads_part, IsNext}
+use Rattle.std.specs.Prelude.{is_some}
 use Rattle.std.specs.List.{list_any}
-use Rattle.std.specs.Option.{option_map}
-use Rattle.std.proofs.lemmas.Bool.{false≢true}
-use Rattle.office_types.specs.declared.book.SpnBook.{SpnBook}
-use Rattle.office_types.specs.declared.change.Change.{Change}
-use Rattle.office_types.specs.declared.change.Decision.{Decision}
 use Rattle.office_types.specs.declared.command.Action.{Action}
 use Rattle.office_types.specs.declared.command.Action.TheVariants as act
-use Rattle.office_types.specs.declared.command.Command.{Command}
 use Rattle.office_types.specs.declared.command.Task.{Task}
 use Rattle.office_types.specs.declared.command.Task.TheVariants.{Act, Import, Bundle}
 use Rattle.office_types.specs.declared.refusal.Refusal.{Refusal}
-use Rattle.office_types.specs.declared.state.Net.{Net}
-use Rattle.office_rules.specs.Change.{AllFit, Decides, HaveOwnBlocks, IsDecision, IsHeadFirst, IsQuiet, all_applied}
-use Rattle.office_rules.specs.Change.{is_release}
+use Rattle.office_rules.specs.Change.{AllFit, Decides, IsQuiet, is_release}
 use Rattle.office_rules.specs.Commands.{done_task, outcome, reads_releases}
 use Rattle.office_rules.specs.Importing.{FileReading}
-use Rattle.office_rules.specs.Outcome.{Refusing, reply_of}
+use Rattle.office_rules.specs.Outcome.{reply_of}
 use Rattle.office_law.specs.Released.{ReleasesDontCount, may_release, with_releases}
 use Rattle.office_law.proofs.EachAction.{laws_of}
 use Rattle.office_facts.specs.Excerpt.{AreFacts, IsExcerptOf, fits, is_for}
 use Rattle.office_facts.specs.FactsOf.{facts_in}
-use Rattle.office_facts.specs.Scope.{Scope, reads_part, scope_of}
+use Rattle.office_facts.specs.Scope.{Scope, scope_of}
 use Rattle.office_facts.specs.declared.excerpt.Excerpt.{Excerpt}
 use Rattle.store_net.specs.Excerpts.{IsExcerptIn}
-use Rattle.store_changes.specs.Writing.{IsNext}
 
 -- ---- a network that isn't there
 

@@ -1,30 +1,24 @@
 -- Worked examples, computed from the definitions.
-use Rattle.std.proofs.Common.{◌≡◌, ◌∙◌, ℕ, true, false, [], ◌∷◌, Err, Ok, ap, arith, inl, inr, length, refl}
-use Rattle.std.proofs.lemmas.List.Sorted.{IsPermutation-refl}
+use Rattle.store.proofs.Common.{◌≡◌, ◌∙◌, ℕ, true, false, [], ◌∷◌, Err, Ok, ap, arith, inl, inr, length, refl}
+use Rattle.store.proofs.Common.{IsPermutation-refl, false≢true, Database, Schema, no_schema, opening, Answer, Arrival}
+use Rattle.store.proofs.Common.{reported}
 use Rattle.std.specs.Fmt.{digits}
 use Rattle.std.specs.List.Sorted.{IsStrictlySortedBy}
 use Rattle.std.specs.Prelude.{List, None, Result, Some, codes}
-use Rattle.std.proofs.lemmas.Bool.{false≢true}
-use Rattle.sqlite.specs.Effect.{Database}
-use Rattle.sqlite.specs.Schema.{Schema}
 use Rattle.sqlite_schema.specs.declared.schema.View.{View}
 use Rattle.sqlite.specs.declared.error.Error.TheVariants.{InvalidQuery, SqliteFailure}
 use Rattle.sqlite.specs.declared.error.ErrorCode.TheVariants.{DiskFull, OutOfMemory}
-use Rattle.store_tables.specs.Schema.{analyzed_schema, no_schema, office_schema, schema_13, schema_9}
-use Rattle.office_rules.specs.Step.{opening}
+use Rattle.store_tables.specs.Schema.{analyzed_schema, office_schema, schema_13, schema_9}
 use Rattle.office_types.specs.declared.look.Look.TheVariants as look
 use Rattle.office_types.specs.declared.look.LookForm.{LookForm}
 use Rattle.office_types.specs.declared.look.LookForm.TheVariants.{Lines}
 use Rattle.office_types.specs.declared.look.NetLook.{NetLook}
-use Rattle.office_history.specs.declared.arrival.Answer.{Answer}
 use Rattle.office_history.specs.declared.arrival.Answer.TheVariants.{KeyReused}
-use Rattle.office_history.specs.declared.arrival.Arrival.{Arrival}
 use Rattle.store.specs.declared.lost.Lost.{Lost}
 use Rattle.store.specs.declared.lost.Lost.TheVariants.{Memory, Store}
 use Rattle.store.specs.Looking.{IsShown}
 use Rattle.store.specs.Lost.{lost_by, lost_number}
 use Rattle.store.specs.Opening.{HasSameStatistics, MayMigrateFrom, MayOpen}
-use Rattle.office_history.specs.Answering.{reported}
 use Rattle.store.specs.Running.{FailsBy, answered_of, lost_of}
 
 -- a lost arrival isn't in the history, one that is sent again is there twice, with both answers

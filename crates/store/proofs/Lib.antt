@@ -1,3 +1,4 @@
+pub mod Common
 pub mod OpenedTables
 pub mod TablesInForm
 pub mod Same

@@ -1,32 +1,24 @@
 -- A list of arrivals, and one more.
-use Rattle.std.proofs.Common.{◌≡◌, ◌⊎◌, inl, inr, true, false, List, [], ◌∷◌, ◌++◌, length, Ok, Err, Result, refl, sym}
-use Rattle.std.proofs.Common.{ap, subst, ◌∙◌, arith, append_assoc, append-nil, length-append}
+use Rattle.store.proofs.Common.{◌≡◌, ◌⊎◌, inl, inr, true, false, List, [], ◌∷◌, ◌++◌, length, Ok, Err, Result, refl}
+use Rattle.store.proofs.Common.{sym, ap, subst, ◌∙◌, arith, All, IfErr, IfOk, IsErr, IsTrue, OnErr, cases_Bool}
+use Rattle.store.proofs.Common.{All-contains, All-push, Database, state, HasCleanDisk, State, Trees, Ghosts, Answer}
+use Rattle.store.proofs.Common.{Arrival, Answered, first_of, IsInRange, AreOffice, reported}
+use Rattle.std.proofs.Common.{append_assoc, append-nil, length-append}
 use Rattle.std.specs.Option.{option_or}
-use Rattle.std.specs.Prelude.{All, Bool, Option, Some, None, ◌↔◌, IfErr, IfOk, IsErr, IsSome, IsTrue, OnErr}
-use Rattle.std.proofs.lemmas.Bool.{cases_Bool}
-use Rattle.std.proofs.lemmas.List.Elements.{All-contains, All-push, Contains-append_left, Contains-push}
+use Rattle.std.specs.Prelude.{Bool, Option, Some, None, ◌↔◌, IsSome}
+use Rattle.std.proofs.lemmas.List.Elements.{Contains-append_left, Contains-push}
 use Rattle.std.proofs.lemmas.List.Folds.{find-append}
-use Rattle.sqlite.specs.Effect.{Database}
-use Rattle.sqlite.specs.Held.{state}
-use Rattle.sqlite.specs.State.{HasCleanDisk, State}
-use Rattle.sqlite.specs.Tree.{Trees}
-use Rattle.sqlite_trees.specs.declared.store.Store.{Ghosts}
-use Rattle.office_history.specs.declared.arrival.Answer.{Answer}
-use Rattle.office_history.specs.declared.arrival.Arrival.{Arrival}
-use Rattle.office_history.specs.History.{Answered, IsLegalHistory, first_of, same_pair}
-use Rattle.office_history.specs.Laws.{IsInRange}
+use Rattle.office_history.specs.History.{IsLegalHistory, same_pair}
 use Rattle.office_law.proofs.Lists.{All-from_contains}
 use Rattle.store.specs.declared.lost.Lost.{Lost}
 use Rattle.store.specs.declared.lost.Lost.TheVariants.{Memory, NewerProfile, OlderProfile, Store}
 use Rattle.store.specs.Calls.{LeavesStatistics}
 use Rattle.store.specs.Lost.{IsOfCall}
-use Rattle.store_tables.specs.Tables.{AreOffice}
 use Rattle.store.specs.Holding.{Holding, Keeps, Leaves}
 use Rattle.store.specs.Office.{OfficeView}
 use Rattle.store.specs.Opening.{HasSameStatistics, HasTables, StatisticsStay}
 use Rattle.store.proofs.Statistics.{same_after, same_if_now, stay_then}
 use Rattle.store.specs.Headline.{HasRunOnTables}
-use Rattle.office_history.specs.Answering.{reported}
 use Rattle.store.specs.Running.{FailsBy, IsNoProfile, KeepsWithOne, answered_of, is_failure, lost_of}
 
 -- ---- one more arrival

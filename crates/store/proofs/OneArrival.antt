@@ -1,37 +1,23 @@
 -- What an arrival makes of tables that hold a history.
-use Rattle.std.proofs.Common.{◌≡◌, inl, inr, ℕ, false, List, [], ◌∷◌, ◌++◌, Option, None, Some, refl, sym, ap, subst}
-use Rattle.std.proofs.Common.{◌∙◌}
+use Rattle.store.proofs.Common.{◌≡◌, inl, inr, ℕ, false, List, [], ◌∷◌, ◌++◌, Option, None, Some, refl, sym, ap, subst}
+use Rattle.store.proofs.Common.{◌∙◌, option_map, IfSome, cases_Bool, All-contains, All-push, reply_parts, Change}
+use Rattle.store.proofs.Common.{Decision, Net, Office, HaveOwnBlocks, IsDecision, IsHeadFirst, all_applied, IsNet}
+use Rattle.store.proofs.Common.{Refusing, Profile, Two, net_named, Contains-found, Tables, Answered, first_of}
+use Rattle.store.proofs.Common.{HistoriesLeaveOffices, IsInRange, histories_grow, kept_row, part_rows, Follows, IsNetAt}
+use Rattle.store.proofs.Common.{IsBookIn, same_net}
 use Rattle.std.specs.List.{All}
-use Rattle.std.specs.Option.{option_map}
-use Rattle.std.specs.Prelude.{IfSome}
 use Rattle.std.specs.Str.{bytes_eq}
-use Rattle.std.proofs.lemmas.Bool.{cases_Bool}
-use Rattle.std.proofs.lemmas.List.Elements.{All-contains, All-push}
 use Rattle.std.proofs.lemmas.Slice.Eq.{bytes_eq-Decides}
-use Rattle.office_types.specs.Reply.{reply_parts}
-use Rattle.office_types.specs.declared.change.Change.{Change}
-use Rattle.office_types.specs.declared.change.Decision.{Decision}
-use Rattle.office_types.specs.declared.state.Net.{Net}
-use Rattle.office_types.specs.declared.state.Office.{Office}
-use Rattle.office_rules.specs.Change.{HaveOwnBlocks, IsDecision, IsHeadFirst, NetAndBook, all_applied, left_after}
-use Rattle.office_rules.specs.Kept.{IsNet}
-use Rattle.office_rules.specs.Outcome.{Changing, Outcome, Refusing}
-use Rattle.office_rules.specs.Profile.{Profile, Two}
-use Rattle.office_rules.specs.Step.{Step, net_named, office_after, step_outcome}
+use Rattle.office_rules.specs.Change.{NetAndBook, left_after}
+use Rattle.office_rules.specs.Outcome.{Changing, Outcome}
+use Rattle.office_rules.specs.Step.{Step, office_after, step_outcome}
 use Rattle.office_law.specs.Histories.{net_after}
-use Rattle.office_law.proofs.Lists.{Contains-found}
 use Rattle.office_law.proofs.NetsApart.{nets_apart}
-use Rattle.store_tables.specs.Tables.{Tables}
 use Rattle.office_history.specs.declared.arrival.Answer.TheVariants as answer
-use Rattle.office_history.specs.History.{Answered, IsAnsweredAs, IsLegal, first_of}
-use Rattle.office_history.specs.Laws.{HistoriesLeaveOffices, IsInRange}
-use Rattle.office_history.proofs.Histories.{histories_grow}
-use Rattle.store_changes.specs.Kept.{AreKept, AreKeptParts, kept_row, part_rows}
+use Rattle.office_history.specs.History.{IsAnsweredAs, IsLegal}
+use Rattle.store_changes.specs.Kept.{AreKept, AreKeptParts}
 use Rattle.store_changes.proofs.Kept.{again_kept, again_parts, first_kept, first_parts}
-use Rattle.store_rows.specs.Follows.{Follows}
-use Rattle.store_rows.specs.NetIn.{IsNetAt}
-use Rattle.store_rows.specs.Rows.{IsBookIn}
-use Rattle.store_rows.proofs.Changes.{others_follow, same_net}
+use Rattle.store_rows.proofs.Changes.{others_follow}
 use Rattle.store.specs.Holds.{Holds}
 
 -- ---- a first arrival

@@ -1,14 +1,7 @@
 -- What an office that was opened, or migrated to, is besides what its contract states.
-use Rattle.std.proofs.Common.{◌≡◌, ◌⊎◌, inl, inr}
+use Rattle.store.proofs.Common.{◌≡◌, ◌⊎◌, inl, inr, Held, state, HasCleanDisk, Ghosts, statistics_of, tables_of}
+use Rattle.store.proofs.Common.{Answered, Bodies, Newer, Second}
 use Rattle.std.specs.Prelude.{List}
-use Rattle.sqlite.specs.Held.{Held, state}
-use Rattle.sqlite.specs.State.{HasCleanDisk}
-use Rattle.sqlite_trees.specs.declared.store.Store.{Ghosts}
-use Rattle.store_tables.specs.Statements.{statistics_of}
-use Rattle.store_tables.specs.Tables.{tables_of}
-use Rattle.office_history.specs.History.{Answered}
-use Rattle.store_migrate.specs.declared.forms.SchemaForm.TheVariants.{Bodies}
-use Rattle.store_migrate.specs.declared.profile_rows.ProfileRows.TheVariants.{Newer, Second}
 use Rattle.store.specs.Holding.{Holding}
 use Rattle.store.specs.Making.{SaysMarks}
 use Rattle.store.specs.Office.{OfficeView}

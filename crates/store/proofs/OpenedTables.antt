@@ -1,19 +1,9 @@
 -- Tables as an office is opened on them.
-use Rattle.std.proofs.Common.{◌≡◌, ◌⊎◌, ℕ, [], None, refl, sym, ap, subst, inl, inr, length, ◌∙◌, arith}
-use Rattle.std.specs.Prelude.{IsTrue}
-use Rattle.std.proofs.lemmas.List.Elements.{All-nil}
-use Rattle.std.proofs.lemmas.List.Sorted.{IsPermutation-refl}
-use Rattle.sqlite.specs.Effect.{Database}
-use Rattle.sqlite.specs.Schema.{Schema}
-use Rattle.sqlite.specs.State.{State}
-use Rattle.store_tables.specs.Schema.{IsCurrentSchema, IsOfficeSchema, analyzed_schema, no_schema, office_schema}
-use Rattle.store_tables.specs.Schema.{schema_13, schema_9}
-use Rattle.office_rules.specs.Step.{opening}
-use Rattle.office_history.specs.Laws.{IsInRange}
-use Rattle.office_history.proofs.Histories.{histories_grow}
-use Rattle.store_tables.specs.Tables.{no_rows}
+use Rattle.store.proofs.Common.{◌≡◌, ◌⊎◌, ℕ, [], None, refl, sym, ap, subst, inl, inr, length, ◌∙◌, arith, IsTrue}
+use Rattle.store.proofs.Common.{All-nil, IsPermutation-refl, Database, Schema, State, IsCurrentSchema, IsOfficeSchema}
+use Rattle.store.proofs.Common.{no_schema, opening, IsInRange, histories_grow, no_rows, same_net}
+use Rattle.store_tables.specs.Schema.{analyzed_schema, office_schema, schema_13, schema_9}
 use Rattle.store_rows.proofs.Fresh.{no_net}
-use Rattle.store_rows.proofs.Changes.{same_net}
 use Rattle.store_rows.proofs.Listing.{none_listed}
 use Rattle.store_changes.proofs.Kept.{none_kept}
 use Rattle.store.specs.Holds.{Holds}

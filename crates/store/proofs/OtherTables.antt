@@ -1,12 +1,11 @@
 -- A query inside a transaction commits nothing, whatever tables there are.
-use Rattle.std.proofs.Common.{◌∙◌, ◌⊎◌, ap, cond, ℕ, List, Option, None, Some, Result, Ok, Err, inl, inr}
-use Rattle.std.specs.Prelude.{IfErr, IfOk, IsTrue}
-use Rattle.sqlite.specs.Order.{Row}
-use Rattle.sqlite.specs.State.{State, FailsToQuery, IsTooLate, KeepsCommit, Shown, ShowsRows}
-use Rattle.sqlite.specs.declared.error.Error.{Error}
+use Rattle.store.proofs.Common.{◌∙◌, ◌⊎◌, ap, ℕ, List, Option, None, Some, Result, Ok, Err, inl, inr, IfErr, IfOk}
+use Rattle.store.proofs.Common.{IsTrue, Row, State, KeepsCommit, Error, unchanged_keeps}
+use Rattle.std.proofs.Common.{cond}
+use Rattle.sqlite.specs.State.{FailsToQuery, IsTooLate, Shown, ShowsRows}
 use Rattle.sqlite_resolve.specs.declared.compiled.Compiled.{Compiled}
 use Rattle.sqlite_schema.specs.declared.command.Returning.{Returning}
-use Rattle.store_tables.proofs.Keeping.{query_keeps, unchanged_keeps}
+use Rattle.store_tables.proofs.Keeping.{query_keeps}
 
 -- nor does a write whose rows RETURNING shows
 shown_keeps : (old new : State) (sql : List ℕ) (c : Compiled) (params : Row) (rows : List Row)

@@ -1,11 +1,7 @@
 -- What is shown of what is remembered.
-use Rattle.std.proofs.Common.{ℕ, List, Option}
-use Rattle.office_history.specs.History.{Answered}
-use Rattle.office_rules.specs.Step.{net_named}
-use Rattle.office_types.specs.declared.look.Look.{Look}
+use Rattle.store.proofs.Common.{ℕ, List, Option, Answered, net_named, Look, Tables}
 use Rattle.office_types.specs.declared.look.Look.TheVariants as look
 use Rattle.store_looks.specs.Seen.{IsTextOn}
-use Rattle.store_tables.specs.Tables.{Tables}
 use Rattle.store.specs.Holds.{Holds}
 use Rattle.store.specs.Looking.{IsShown}
 

@@ -1,9 +1,6 @@
 -- What tables that are as they were hold.
-use Rattle.std.proofs.Common.{◌≡◌, sym, subst}
-use Rattle.std.specs.Prelude.{List, IsTrue}
-use Rattle.sqlite.specs.Effect.{Database}
-use Rattle.sqlite.specs.State.{State}
-use Rattle.office_history.specs.History.{Answered}
+use Rattle.store.proofs.Common.{◌≡◌, sym, subst, IsTrue, Database, State, Answered}
+use Rattle.std.specs.Prelude.{List}
 use Rattle.store.specs.Holding.{Holding, Keeps}
 use Rattle.store.specs.Opening.{HasTables}
 

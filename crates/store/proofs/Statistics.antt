@@ -1,19 +1,11 @@
 -- Statistics that stay.
-use Rattle.std.proofs.Common.{◌≡◌, ◌≢◌, ℕ, ap, subst, sym, inl, inr, refl, length, ◌∙◌, arith, Err, Ok, Result}
-use Rattle.sqlite.specs.Effect.{Database}
-use Rattle.sqlite.specs.Held.{Held, state}
-use Rattle.sqlite.specs.Schema.{Schema}
-use Rattle.sqlite.specs.State.{HasCleanDisk, State, Survives}
-use Rattle.sqlite.specs.Tree.{Trees}
-use Rattle.sqlite.proofs.StateLemmas.{survives_then}
-use Rattle.sqlite_catalog.specs.Listing.{IsSound}
-use Rattle.sqlite_trees.specs.declared.store.Store.{Ghosts}
-use Rattle.store_tables.specs.Schema.{analyzed_schema, no_schema, office_schema, schema_13}
-use Rattle.store_tables.specs.Statements.{IsOfficeWith, statistics_in, statistics_of}
-use Rattle.store_tables.specs.Tables.{IsOffice}
-use Rattle.store_migrate.specs.FormSchema.{schema_of}
-use Rattle.store_migrate.specs.declared.forms.SchemaForm.{SchemaForm}
-use Rattle.store_migrate.specs.declared.forms.SchemaForm.TheVariants.{All, Analyzed, Bodies, Foreign, Rows}
+use Rattle.store.proofs.Common.{◌≡◌, ℕ, ap, subst, sym, inl, inr, refl, length, ◌∙◌, arith, Err, Ok, Result, Database}
+use Rattle.store.proofs.Common.{Held, state, Schema, HasCleanDisk, State, Survives, Trees, survives_then, IsSound}
+use Rattle.store.proofs.Common.{Ghosts, no_schema, IsOfficeWith, statistics_in, statistics_of, IsOffice, schema_of}
+use Rattle.store.proofs.Common.{SchemaForm, Analyzed, Bodies, Foreign, Rows}
+use Rattle.std.proofs.Common.{◌≢◌}
+use Rattle.store_tables.specs.Schema.{analyzed_schema, office_schema, schema_13}
+use Rattle.store_migrate.specs.declared.forms.SchemaForm.TheVariants.{All}
 use Rattle.store_migrate.proofs.Grown.{none_after_13, none_after_14, none_beside}
 use Rattle.store.specs.Calls.{KeepsStatistics, LeavesStatistics, OnlyAsksWhetherOpen, SameOnErr, SameOnOk}
 use Rattle.store.specs.Opening.{HasSameStatistics, HasTables, IsCarried, IsGrown, IsNew, StatisticsStay}

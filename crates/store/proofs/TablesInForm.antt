@@ -1,36 +1,30 @@
 -- Tables of some form that hold a history, as an office is opened on them.
-use Rattle.std.proofs.Common.{◌≡◌, ◌⊎◌, ◌∙◌, ap, false, inl, inr, Err, List, Ok, Result, refl, sym, subst}
-use Rattle.std.specs.Prelude.{◌≢◌, OnOk}
-use Rattle.std.proofs.lemmas.Result.{on_ok_weaker}
-use Rattle.sqlite.specs.Effect.{Database}
-use Rattle.sqlite.specs.Schema.{Schema}
-use Rattle.sqlite.specs.State.{HasCleanDisk, IsUnchanged, Shows, State, Survives}
-use Rattle.sqlite.specs.Tree.{Trees}
-use Rattle.office_rules.specs.Profile.{One, Profile, Two}
-use Rattle.store_tables.specs.Schema.{IsCurrentSchema, IsOfficeSchema, analyzed_schema, office_schema, schema_13}
-use Rattle.store_tables.specs.Schema.{schema_9}
-use Rattle.store_tables.specs.Statements.{Grows, IsOfficeWith, statistics_in, statistics_of, tables_in}
-use Rattle.store_tables.specs.Tables.{AreNumbered, AreOffice, IsOffice, Tables, tables_of}
+use Rattle.store.proofs.Common.{◌≡◌, ◌⊎◌, ◌∙◌, ap, false, inl, inr, Err, List, Ok, Result, refl, sym, subst, ◌≢◌, OnOk}
+use Rattle.store.proofs.Common.{on_ok_weaker, Database, Schema, HasCleanDisk, IsUnchanged, State, Survives, Trees}
+use Rattle.store.proofs.Common.{Profile, Two, IsCurrentSchema, IsOfficeSchema, IsOfficeWith, statistics_in}
+use Rattle.store.proofs.Common.{statistics_of, AreOffice, IsOffice, Tables, tables_of, Answered, schema_of, SchemaForm}
+use Rattle.store.proofs.Common.{Analyzed, Bodies, Foreign, Rows, Newer, Second, IsSound}
+use Rattle.sqlite.specs.State.{Shows}
+use Rattle.office_rules.specs.Profile.{One}
+use Rattle.store_tables.specs.Schema.{analyzed_schema, office_schema, schema_13, schema_9}
+use Rattle.store_tables.specs.Statements.{Grows, tables_in}
+use Rattle.store_tables.specs.Tables.{AreNumbered}
 use Rattle.store_tables.proofs.Changing.{named_rows}
-use Rattle.office_history.specs.History.{Answered}
-use Rattle.store_migrate.specs.FormSchema.{current_schema_of, schema_of}
+use Rattle.store_migrate.specs.FormSchema.{current_schema_of}
 use Rattle.store_migrate.specs.Forms.{HoldsAsRows}
 use Rattle.store_migrate.specs.InForm.{HoldsAs, KeepsAs, first_profile_rows}
 use Rattle.store_migrate.specs.ProfileRows.{HasProfileRows}
-use Rattle.store_migrate.specs.declared.forms.SchemaForm.{SchemaForm}
-use Rattle.store_migrate.specs.declared.forms.SchemaForm.TheVariants.{All, Analyzed, Bodies, Foreign, Rows}
+use Rattle.store_migrate.specs.declared.forms.SchemaForm.TheVariants.{All}
 use Rattle.store_migrate.specs.declared.profile_rows.ProfileRows.{ProfileRows}
 use Rattle.store_migrate.specs.declared.profile_rows.ProfileRows.TheVariants as marks
-use Rattle.store_migrate.specs.declared.profile_rows.ProfileRows.TheVariants.{Newer, Second}
 use Rattle.store_migrate.proofs.Grown.{grown_office, named_analyzed, office_with}
-use Rattle.sqlite_catalog.specs.Listing.{IsSound}
-use Rattle.store_migrate.proofs.ReadProfile.{bodies_or_newer, first_or_newer, is_second, not_second}
-use Rattle.store_migrate.proofs.ReadProfile.{second_or_bodies, second_or_first, second_or_newer}
+use Rattle.store_migrate.proofs.ReadProfile.{bodies_or_newer, first_or_newer, is_second, not_second, second_or_bodies}
+use Rattle.store_migrate.proofs.ReadProfile.{second_or_first, second_or_newer}
 use Rattle.store.specs.declared.lost.Lost.{Lost}
 use Rattle.store.specs.Holding.{Holding, Keeps, Leaves}
 use Rattle.store.specs.Opening.{HasCommitted, HasForm, HasProfileRowsOf, HasOffice, HasOlderProfileRows, HasTables}
-use Rattle.store.specs.Opening.{HoldingInSomeForm, StatisticsStay}
-use Rattle.store.specs.Opening.{HoldingOlder, IsCarried, IsGrown, KeepsInSomeForm, MayCarry, MayComplete, MayMigrate}
+use Rattle.store.specs.Opening.{HoldingInSomeForm, StatisticsStay, HoldingOlder, IsCarried, IsGrown, KeepsInSomeForm}
+use Rattle.store.specs.Opening.{MayCarry, MayComplete, MayMigrate}
 use Rattle.store.proofs.OpenedTables.{never_completed_9}
 use Rattle.store.proofs.Statistics.{rows_carried, rows_grown, stay_carried, stay_grown, stay_same}
 

@@ -1,30 +1,17 @@
 -- The rows of answered requests: of one pair of team and key there is one at most, that of its first arrival.
-use Rattle.std.proofs.Common.{◌≡◌, ℕ, ◌&&◌, List, [], ◌∷◌, ◌++◌, append-nil, map, filter, Option, Some, None, refl, sym}
-use Rattle.std.proofs.Common.{ap, subst, ◌∙◌, arith}
-use Rattle.std.specs.Prelude.{IsPermutation, slice_get}
-use Rattle.std.specs.List.{flat_map}
-use Rattle.std.specs.Option.{option_to_list}
-use Rattle.std.specs.Str.{bytes_eq}
+use Rattle.store_changes.proofs.Common.{◌≡◌, ℕ, ◌&&◌, List, [], ◌∷◌, ◌++◌, append-nil, map, filter, Option, Some, None}
+use Rattle.store_changes.proofs.Common.{refl, sym, ap, subst, ◌∙◌, arith, IsPermutation, slice_get, flat_map}
+use Rattle.store_changes.proofs.Common.{option_to_list, bytes_eq, IsPermutation-refl, IsPermutation-sym}
+use Rattle.store_changes.proofs.Common.{IsPermutation-trans, IsPermutation-filter, Blob, Row, column, reply_parts}
+use Rattle.store_changes.proofs.Common.{Reply, Answered, first_arrivals, first_of, has_pair, pair_alone, IsSelected}
+use Rattle.store_changes.proofs.Common.{has_text, has_two_texts, AreShown, text_test, filter_shown, last_shown}
 use Rattle.std.proofs.lemmas.List.Concat.{flat_map-append}
-use Rattle.std.proofs.lemmas.List.Sorted.{length_permutation, IsPermutation-append, IsPermutation-refl}
-use Rattle.std.proofs.lemmas.List.Sorted.{IsPermutation-sym, IsPermutation-trans}
-use Rattle.sqlite_trees.proofs.ListLemmas.{IsPermutation-filter}
-use Rattle.sqlite.specs.declared.types.Value.TheVariants.{Blob}
-use Rattle.sqlite.specs.Order.{Row, column}
+use Rattle.std.proofs.lemmas.List.Sorted.{length_permutation, IsPermutation-append}
 use Rattle.sqlite.proofs.Callers.{one_permutation}
-use Rattle.office_types.specs.Reply.{reply_parts}
-use Rattle.office_types.specs.declared.reply.Reply.{Reply}
 use Rattle.office_history.specs.declared.arrival.Answer.{Answer}
 use Rattle.office_history.specs.declared.arrival.Answer.TheVariants as answer
-use Rattle.office_history.specs.History.{Answered, first_arrivals, first_of}
 use Rattle.office_history.proofs.Histories.{first_again, first_new}
-use Rattle.office_history.proofs.Pairs.{has_pair, pair_alone}
-use Rattle.store_tables.specs.Selected.{IsSelected, has_text}
-use Rattle.store_statements.specs.Rows.{has_two_texts}
 use Rattle.store_statements.specs.Shown.{reply_order, reply_shown}
-use Rattle.store_rows.specs.Listed.{AreShown}
-use Rattle.store_rows.proofs.Keys.{text_test}
-use Rattle.store_rows.proofs.Listing.{filter_shown, last_shown}
 use Rattle.store_changes.specs.Kept.{AreKept, AreKeptParts, IsKept, ShowsKept, ShowsReply, answer_parts, kept_parts}
 use Rattle.store_changes.specs.Kept.{kept_row, part_rows}
 

@@ -1,26 +1,17 @@
 -- The rows of the parts of answered bundles: those of one pair of team and key are those of its first arrival, in
 -- order.
-use Rattle.std.proofs.Common.{◌≡◌, ◌∙◌, ℕ, ◌+◌, ◌<◌, Bool, true, false, cond, ◌&&◌, List, [], ◌∷◌, ◌++◌, length, filter}
-use Rattle.std.proofs.Common.{Some, refl, sym, ap, subst, arith, append-nil, inl, inr}
-use Rattle.std.specs.List.{AllByRecursion, flat_map}
+use Rattle.store_changes.proofs.Common.{◌≡◌, ◌∙◌, ℕ, ◌+◌, ◌<◌, Bool, true, false, cond, ◌&&◌, List, [], ◌∷◌, ◌++◌}
+use Rattle.store_changes.proofs.Common.{length, filter, Some, refl, sym, ap, subst, arith, append-nil, AllByRecursion}
+use Rattle.store_changes.proofs.Common.{flat_map, option_to_list, IsPermutation, bytes_eq, Less, filter-append}
+use Rattle.store_changes.proofs.Common.{IsPermutation-filter, Row, PartReply, Answered, first_arrivals, first_of}
+use Rattle.store_changes.proofs.Common.{has_pair, pair_alone, IsSelected, has_text, has_two_texts, AreShown, text_test}
+use Rattle.std.proofs.Common.{inl, inr}
 use Rattle.std.specs.List.Sorted.{IsStrictlySortedBy}
-use Rattle.std.specs.Option.{option_to_list}
-use Rattle.std.specs.Prelude.{IsPermutation}
-use Rattle.std.specs.Str.{bytes_eq}
-use Rattle.std.specs.declared.cmp.Ordering.TheVariants.{Less}
 use Rattle.std.proofs.lemmas.Bool.{cases_Bool}
-use Rattle.std.proofs.lemmas.List.Elements.{filter-append}
-use Rattle.sqlite_trees.proofs.ListLemmas.{IsPermutation-filter}
-use Rattle.sqlite.specs.Order.{Row}
-use Rattle.office_types.specs.declared.reply.PartReply.{PartReply}
-use Rattle.office_history.specs.History.{Answered, first_arrivals, first_of}
-use Rattle.office_history.proofs.Pairs.{has_pair, pair_alone}
-use Rattle.store_tables.specs.Selected.{IsSelected, has_text}
-use Rattle.store_statements.specs.Rows.{has_two_texts}
 use Rattle.store_statements.specs.Shown.{parts_order, parts_shown}
-use Rattle.store_rows.specs.Listed.{AreListed, AreShown}
+use Rattle.store_rows.specs.Listed.{AreListed}
 use Rattle.store_rows.specs.Showing.{ShowsPart}
-use Rattle.store_rows.proofs.Keys.{number_below, parts_total, text_test}
+use Rattle.store_rows.proofs.Keys.{number_below, parts_total}
 use Rattle.store_rows.proofs.Reading.{selected_shown}
 use Rattle.store_changes.specs.Kept.{AreKeptParts, answer_parts, kept_parts, part_rows, part_values}
 

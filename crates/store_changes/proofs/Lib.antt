@@ -1,3 +1,4 @@
+pub mod Common
 pub mod Kept
 pub mod OneByOne
 mod ReplyExamples

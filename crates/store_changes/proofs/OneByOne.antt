@@ -1,32 +1,24 @@
 -- Changes written one after the other.
-use Rattle.std.proofs.Common.{◌≡◌, ℕ, Bool, true, false, ◌||◌, List, [], ◌∷◌, ◌++◌, Option, Some, None, Result, Ok, Err}
-use Rattle.std.proofs.Common.{refl, sym, ap, subst, ◌∙◌}
+use Rattle.store_changes.proofs.Common.{◌≡◌, ℕ, Bool, true, false, ◌||◌, List, [], ◌∷◌, ◌++◌, Option, Some, None, refl}
+use Rattle.store_changes.proofs.Common.{sym, ap, subst, ◌∙◌, false≢true, on_ok_weaker, Sheet, Signal, ValueText}
+use Rattle.store_changes.proofs.Common.{SignalPath, LiveMessage, Net, HaveOwnBlocks, IsHeadFirst, NetAndBook}
+use Rattle.store_changes.proofs.Common.{all_applied, Tables, AreWritten, AreTextsSet, IsSpnSet, IsTakenOut, IsNetAt}
+use Rattle.store_changes.proofs.Common.{first_alone}
+use Rattle.std.proofs.Common.{Result, Ok, Err}
 use Rattle.std.specs.Prelude.{OnOk}
 use Rattle.std.specs.List.{list_any}
-use Rattle.std.proofs.lemmas.Bool.{false≢true}
-use Rattle.std.proofs.lemmas.Result.{on_ok_weaker}
 use Rattle.sqlite.specs.declared.error.Error.{Error}
-use Rattle.dbc_sheet.specs.declared.sheet.Sheet.{Sheet}
-use Rattle.dbc_sheet.specs.declared.signal.Signal.{Signal}
-use Rattle.dbc_sheet.specs.declared.value_texts.ValueText.{ValueText}
 use Rattle.office_types.specs.Block.{is_spn}
 use Rattle.office_types.specs.declared.change.Change.{Change}
 use Rattle.office_types.specs.declared.change.Change.TheVariants.{SetMessage, AddSignal, RemoveSignal, SetSpn}
 use Rattle.office_types.specs.declared.change.Change.TheVariants.{SetValues, SetBlock, AddRelease}
-use Rattle.office_types.specs.declared.command.SignalPath.{SignalPath}
 use Rattle.office_types.specs.declared.state.GrantedBlock.{GrantedBlock}
-use Rattle.office_types.specs.declared.state.LiveMessage.{LiveMessage}
-use Rattle.office_types.specs.declared.state.Net.{Net}
-use Rattle.office_rules.specs.Change.{HaveOwnBlocks, IsHeadFirst, NetAndBook, all_applied, applied, changed_net}
-use Rattle.office_rules.specs.Change.{is_release}
-use Rattle.store_tables.specs.Tables.{Tables}
-use Rattle.store_rows.specs.Follows.{AreWritten}
+use Rattle.office_rules.specs.Change.{applied, changed_net, is_release}
 use Rattle.store_rows.specs.Live.{AreLiveRows, live_rows}
-use Rattle.store_rows.specs.LiveWritten.{AreTextsSet, IsSignalAdded, IsLive, IsSpnSet, IsTakenOut, with_live}
-use Rattle.store_rows.specs.NetIn.{IsNetAt}
+use Rattle.store_rows.specs.LiveWritten.{IsSignalAdded, IsLive, with_live}
 use Rattle.store_rows.specs.Rows.{next_release}
 use Rattle.store_rows.specs.Written.{IsWritten}
-use Rattle.store_rows.proofs.Changes.{change_follows, first_alone, there_after}
+use Rattle.store_rows.proofs.Changes.{change_follows, there_after}
 use Rattle.store_changes.specs.Writing.{IsNext, next_number}
 
 -- ---- one change

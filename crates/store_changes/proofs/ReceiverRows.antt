@@ -1,10 +1,7 @@
 -- Receivers, value texts and signals that are written one after the other.
-use Rattle.std.proofs.Common.{◌≡◌, ◌∙◌, ℕ, ◌+◌, List, [], ◌∷◌, ◌++◌, length, ap, arith}
-use Rattle.dbc_sheet.specs.declared.signal.Signal.{Signal}
-use Rattle.dbc_sheet.specs.declared.value_texts.ValueText.{ValueText}
-use Rattle.store_tables.specs.Tables.{Tables}
-use Rattle.store_rows.specs.Live.{receiver_values, sigvalue_values}
-use Rattle.store_rows.specs.LiveWritten.{placed_from, receiver_rows, value_rows, with_signal, with_signals}
+use Rattle.store_changes.proofs.Common.{◌≡◌, ◌∙◌, ℕ, ◌+◌, List, [], ◌∷◌, ◌++◌, length, ap, arith, Signal, ValueText}
+use Rattle.store_changes.proofs.Common.{Tables, receiver_values, sigvalue_values, placed_from, receiver_rows}
+use Rattle.store_changes.proofs.Common.{value_rows, with_signal, with_signals}
 
 pub rows_push : (net : List ℕ) (number place seat : ℕ) (names : List (List ℕ)) (name : List ℕ)
     → receiver_rows net number place seat (names ++ name ∷ []) ≡ receiver_rows net number place seat names

@@ -1,18 +1,15 @@
 -- Worked examples, computed from the definitions.
-use Rattle.std.proofs.Common.{◌≡◌, [], ◌∷◌, pos, codes, None, Some, refl}
-use Rattle.sqlite.specs.declared.types.Value.TheVariants.{Int, Text, Blob}
+use Rattle.store_changes.proofs.Common.{◌≡◌, [], ◌∷◌, pos, codes, None, Some, refl, Int, Text, Blob, Bundle, Counts}
+use Rattle.store_changes.proofs.Common.{Number, Refused, Net, IsPermutation-refl, Answered}
 use Rattle.dbc_sheet.specs.Sheet.{empty_sheet}
 use Rattle.office_types.specs.declared.command.NetKind.TheVariants.{Can}
 use Rattle.office_types.specs.declared.refusal.Refusal.TheVariants as no
 use Rattle.office_types.specs.declared.reply.PartReply.TheVariants as part
-use Rattle.office_types.specs.declared.reply.Reply.TheVariants.{Bundle, Counts, Number, Refused}
-use Rattle.office_types.specs.declared.state.Net.{Net}
 use Rattle.office_types.specs.declared.state.Phase.TheVariants.{Draft}
 use Rattle.office_rules.specs.Opening.{bare_net}
 use Rattle.office_rules.specs.Profile.{Two}
-use Rattle.std.proofs.lemmas.List.Sorted.{IsPermutation-refl, IsPermutation-to_front}
+use Rattle.std.proofs.lemmas.List.Sorted.{IsPermutation-to_front}
 use Rattle.office_history.specs.declared.arrival.Answer.TheVariants as answer
-use Rattle.office_history.specs.History.{Answered}
 use Rattle.office_rules.proofs.TeamCommand.{engine, takes}
 use Rattle.store_changes.specs.Kept.{AreKept, AreKeptParts, kept_row, part_rows}
 use Rattle.store_changes.specs.Writing.{next_number}

@@ -1,12 +1,9 @@
 -- Numbers and parts are those of one reply at most.
-use Rattle.std.proofs.Common.{◌≡◌, ◌∙◌, ℕ, Bool, true, false, if◌then◌else◌, pos, List, Option, Some, None, option_map}
-use Rattle.std.proofs.Common.{sym, ap}
-use Rattle.sqlite.specs.declared.types.Value.TheVariants.{Int}
-use Rattle.sqlite.specs.Order.{Row, column}
-use Rattle.office_types.specs.Reply.{reply_at, reply_numbers, reply_parts}
-use Rattle.office_types.specs.declared.reply.Reply.{Reply}
-use Rattle.office_types.specs.declared.reply.Reply.TheVariants.{Done, Number, Start, Counts, Release, Refused, Bundle}
-use Rattle.office_types.specs.declared.reply.PartReply.{PartReply}
+use Rattle.store_changes.proofs.Common.{◌≡◌, ◌∙◌, ℕ, Bool, true, false, pos, List, Option, Some, None, sym, ap, Int}
+use Rattle.store_changes.proofs.Common.{Row, column, reply_parts, Reply, Number, Counts, Refused, Bundle, PartReply}
+use Rattle.std.proofs.Common.{if◌then◌else◌, option_map}
+use Rattle.office_types.specs.Reply.{reply_at, reply_numbers}
+use Rattle.office_types.specs.declared.reply.Reply.TheVariants.{Done, Start, Release}
 use Rattle.office_types.proofs.Numbers.{refusal_back}
 use Rattle.store_changes.specs.Kept.{ShowsReply}
 

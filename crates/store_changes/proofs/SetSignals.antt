@@ -1,29 +1,18 @@
 -- The rows of signals set one after the other.
-use Rattle.std.proofs.Common.{◌≡◌, ◌∙◌, ℕ, ◌+◌, ◌<◌, pos, Bool, true, false, cond, not, ◌&&◌, ◌||◌, List, [], ◌∷◌, ◌++◌}
-use Rattle.std.proofs.Common.{append-nil, append_assoc, filter, flat_map, Option, Some, None, refl, sym, ap, subst}
-use Rattle.std.proofs.Common.{arith}
+use Rattle.store_changes.proofs.Common.{◌≡◌, ◌∙◌, ℕ, ◌+◌, ◌<◌, pos, Bool, true, false, cond, not, ◌&&◌, ◌||◌, List, []}
+use Rattle.store_changes.proofs.Common.{◌∷◌, ◌++◌, append-nil, append_assoc, filter, Option, Some, None, refl, sym, ap}
+use Rattle.store_changes.proofs.Common.{subst, arith, AllByRecursion, filter-append, Int, Row, column, Signal}
+use Rattle.store_changes.proofs.Common.{ValueText, live_named, SignalPath, LiveMessage, has_text, Tables, has_place_of}
+use Rattle.store_changes.proofs.Common.{AreShown, sig_values, AreTextsSet, IsSpnSet, value_rows, with_spns, with_texts}
+use Rattle.store_changes.proofs.Common.{PlacesAscend}
+use Rattle.std.proofs.Common.{flat_map}
 use Rattle.std.specs.Prelude.{◌==◌}
-use Rattle.std.specs.List.{AllByRecursion}
 use Rattle.std.proofs.lemmas.Bool.Decides.{nat_tests}
 use Rattle.std.proofs.lemmas.Grind.{flat_map-append}
-use Rattle.std.proofs.lemmas.List.Elements.{filter-append}
 use Rattle.std.proofs.lemmas.List.Folds.{list_any-append}
-use Rattle.sqlite.specs.declared.types.Value.TheVariants.{Int}
-use Rattle.sqlite.specs.Order.{Row, column}
-use Rattle.dbc_sheet.specs.declared.signal.Signal.{Signal}
-use Rattle.dbc_sheet.specs.declared.value_texts.ValueText.{ValueText}
-use Rattle.office_rules.specs.Facts.{live_named}
 use Rattle.office_types.proofs.Least.{or_false}
-use Rattle.office_types.specs.declared.command.SignalPath.{SignalPath}
-use Rattle.office_types.specs.declared.state.LiveMessage.{LiveMessage}
-use Rattle.store_tables.specs.Selected.{has_number, has_text}
-use Rattle.store_tables.specs.Tables.{Tables}
-use Rattle.store_statements.specs.Rows.{has_place_of}
-use Rattle.store_rows.specs.Listed.{AreShown}
-use Rattle.store_rows.specs.Live.{sig_values}
-use Rattle.store_rows.specs.LiveWritten.{AreTextsSet, HasSpn, HasTexts, IsSpnSet, is_of_placed, value_rows}
-use Rattle.store_rows.specs.LiveWritten.{with_rows_of, with_spns, with_texts}
-use Rattle.store_rows.specs.SignalShowing.{PlacesAscend}
+use Rattle.store_tables.specs.Selected.{has_number}
+use Rattle.store_rows.specs.LiveWritten.{HasSpn, HasTexts, is_of_placed, with_rows_of}
 use Rattle.store_rows.proofs.Keys.{and_none}
 use Rattle.store_rows.proofs.LiveNamed.{at_any, at_place}
 use Rattle.store_rows.proofs.LiveOut.{passes_both}

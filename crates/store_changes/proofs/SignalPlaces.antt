@@ -1,19 +1,11 @@
 -- The places of a message's signals, as the query on those of a name shows them.
-use Rattle.std.proofs.Common.{◌≡◌, ◌∙◌, ℕ, pos, negsuc, List, [], ◌∷◌, ◌++◌, map, Option, None, Some, codes, refl, sym}
-use Rattle.std.proofs.Common.{ap, subst}
-use Rattle.std.specs.Option.{option_map}
+use Rattle.store_changes.proofs.Common.{◌≡◌, ◌∙◌, ℕ, pos, List, [], ◌∷◌, ◌++◌, map, Option, None, Some, codes, refl}
+use Rattle.store_changes.proofs.Common.{sym, ap, subst, option_map, Int, Text, Row, column, dbc_number, Signal}
+use Rattle.store_changes.proofs.Common.{LiveMessage, Tables, AreShown, live_named, SignalPath, IsGone, IsTakenOut}
+use Rattle.store_changes.proofs.Common.{placed_named, without_place, without_places, PlacesAscend, ShowsPlaced}
+use Rattle.std.proofs.Common.{negsuc}
 use Rattle.std.proofs.lemmas.List.{map-append}
-use Rattle.sqlite.specs.declared.types.Value.TheVariants.{Int, Text}
-use Rattle.sqlite.specs.Order.{Row, column}
-use Rattle.can_id.specs.Ident.{dbc_number}
-use Rattle.dbc_sheet.specs.declared.signal.Signal.{Signal}
-use Rattle.office_types.specs.declared.state.LiveMessage.{LiveMessage}
-use Rattle.store_tables.specs.Tables.{Tables}
-use Rattle.store_rows.specs.Listed.{AreShown}
-use Rattle.office_rules.specs.Facts.{live_named}
-use Rattle.office_types.specs.declared.command.SignalPath.{SignalPath}
-use Rattle.store_rows.specs.LiveWritten.{AreItsPlaces, IsGone, IsTakenOut, placed_named, without_place, without_places}
-use Rattle.store_rows.specs.SignalShowing.{PlacesAscend, ShowsPlaced}
+use Rattle.store_rows.specs.LiveWritten.{AreItsPlaces}
 use Rattle.store_rows.proofs.LiveNamed.{places_of_named}
 use Rattle.store_changes.specs.Places.{number_in, places_shown}
 

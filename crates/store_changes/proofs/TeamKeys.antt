@@ -1,34 +1,31 @@
 -- The keys of a team's requests: no two of first arrivals are one, and a query shows them in order.
-use Rattle.std.proofs.Common.{◌≡◌, ◌∙◌, ℕ, ◌+◌, ◌<◌, Bool, true, false, cond, not, ◌&&◌, List, [], ◌∷◌, map, filter}
-use Rattle.std.proofs.Common.{length, get_or, zero, suc, refl, sym, ap, subst, arith}
-use Rattle.std.specs.Prelude.{IsPermutation, IsSorted}
-use Rattle.std.specs.List.{AllByRecursion, IsDistinct}
+use Rattle.store_changes.proofs.Common.{◌≡◌, ◌∙◌, ℕ, ◌+◌, ◌<◌, Bool, true, false, cond, not, ◌&&◌, List, [], ◌∷◌, map}
+use Rattle.store_changes.proofs.Common.{filter, length, get_or, refl, sym, ap, subst, arith, IsPermutation}
+use Rattle.store_changes.proofs.Common.{AllByRecursion, bytes_eq, Less, IsPermutation-sym, IsPermutation-trans, Text}
+use Rattle.store_changes.proofs.Common.{Row, column, IsPermutation-filter, Answered, first_arrivals, IsSelected}
+use Rattle.store_changes.proofs.Common.{AreShown, text_test, filter_shown, IsNamed}
+use Rattle.std.proofs.Common.{zero, suc}
+use Rattle.std.specs.Prelude.{IsSorted}
+use Rattle.std.specs.List.{IsDistinct}
 use Rattle.std.specs.List.Sorted.{IsStrictlySortedBy}
 use Rattle.std.specs.Cmp.{IsTotalOrder}
 use Rattle.std.specs.Ordering.{eq_by_cmp, is_eq, is_lt, ordering_reverse}
-use Rattle.std.specs.Str.{bytes_eq}
 use Rattle.std.specs.Cmp.Lexicographic.{lists_total, texts_ties}
 use Rattle.std.specs.declared.cmp.Ordering.{Ordering}
-use Rattle.std.specs.declared.cmp.Ordering.TheVariants.{Less, Equal, Greater}
+use Rattle.std.specs.declared.cmp.Ordering.TheVariants.{Equal, Greater}
 use Rattle.std.proofs.lemmas.Cmp.{nat_cmp_total}
 use Rattle.std.proofs.lemmas.Map.Keys.{IsDistinct-IsPermutation, apart_from_distinct, sorted_from_all_adjacent}
-use Rattle.std.proofs.lemmas.List.Sorted.{IsPermutation-map, IsPermutation-sym, IsPermutation-trans}
+use Rattle.std.proofs.lemmas.List.Sorted.{IsPermutation-map}
 use Rattle.std.proofs.lemmas.Slice.Eq.{bytes_eq-Decides}
 use Rattle.sqlite.specs.declared.types.Value.{Value}
-use Rattle.sqlite.specs.declared.types.Value.TheVariants.{Text}
-use Rattle.sqlite.specs.Order.{Row, column, value_cmp}
+use Rattle.sqlite.specs.Order.{value_cmp}
 use Rattle.sqlite_value.proofs.OrderLemmas.{value_cmp-Text}
 use Rattle.base.specs.Keyed.{text_cmp}
-use Rattle.sqlite_trees.proofs.ListLemmas.{IsPermutation-filter, all-filter}
-use Rattle.office_history.specs.History.{Answered, first_arrivals, same_pair}
-use Rattle.store_tables.specs.Selected.{IsSelected}
+use Rattle.sqlite_trees.proofs.ListLemmas.{all-filter}
+use Rattle.office_history.specs.History.{same_pair}
 use Rattle.store_statements.specs.Rows.{is_of_team}
 use Rattle.store_statements.specs.Shown.{keys_order, keys_shown}
-use Rattle.store_rows.specs.Listed.{AreShown}
-use Rattle.store_rows.proofs.Keys.{text_test}
-use Rattle.store_rows.proofs.Listing.{filter_shown}
 use Rattle.store_changes.specs.Kept.{AreKept, AreKeysOf, IsKept}
-use Rattle.store_rows.specs.Rows.{IsNamed}
 
 -- ---- first arrivals are of pairs that differ
 

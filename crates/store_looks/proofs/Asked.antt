@@ -1,10 +1,11 @@
 -- The requests of a team: those of its keys, one after the other.
-use Rattle.std.proofs.Common.{◌≡◌, ◌∙◌, ℕ, ◌+◌, ◌<◌, ◌≤◌, Bool, true, false, cond, not, ◌&&◌, List, [], ◌∷◌, ◌++◌, map}
-use Rattle.std.proofs.Common.{filter, length, take, set, get_or, Some, refl, sym, ap, subst, arith}
+use Rattle.store_looks.proofs.Common.{◌≡◌, ◌∙◌, ℕ, ◌+◌, Bool, true, false, List, [], ◌∷◌, ◌++◌, map, filter, take, Some}
+use Rattle.store_looks.proofs.Common.{refl, sym, ap, subst, arith, AllByRecursion, flat_map, bytes_eq, Answered, asked}
+use Rattle.store_looks.proofs.Common.{asked_of, AreKept, content_and_answer, kept_answer}
+use Rattle.std.proofs.Common.{◌<◌, ◌≤◌, cond, not, ◌&&◌, length, set, get_or}
 use Rattle.std.specs.Prelude.{IsPermutation}
-use Rattle.std.specs.List.{AllByRecursion, flat_map, swap}
+use Rattle.std.specs.List.{swap}
 use Rattle.std.specs.List.Sorted.{IsStrictlySortedBy, apply_swaps, SwapsInRange}
-use Rattle.std.specs.Str.{bytes_eq}
 use Rattle.std.specs.declared.cmp.Ordering.TheVariants.{Less}
 use Rattle.std.proofs.Math.ListN.{get_or-map}
 use Rattle.std.proofs.lemmas.List.{get_or-map as mapped, length-map, map-set, take_all}
@@ -14,12 +15,11 @@ use Rattle.base.specs.Keyed.{text_cmp}
 use Rattle.sqlite.specs.Order.{Row}
 use Rattle.sqlite_trees.proofs.ListLemmas.{all-filter, all-permutation}
 use Rattle.office_history.specs.declared.arrival.Answer.{Answer}
-use Rattle.office_history.specs.History.{Answered, first_arrivals, first_of, same_pair}
-use Rattle.office_looks.specs.Requests.{AreRequestsOf, Asked, IsReplied, asked, asked_of, by_key, is_of_team}
-use Rattle.office_looks.specs.Requests.{replied_to}
+use Rattle.office_history.specs.History.{first_arrivals, first_of, same_pair}
+use Rattle.office_looks.specs.Requests.{AreRequestsOf, Asked, IsReplied, by_key, is_of_team, replied_to}
 use Rattle.columns.proofs.Pieces.{items_more}
 use Rattle.store_rows.specs.Listed.{AreShown}
-use Rattle.store_changes.specs.Kept.{AreKept, AreKeysOf, IsKept, content_and_answer, kept_answer}
+use Rattle.store_changes.specs.Kept.{AreKeysOf, IsKept}
 use Rattle.store_changes.specs.declared.requests.KeptRequest.{KeptRequest}
 use Rattle.store_looks.specs.Asked.{IsFirstOf}
 

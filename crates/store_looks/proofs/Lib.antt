@@ -1,3 +1,4 @@
+pub mod Common
 mod Seeing
 mod Remembering
 pub mod Asked

@@ -1,9 +1,7 @@
 -- A network that is read with its releases or without them, and the names that are read beside it.
-use Rattle.std.proofs.Common.{◌≡◌, ◌∙◌, ℕ, Bool, true, false, List, [], map, Option, Some, None, refl, sym, subst}
+use Rattle.store_looks.proofs.Common.{◌≡◌, ◌∙◌, ℕ, Bool, true, false, List, [], map, Option, Some, None, refl, sym}
+use Rattle.store_looks.proofs.Common.{subst, option_map, with_releases, Net}
 use Rattle.std.specs.Prelude.{is_some}
-use Rattle.std.specs.Option.{option_map}
-use Rattle.office_law.specs.Released.{with_releases}
-use Rattle.office_types.specs.declared.state.Net.{Net}
 use Rattle.store_looks.specs.Read.{names_read, read_so}
 
 whole : (net : Option Net) → option_map (read_so true) net ≡ net

@@ -1,6 +1,7 @@
 -- What is remembered, computed: of texts of 3, 2, 4 and 1 bytes, those that are within a limit.
-use Rattle.std.proofs.Common.{◌≡◌, ℕ, List, [], ◌∷◌, codes, refl, arith}
-use Rattle.store_bodies.specs.ReadText.{IsLongestWithin, text_bytes}
+use Rattle.store_looks.proofs.Common.{◌≡◌, ℕ, List, [], ◌∷◌, refl, arith, text_bytes}
+use Rattle.std.proofs.Common.{codes}
+use Rattle.store_bodies.specs.ReadText.{IsLongestWithin}
 
 abbrev texts : List (List ℕ)
 texts = codes "abc" ∷ codes "de" ∷ codes "fghi" ∷ codes "j" ∷ []

@@ -1,15 +1,8 @@
 -- What is remembered after a look is so in the tables, if what was before it is.
-use Rattle.std.proofs.Common.{◌≡◌, ◌⊎◌, inl, inr, Bool, ℕ, List, Option, Some, None, ap, sym, subst, ◌∙◌}
-use Rattle.std.specs.Prelude.{IsTrue}
-use Rattle.office_types.specs.declared.book.SpnBook.{SpnBook}
+use Rattle.store_looks.proofs.Common.{◌≡◌, Bool, ℕ, List, Option, Some, None, ap, sym, subst, ◌∙◌, IsTrue, SpnBook}
+use Rattle.store_looks.proofs.Common.{LookForm, NetLook, Net, view_of, View, net_shown, shown_of, Tables}
+use Rattle.std.proofs.Common.{◌⊎◌, inl, inr}
 use Rattle.office_types.specs.declared.look.Look.TheVariants as look
-use Rattle.office_types.specs.declared.look.LookForm.{LookForm}
-use Rattle.office_types.specs.declared.look.NetLook.{NetLook}
-use Rattle.office_types.specs.declared.state.Net.{Net}
-use Rattle.office_seen.specs.View.{view_of}
-use Rattle.office_seen.specs.declared.view.View.{View}
-use Rattle.office_looks.specs.Looks.{net_shown, shown_of}
-use Rattle.store_tables.specs.Tables.{Tables}
 use Rattle.store_looks.specs.Seen.{IsTextOn, IsTrueOf, Known, MayRemember, OnNetAndBook, whole_view}
 
 -- this is all of the network of the name

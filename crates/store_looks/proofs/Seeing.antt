@@ -1,29 +1,20 @@
 -- A network that is seen as far as a look reads it is that of the tables, and its text is that of the look.
-use Rattle.std.proofs.Common.{◌≡◌, ℕ, List, [], Option, Some, None, unwrap_or, refl, sym, ap, subst, ◌∙◌}
-use Rattle.std.specs.Option.{option_map}
+use Rattle.store_looks.proofs.Common.{◌≡◌, ℕ, List, [], Option, Some, None, refl, sym, ap, subst, ◌∙◌, option_map}
+use Rattle.store_looks.proofs.Common.{Sheet, SpnBook, LookForm, NetLook, Net, with_releases, view_of, View, net_shown}
+use Rattle.store_looks.proofs.Common.{AreRead, net_read, Tables, IsNetAt, HasLast}
+use Rattle.std.proofs.Common.{unwrap_or}
 use Rattle.std.specs.List.Sorted.{IsStrictlySortedBy}
 use Rattle.dbc_sheet.specs.Messages.{by_number}
 use Rattle.dbc_sheet.specs.Sheet.{empty_sheet}
-use Rattle.dbc_sheet.specs.declared.sheet.Sheet.{Sheet}
 use Rattle.office_types.specs.State.{live_messages}
-use Rattle.office_types.specs.declared.book.SpnBook.{SpnBook}
-use Rattle.office_types.specs.declared.look.LookForm.{LookForm}
-use Rattle.office_types.specs.declared.look.NetLook.{NetLook}
 use Rattle.office_types.specs.declared.state.LiveMessage.{LiveMessage}
-use Rattle.office_types.specs.declared.state.Net.{Net}
-use Rattle.office_law.specs.Released.{with_releases}
-use Rattle.office_seen.specs.View.{view_of}
-use Rattle.office_seen.specs.declared.view.View.{View}
-use Rattle.office_looks.specs.Looks.{net_shown}
-use Rattle.office_looks.specs.Reads.{AreRead, messages_read, net_read, reads_of}
+use Rattle.office_looks.specs.Reads.{messages_read, reads_of}
 use Rattle.office_looks.specs.declared.reads.MessagesRead.{MessagesRead}
 use Rattle.office_looks.specs.declared.reads.MessagesRead.TheVariants.{Nothing, Received, Rows, Whole}
 use Rattle.office_looks.specs.declared.reads.Reads.{Reads}
 use Rattle.office_looks.specs.declared.reads.ReleasesRead.TheVariants as releases
 use Rattle.office_looks.proofs.Unread.{unread}
-use Rattle.store_tables.specs.Tables.{Tables}
-use Rattle.store_rows.specs.NetIn.{IsNetAt}
-use Rattle.store_net.specs.NetParts.{HasLast, partial_net}
+use Rattle.store_net.specs.NetParts.{partial_net}
 use Rattle.store_net.specs.declared.signal_parts.SignalParts.TheVariants.{All, RowOnly}
 use Rattle.store_net.specs.declared.signal_parts.SignalParts.TheVariants as of
 use Rattle.store_net.proofs.Bare.{numbers_ascend, whole_live}

@@ -1,25 +1,19 @@
 -- Tables that hold a history hold it in another form, once the live messages are carried over or the profile is
 -- renewed.
-use Rattle.std.proofs.Common.{◌≡◌, ℕ, List, [], ◌∷◌, filter, map, refl, sym, ap, subst, arith}
+use Rattle.store_migrate.proofs.Common.{◌≡◌, ℕ, List, [], ◌∷◌, filter, map, refl, sym, ap, subst, arith, Row, put_row}
+use Rattle.store_migrate.proofs.Common.{Net, One, Two, Tables, mark_row, Answered, AreListed, AreLiveRows, HasBodies}
+use Rattle.store_migrate.proofs.Common.{HasRows, live_in, IsRowOf, none_listed}
 use Rattle.std.specs.Ordering.{match_ordering}
-use Rattle.sqlite.specs.Order.{Row}
-use Rattle.sqlite.specs.Tree.{put_row}
 use Rattle.office_types.specs.Block.{form_number}
 use Rattle.office_types.specs.declared.block.BlockForm.TheVariants.{Spn}
-use Rattle.office_types.specs.declared.state.Net.{Net}
-use Rattle.office_rules.specs.Profile.{One, Two}
 use Rattle.office_rules.specs.Step.{net_named}
-use Rattle.store_tables.specs.Tables.{Tables}
-use Rattle.store_statements.specs.Rows.{block_row, is_of_form, mark_row}
+use Rattle.store_statements.specs.Rows.{block_row, is_of_form}
 use Rattle.store_statements.specs.Shown.{blocks_of_form_order, spns_order}
-use Rattle.office_history.specs.History.{Answered}
 use Rattle.office_history.specs.Laws.{HistoriesLeaveOffices}
-use Rattle.store_rows.specs.Listed.{AreListed}
-use Rattle.store_rows.specs.Live.{AreLiveRows, LiveRows, live_rows}
-use Rattle.store_rows.specs.NetIn.{HasBodies, HasRows, LiveForm, live_in, rest_of}
-use Rattle.store_rows.specs.Rows.{IsRowOf, IsSpnBlockRow, IsSpnRow}
+use Rattle.store_rows.specs.Live.{LiveRows, live_rows}
+use Rattle.store_rows.specs.NetIn.{LiveForm, rest_of}
+use Rattle.store_rows.specs.Rows.{IsSpnBlockRow, IsSpnRow}
 use Rattle.store_rows.proofs.Keys.{number_below}
-use Rattle.store_rows.proofs.Listing.{none_listed}
 use Rattle.store_rows.proofs.NetIn.{carried}
 use Rattle.store_changes.specs.Kept.{AreKept, AreKeptParts}
 use Rattle.store_net.specs.Nets.{AreKnownNets}

@@ -1,15 +1,11 @@
 -- Worked examples: the rows of the profile, and tables as each office made them, which hold the empty history.
-use Rattle.std.proofs.Common.{◌≡◌, [], ◌∷◌, pos, refl}
+use Rattle.store_migrate.proofs.Common.{◌≡◌, [], ◌∷◌, pos, refl, IsPermutation-refl, Int, One, Two, Answered}
+use Rattle.store_migrate.proofs.Common.{none_listed}
 use Rattle.std.proofs.lemmas.List.Elements.{All-nil}
-use Rattle.std.proofs.lemmas.List.Sorted.{IsPermutation-refl}
-use Rattle.sqlite.specs.declared.types.Value.TheVariants.{Int}
-use Rattle.office_rules.specs.Profile.{One, Two}
 use Rattle.office_rules.specs.Step.{opening}
 use Rattle.store_tables.specs.Tables.{no_rows}
-use Rattle.office_history.specs.History.{Answered}
 use Rattle.office_history.specs.Laws.{IsInRange}
 use Rattle.office_history.proofs.Histories.{histories_grow}
-use Rattle.store_rows.proofs.Listing.{none_listed}
 use Rattle.store_changes.proofs.Kept.{none_kept}
 use Rattle.store_migrate.specs.Carried.{but_live}
 use Rattle.store_migrate.specs.Forms.{HoldsAsBodies, HoldsAsRows, body_marks, row_marks}

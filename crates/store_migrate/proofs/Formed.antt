@@ -1,7 +1,6 @@
 -- How many tables and indexes each form has, and that they are the first ones of an office with statistics.
-use Rattle.std.proofs.Common.{◌≡◌, ℕ, length, take, refl, sym, subst, ap, ◌∙◌, arith}
+use Rattle.store_migrate.proofs.Common.{◌≡◌, ℕ, length, take, refl, sym, subst, ap, ◌∙◌, arith, Schema}
 use Rattle.std.specs.Prelude.{◌≢◌}
-use Rattle.sqlite.specs.Schema.{Schema}
 use Rattle.store_tables.specs.Schema.{analyzed_schema, office_schema, schema_13, schema_9}
 use Rattle.store_migrate.specs.FormSchema.{schema_of}
 use Rattle.store_tables.specs.Comparing.{IsBegun}

@@ -1,19 +1,15 @@
 -- Tables of a form as an office's: an earlier office's once those that it lacked are made beside them, and those with
 -- statistics.
-use Rattle.std.proofs.Common.{◌≡◌, ◌∙◌, [], ap, inl, refl, sym, subst}
+use Rattle.store_migrate.proofs.Common.{◌≡◌, ◌∙◌, [], ap, inl, refl, sym, subst, on_ok_weaker, Database, Schema}
+use Rattle.store_migrate.proofs.Common.{IsOffice, Tables, tables_of, named_rows}
 use Rattle.std.specs.Prelude.{Result, drop}
-use Rattle.std.proofs.lemmas.Result.{on_ok_weaker}
-use Rattle.sqlite.specs.Effect.{Database}
 use Rattle.sqlite.specs.Tree.{Trees}
-use Rattle.sqlite.specs.Schema.{Schema}
 use Rattle.sqlite.specs.State.{State}
 use Rattle.sqlite.specs.declared.transaction.Transaction.{Transaction}
 use Rattle.sqlite_trees.specs.declared.store.Store.{Ghosts}
 use Rattle.store_tables.specs.Frames.{Edits, OnlyWrites}
 use Rattle.store_tables.specs.Schema.{IsCurrentSchema, analyzed_schema, office_schema, schema_13, schema_9}
 use Rattle.store_tables.specs.Statements.{Grows, IsOfficeWith, rows_in, statistics_in, statistics_of, tables_in}
-use Rattle.store_tables.specs.Tables.{IsOffice, Tables, tables_of}
-use Rattle.store_tables.proofs.Changing.{named_rows}
 use Rattle.store_migrate.specs.Carrying.{BecomesOffice}
 
 pub office_with : (schema : Schema) (db : Database) → IsCurrentSchema schema → IsOfficeWith schema db → IsOffice db

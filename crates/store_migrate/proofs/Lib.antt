@@ -1,3 +1,4 @@
+pub mod Common
 pub mod AllCarried
 mod NetsCarried
 mod LiveAdded

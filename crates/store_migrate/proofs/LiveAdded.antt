@@ -1,20 +1,16 @@
 -- Live messages written one after the other, in the order of their numbers.
-use Rattle.std.proofs.Common.{◌≡◌, ◌∙◌, ◌&&◌, ℕ, false, List, [], ◌∷◌, ◌++◌, refl, sym, ap, subst, arith}
-use Rattle.std.specs.Prelude.{if◌then◌else◌}
-use Rattle.std.specs.List.{AllByRecursion}
+use Rattle.store_migrate.proofs.Common.{◌≡◌, ◌∙◌, ℕ, false, List, [], ◌∷◌, ◌++◌, refl, sym, ap, subst, arith}
+use Rattle.store_migrate.proofs.Common.{if◌then◌else◌, AllByRecursion, is_lt, Less, Database, by_number, LiveMessage}
+use Rattle.store_migrate.proofs.Common.{Tables, tables_of, HasRows}
+use Rattle.std.proofs.Common.{◌&&◌}
 use Rattle.std.specs.List.Sorted.{IsStrictlySortedBy}
-use Rattle.std.specs.Ordering.{is_lt, nat_cmp}
+use Rattle.std.specs.Ordering.{nat_cmp}
 use Rattle.std.specs.declared.cmp.Ordering.{Ordering}
-use Rattle.std.specs.declared.cmp.Ordering.TheVariants.{Less, Greater}
+use Rattle.std.specs.declared.cmp.Ordering.TheVariants.{Greater}
 use Rattle.std.proofs.lemmas.Bool.Decides.{nat_tests}
-use Rattle.sqlite.specs.Effect.{Database}
 use Rattle.base.specs.Keyed.{are_above, put, put_by_order}
 use Rattle.can_id.specs.Ident.{dbc_number}
-use Rattle.office_types.specs.State.{by_number}
-use Rattle.office_types.specs.declared.state.LiveMessage.{LiveMessage}
-use Rattle.store_tables.specs.Tables.{Tables, tables_of}
 use Rattle.store_rows.specs.LiveWritten.{IsLive, with_live}
-use Rattle.store_rows.specs.NetIn.{HasRows}
 use Rattle.store_rows.proofs.LiveSet.{message_set, message_set_alone, message_set_elsewhere}
 use Rattle.store_migrate.specs.Carried.{AddsLive, but_live}
 

@@ -1,28 +1,20 @@
 -- Networks carried over one after the other, in the order of their names.
-use Rattle.std.proofs.Common.{◌≡◌, ◌∙◌, ◌||◌, ℕ, pos, Bool, true, false, cond, List, [], ◌∷◌, ◌++◌, map, filter, Option}
-use Rattle.std.proofs.Common.{Some, refl, sym, ap, subst}
-use Rattle.std.specs.Prelude.{find, if◌then◌else◌}
-use Rattle.std.specs.List.{AllByRecursion}
+use Rattle.store_migrate.proofs.Common.{◌≡◌, ◌∙◌, ℕ, pos, false, List, [], ◌∷◌, ◌++◌, map, filter, refl, sym, ap, subst}
+use Rattle.store_migrate.proofs.Common.{if◌then◌else◌, AllByRecursion, Less, Int, Database, column, by_number}
+use Rattle.store_migrate.proofs.Common.{LiveMessage, Net, Tables, tables_of, AreListed, AreLiveRows, HasBodies, HasRows}
+use Rattle.store_migrate.proofs.Common.{live_in, IsRowOf}
+use Rattle.std.proofs.Common.{◌||◌, Bool, true, cond, Option, Some}
+use Rattle.std.specs.Prelude.{find}
 use Rattle.std.specs.List.Sorted.{IsStrictlySortedBy}
 use Rattle.std.specs.Ordering.{is_eq}
 use Rattle.std.specs.Str.{bytes_eq}
-use Rattle.std.specs.declared.cmp.Ordering.TheVariants.{Less}
 use Rattle.std.proofs.lemmas.Map.Text.{is_eq-slice_cmp}
 use Rattle.std.proofs.lemmas.Slice.Eq.{bytes_eq-Decides}
-use Rattle.sqlite.specs.declared.types.Value.TheVariants.{Int}
-use Rattle.sqlite.specs.Effect.{Database}
-use Rattle.sqlite.specs.Order.{column}
 use Rattle.base.specs.Keyed.{text_cmp}
-use Rattle.office_types.specs.State.{by_name, by_number}
-use Rattle.office_types.specs.declared.state.LiveMessage.{LiveMessage}
-use Rattle.office_types.specs.declared.state.Net.{Net}
-use Rattle.store_tables.specs.Tables.{Tables, tables_of}
+use Rattle.office_types.specs.State.{by_name}
 use Rattle.store_statements.specs.Rows.{is_of_net, message_row}
 use Rattle.store_statements.specs.Shown.{messages_order}
-use Rattle.store_rows.specs.Listed.{AreListed}
-use Rattle.store_rows.specs.Live.{AreLiveRows}
-use Rattle.store_rows.specs.NetIn.{HasBodies, HasRows, live_in}
-use Rattle.store_rows.specs.Rows.{IsMessageRow, IsRowOf}
+use Rattle.store_rows.specs.Rows.{IsMessageRow}
 use Rattle.store_rows.proofs.LiveChanges.{ascend_by_rows}
 use Rattle.store_migrate.specs.Carried.{AddsLive, CarriesNet, CarriesNets, named_in}
 use Rattle.store_migrate.proofs.LiveAdded.{front_ascends, middle}

@@ -1,22 +1,16 @@
 -- The rows of the profile, where tables hold a history, say which profile it is: the sums of their numbers differ.
-use Rattle.std.proofs.Common.{◌≡◌, ◌∙◌, ℕ, zero, suc, ◌+◌, ◌<◌, pos, List, [], ◌∷◌, inl, inr, map, refl, sym, ap, subst}
-use Rattle.std.proofs.Common.{arith}
+use Rattle.store_migrate.proofs.Common.{◌≡◌, ◌∙◌, ℕ, ◌+◌, ◌<◌, pos, List, [], ◌∷◌, inl, inr, map, refl, sym, ap, subst}
+use Rattle.store_migrate.proofs.Common.{arith, is_lt, IsPermutation-refl, Int, Row, column, One, Two, Tables, Answered}
+use Rattle.std.proofs.Common.{zero, suc}
 use Rattle.std.specs.Prelude.{All as Each, IsPermutation, IsSorted, filter, sum_by}
-use Rattle.std.specs.Ordering.{is_lt}
 use Rattle.std.proofs.lemmas.List.Elements.{All-from_recursion}
-use Rattle.std.proofs.lemmas.List.Sorted.{IsPermutation-refl, IsPermutation-sym, IsPermutation-trans}
-use Rattle.std.proofs.lemmas.List.Sorted.{sum_by-IsPermutation}
+use Rattle.std.proofs.lemmas.List.Sorted.{IsPermutation-sym, IsPermutation-trans, sum_by-IsPermutation}
 use Rattle.std.proofs.lemmas.List.Sums.{sum_by-cons}
 use Rattle.std.proofs.lemmas.Map.Views.{All-map-IsPermutation}
 use Rattle.sqlite.specs.declared.types.Value.{Value}
-use Rattle.sqlite.specs.declared.types.Value.TheVariants.{Int}
-use Rattle.sqlite.specs.Order.{Row, column}
-use Rattle.office_rules.specs.Profile.{One, Two}
 use Rattle.store_tables.specs.Selected.{IsSelected}
-use Rattle.store_tables.specs.Tables.{Tables}
 use Rattle.store_statements.specs.Rows.{is_any}
 use Rattle.store_statements.specs.Shown.{profile_order, profile_shown}
-use Rattle.office_history.specs.History.{Answered}
 use Rattle.store_rows.proofs.Keys.{int_test}
 use Rattle.store_migrate.specs.Forms.{body_marks, row_marks}
 use Rattle.store_migrate.specs.InForm.{HoldsAs}

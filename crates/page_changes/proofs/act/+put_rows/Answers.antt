@@ -1,8 +1,5 @@
-use Rattle.std.proofs.Common.{◌≡◌, ◌∷◌, List, subst, sym}
-use Rattle.std.specs.List.{flat_map}
+use Rattle.page_changes.proofs.Common.{◌≡◌, ◌∷◌, List, subst, sym, flat_map, Becomes, adding, added}
 use Rattle.std.proofs.lemmas.Result.{on_ok_weaker}
-use Rattle.markup.specs.Writing.{Becomes, adding}
-use Rattle.markup.proofs.Changes.{added}
 use Rattle.page_changes.specs.Act.{Lost, is_one_node, node_row}
 use Rattle.page_changes.specs.Parts.{parts_by}
 use Rattle.page_changes.proofs.Cutting.{cut}

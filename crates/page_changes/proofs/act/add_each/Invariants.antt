@@ -1,4 +1,4 @@
-use Rattle.std.proofs.Common.{◌≡◌, ◌++◌, drop, map}
+use Rattle.page_changes.proofs.Common.{◌≡◌, ◌++◌, drop, map}
 use Rattle.page_changes.specs.Act.{lost_at}
 use Rattle.page_changes.specs.Names.{text_of}
 use Rattle.page_changes.proofs.act.add_each.Given as goal

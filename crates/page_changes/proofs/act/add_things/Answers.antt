@@ -1,5 +1,4 @@
-use Rattle.std.proofs.Common.{◌++◌}
-use Rattle.std.specs.List.{flat_map}
+use Rattle.page_changes.proofs.Common.{◌++◌, flat_map}
 use Rattle.page_changes.specs.Act.{is_one_thing, losses_at, things_of}
 use Rattle.page_changes.proofs.Cutting.{part_added}
 use Rattle.page_changes.proofs.LostParts.{alike_things}

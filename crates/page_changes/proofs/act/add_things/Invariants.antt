@@ -1,5 +1,4 @@
-use Rattle.std.proofs.Common.{◌≡◌, ◌++◌, length}
-use Rattle.std.specs.List.{flat_map}
+use Rattle.page_changes.proofs.Common.{◌≡◌, ◌++◌, length, flat_map}
 use Rattle.page_changes.specs.Act.{is_one_thing, losses_at, things_of}
 use Rattle.page_changes.specs.Parts.{parts_by}
 use Rattle.page_changes.proofs.act.add_things.Given as goal

@@ -1,5 +1,4 @@
-use Rattle.std.proofs.Common.{◌≡◌, ◌++◌, drop, map}
-use Rattle.std.specs.List.{flat_map}
+use Rattle.page_changes.proofs.Common.{◌≡◌, ◌++◌, drop, map, flat_map}
 use Rattle.page_changes.specs.Act.{losses_of}
 use Rattle.page_changes.specs.Changes.{list_of}
 use Rattle.page_changes.proofs.act.all_losses.Given as goal

@@ -1,4 +1,4 @@
-use Rattle.std.proofs.Common.{◌≡◌, ◌++◌, drop, map}
+use Rattle.page_changes.proofs.Common.{◌≡◌, ◌++◌, drop, map}
 use Rattle.page_changes.specs.Act.{breaking_words}
 use Rattle.page_changes.specs.Names.{text_of}
 use Rattle.page_changes.proofs.act.breaking_words.Given as goal

@@ -1,8 +1,5 @@
-use Rattle.std.proofs.Common.{rules}
-use Rattle.std.specs.Cmp.Lexicographic.{nat_list_cmp_total}
-use Rattle.std.specs.Ordering.{is_lt}
-use Rattle.std.proofs.lemmas.List.Sorted.{answers_always, ranks_by}
-use Rattle.base.specs.Keyed.{text_cmp}
+use Rattle.page_changes.proofs.Common.{rules, nat_list_cmp_total, is_lt, answers_always, text_cmp}
+use Rattle.std.proofs.lemmas.List.Sorted.{ranks_by}
 use Rattle.page_changes.specs.Act.{node_of}
 use Rattle.page_changes.proofs.act.by_node.Goals as goal
 

@@ -1,6 +1,4 @@
-use Rattle.std.proofs.Common.{◌≡◌, ◌++◌, drop, map}
-use Rattle.std.specs.List.{flat_map}
-use Rattle.std.specs.Option.{option_copied}
+use Rattle.page_changes.proofs.Common.{◌≡◌, ◌++◌, drop, map, flat_map, option_copied}
 use Rattle.page_changes.specs.Act.{receivers_if}
 use Rattle.page_changes.specs.Names.{text_of}
 use Rattle.page_changes.proofs.act.mentioned.Given as goal

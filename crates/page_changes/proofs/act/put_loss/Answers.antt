@@ -1,8 +1,6 @@
-use Rattle.std.proofs.Common.{[], refl, append_assoc, map}
-use Rattle.std.specs.Prelude.{codes}
-use Rattle.markup.specs.Html.{element_html, escaped}
+use Rattle.page_changes.proofs.Common.{[], refl, append_assoc, map, codes, element_html, option_copied}
+use Rattle.markup.specs.Html.{escaped}
 use Rattle.markup.specs.declared.tag.Tag.TheVariants as tag
-use Rattle.std.specs.Option.{option_copied}
 use Rattle.page_changes.specs.Act.{after_point, lost_item}
 use Rattle.page_changes.specs.Names.{text_of}
 use Rattle.page_changes.specs.Tables.{joined}

@@ -1,6 +1,4 @@
-use Rattle.std.proofs.Common.{take}
-use Rattle.std.specs.List.{flat_map}
-use Rattle.markup.specs.Writing.{Becomes, adding}
+use Rattle.page_changes.proofs.Common.{take, flat_map, Becomes, adding}
 use Rattle.page_changes.specs.Act.{lost_item}
 use Rattle.page_changes.proofs.act.put_losses.Given as goal
 

@@ -1,6 +1,4 @@
-use Rattle.std.proofs.Common.{refl, append_assoc}
-use Rattle.std.specs.Prelude.{codes}
-use Rattle.std.specs.List.{flat_map}
+use Rattle.page_changes.proofs.Common.{refl, append_assoc, codes, flat_map}
 use Rattle.page_parts.specs.Frames.{with_table}
 use Rattle.page_changes.specs.Act.{act_heads, is_one_node, node_row, rows_table}
 use Rattle.page_changes.specs.Parts.{parts_by}

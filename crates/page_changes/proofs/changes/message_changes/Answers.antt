@@ -1,4 +1,4 @@
-use Rattle.std.proofs.Common.{map}
+use Rattle.page_changes.proofs.Common.{map}
 use Rattle.page_changes.specs.Changes.{list_of, messages_in}
 use Rattle.page_changes.proofs.ChangeParts.{message_cut}
 use Rattle.page_changes.proofs.changes.message_changes.Goals as goal

@@ -1,4 +1,4 @@
-use Rattle.std.proofs.Common.{◌≡◌, ◌++◌, filter, length, map}
+use Rattle.page_changes.proofs.Common.{◌≡◌, ◌++◌, filter, length, map}
 use Rattle.page_changes.specs.Changes.{is_beside, is_of_message, list_of, messages_in}
 use Rattle.page_changes.specs.Parts.{parts_by}
 use Rattle.page_changes.proofs.changes.message_changes.Given as goal

@@ -1,5 +1,4 @@
-use Rattle.std.proofs.Common.{rules}
-use Rattle.std.proofs.lemmas.List.Sorted.{answers_always}
+use Rattle.page_changes.proofs.Common.{rules, answers_always}
 use Rattle.base.proofs.AscendingLists.{searched}
 use Rattle.page_changes.specs.Changes.{number_of_change}
 use Rattle.page_changes.proofs.changes.search.Goals as goal

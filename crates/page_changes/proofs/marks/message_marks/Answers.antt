@@ -1,6 +1,4 @@
-use Rattle.std.proofs.Common.{List, subst, ℕ}
-use Rattle.dbc_compare.specs.declared.difference.Difference.{Difference}
-use Rattle.dbc_sheet.specs.Messages.{number_of}
+use Rattle.page_changes.proofs.Common.{List, subst, ℕ, Difference, number_of}
 use Rattle.page_changes.specs.Changes.{change_at, changes_in}
 use Rattle.page_changes.specs.Marks.{IsMark}
 use Rattle.page_changes.proofs.MarkRows.{zip_more}

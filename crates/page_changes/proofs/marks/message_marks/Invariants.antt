@@ -1,4 +1,4 @@
-use Rattle.std.proofs.Common.{take}
+use Rattle.page_changes.proofs.Common.{take}
 use Rattle.page_changes.specs.Changes.{AreByNumber, changes_in}
 use Rattle.page_changes.specs.Marks.{AreMarks}
 use Rattle.page_changes.proofs.marks.message_marks.Given as goal

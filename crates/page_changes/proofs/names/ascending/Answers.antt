@@ -1,4 +1,4 @@
-use Rattle.std.proofs.Common.{map}
+use Rattle.page_changes.proofs.Common.{map}
 use Rattle.page_changes.specs.Names.{text_of}
 use Rattle.page_changes.proofs.RisingNames.{names_are}
 use Rattle.page_changes.proofs.names.ascending.Goals as goal

@@ -1,6 +1,4 @@
-use Rattle.std.proofs.Common.{◌+◌, OnOk, Option, subst, sym}
-use Rattle.dbc_sheet.specs.declared.sheet.Sheet.{Sheet}
-use Rattle.markup.specs.Writing.{Becomes, adding}
+use Rattle.page_changes.proofs.Common.{◌+◌, OnOk, Option, subst, sym, Sheet, Becomes, adding}
 use Rattle.page_changes.specs.Releases.{release_row}
 use Rattle.page_changes.proofs.Unchanged.{unchanged}
 use Rattle.page_changes.proofs.releases.put_at.Goals as goal

@@ -1,5 +1,5 @@
-use Rattle.std.proofs.Common.{[], refl, append_assoc}
-use Rattle.std.specs.Prelude.{codes, decimal}
+use Rattle.page_changes.proofs.Common.{[], refl, append_assoc, codes}
+use Rattle.std.specs.Prelude.{decimal}
 use Rattle.markup.specs.declared.tag.Tag.TheVariants as tag
 use Rattle.page_changes.specs.Releases.{more_note}
 use Rattle.page_changes.proofs.Steps.{add, begin, end, finish, start}

@@ -1,5 +1,4 @@
-use Rattle.std.proofs.Common.{refl, append_assoc, None, length}
-use Rattle.std.specs.Prelude.{codes}
+use Rattle.page_changes.proofs.Common.{refl, append_assoc, None, length, codes}
 use Rattle.page_parts.specs.Frames.{with_part, with_wide}
 use Rattle.page_changes.specs.Releases.{more_releases, release_table, releases_part}
 use Rattle.page_changes.proofs.Steps.{add, by, end, finish, start}

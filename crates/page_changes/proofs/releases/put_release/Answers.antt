@@ -1,9 +1,6 @@
-use Rattle.std.proofs.Common.{ℕ, List, [], length, refl, append_assoc, subst}
-use Rattle.std.specs.Option.{option_copied}
+use Rattle.page_changes.proofs.Common.{ℕ, List, [], length, refl, append_assoc, subst, option_copied, Message}
+use Rattle.page_changes.proofs.Common.{element_html, Becomes, adding}
 use Rattle.dbc_sheet.specs.declared.counts.Counts.{Counts}
-use Rattle.dbc_sheet.specs.declared.message.Message.{Message}
-use Rattle.markup.specs.Html.{element_html}
-use Rattle.markup.specs.Writing.{Becomes, adding}
 use Rattle.markup.specs.declared.tag.Tag.TheVariants as tag
 use Rattle.office_views.specs.Table.{signal_count}
 use Rattle.page_changes.specs.Releases.{breaking_cell, breaking_since, count_cells, counts_since, head_cell}

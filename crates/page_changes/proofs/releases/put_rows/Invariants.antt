@@ -1,5 +1,4 @@
-use Rattle.std.specs.List.{flat_map, range_with_len}
-use Rattle.markup.specs.Writing.{Becomes, adding}
+use Rattle.page_changes.proofs.Common.{flat_map, range_with_len, Becomes, adding}
 use Rattle.page_changes.specs.Releases.{row_back}
 use Rattle.page_changes.proofs.releases.put_rows.Given as goal
 

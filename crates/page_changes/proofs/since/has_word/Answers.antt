@@ -1,5 +1,4 @@
-use Rattle.std.proofs.Common.{◌∙◌, sym}
-use Rattle.std.specs.Str.{bytes_eq}
+use Rattle.page_changes.proofs.Common.{◌∙◌, sym, bytes_eq}
 use Rattle.page_parts.proofs.Once.{any_mapped}
 use Rattle.page_changes.specs.Names.{text_of}
 use Rattle.page_changes.proofs.since.has_word.Goals as goal

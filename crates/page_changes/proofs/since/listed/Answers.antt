@@ -1,4 +1,4 @@
-use Rattle.std.proofs.Common.{arith, sym}
+use Rattle.page_changes.proofs.Common.{arith, sym}
 use Rattle.std.proofs.lemmas.List.{length-take-le, take_all}
 use Rattle.page_changes.specs.declared.since.TheConstants.{LISTED}
 use Rattle.page_changes.proofs.since.listed.Goals as goal

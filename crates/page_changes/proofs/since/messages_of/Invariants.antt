@@ -1,4 +1,4 @@
-use Rattle.std.proofs.Common.{◌≡◌, ◌++◌, drop, map}
+use Rattle.page_changes.proofs.Common.{◌≡◌, ◌++◌, drop, map}
 use Rattle.page_changes.specs.Changes.{changes_in, list_of}
 use Rattle.page_changes.specs.Fates.{of_fate}
 use Rattle.page_changes.proofs.since.messages_of.Given as goal

@@ -1,6 +1,4 @@
-use Rattle.std.proofs.Common.{map, take}
-use Rattle.std.specs.List.{flat_map}
-use Rattle.markup.specs.Writing.{Becomes, adding}
+use Rattle.page_changes.proofs.Common.{map, take, flat_map, Becomes, adding}
 use Rattle.page_changes.specs.Changes.{list_of}
 use Rattle.page_changes.specs.Since.{message_item}
 use Rattle.page_changes.proofs.since.put_each.Given as goal

@@ -1,8 +1,5 @@
-use Rattle.std.proofs.Common.{OnOk, List, ◌∙◌, ap, map, subst, sym}
-use Rattle.std.specs.List.{flat_map}
+use Rattle.page_changes.proofs.Common.{OnOk, List, ◌∙◌, ap, map, subst, sym, flat_map, Becomes, adding, Difference}
 use Rattle.std.proofs.lemmas.List.{take-map}
-use Rattle.markup.specs.Writing.{Becomes, adding}
-use Rattle.dbc_compare.specs.declared.difference.Difference.{Difference}
 use Rattle.page_changes.specs.Changes.{list_of}
 use Rattle.page_changes.specs.Since.{message_item}
 use Rattle.page_changes.specs.declared.since.TheConstants.{LISTED}

@@ -1,5 +1,4 @@
-use Rattle.std.proofs.Common.{[], refl, append_assoc}
-use Rattle.std.specs.Prelude.{codes}
+use Rattle.page_changes.proofs.Common.{[], refl, append_assoc, codes}
 use Rattle.markup.specs.declared.tag.Tag.TheVariants as tag
 use Rattle.page_parts.specs.Words.{counted}
 use Rattle.page_changes.specs.LastRelease.{other_note}

@@ -1,5 +1,4 @@
-use Rattle.std.proofs.Common.{Some, refl}
-use Rattle.std.specs.Prelude.{codes}
+use Rattle.page_changes.proofs.Common.{Some, refl, codes}
 use Rattle.markup.specs.Html.{valued}
 use Rattle.markup.specs.declared.tag.Tag.TheVariants as tag
 use Rattle.page_parts.specs.Frames.{heading_html}

@@ -1,5 +1,4 @@
-use Rattle.std.proofs.Common.{rules}
-use Rattle.std.proofs.lemmas.List.Sorted.{answers_always}
+use Rattle.page_changes.proofs.Common.{rules, answers_always}
 use Rattle.page_changes.specs.Changes.{breaking_in, list_of}
 use Rattle.page_changes.proofs.since.ranked.Goals as goal
 

@@ -1,4 +1,4 @@
-use Rattle.std.proofs.Common.{◌≡◌, drop, map}
+use Rattle.page_changes.proofs.Common.{◌≡◌, drop, map}
 use Rattle.std.specs.List.{fold}
 use Rattle.page_changes.specs.Names.{text_of}
 use Rattle.page_changes.specs.Since.{with_word, word_of, words_of}

@@ -1,5 +1,4 @@
-use Rattle.std.proofs.Common.{map, take}
-use Rattle.markup.specs.Writing.{Becomes, adding}
+use Rattle.page_changes.proofs.Common.{map, take, Becomes, adding}
 use Rattle.page_changes.specs.Names.{text_of}
 use Rattle.page_changes.specs.Tables.{later_words}
 use Rattle.page_changes.proofs.words.put_later.Given as goal

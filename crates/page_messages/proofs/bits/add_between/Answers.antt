@@ -1,6 +1,5 @@
-use Rattle.std.proofs.Common.{◌≡◌, ◌+◌, ◌-◌, ◌++◌, ◌∙◌, Bool, ℕ, [], ◌∷◌, List, cond, filter, map, ap, sym, append-nil, append_assoc}
-use Rattle.std.proofs.Common.{arith}
-use Rattle.std.specs.List.{range_with_len}
+use Rattle.page_messages.proofs.Common.{◌≡◌, ◌+◌, ◌-◌, ◌++◌, ◌∙◌, Bool, ℕ, [], ◌∷◌, List, cond, filter, map, ap, sym}
+use Rattle.page_messages.proofs.Common.{append-nil, append_assoc, arith, range_with_len}
 use Rattle.std.proofs.lemmas.List.FromFn.{filter_of_map_range_with_len_more}
 use Rattle.page_messages.specs.Bits.{bit_at, is_held}
 use Rattle.page_messages.specs.declared.bits.Held.{Held}

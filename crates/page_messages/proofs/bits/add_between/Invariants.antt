@@ -1,5 +1,4 @@
-use Rattle.std.proofs.Common.{◌≡◌, ◌-◌, ◌++◌, filter, map}
-use Rattle.std.specs.List.{range_with_len}
+use Rattle.page_messages.proofs.Common.{◌≡◌, ◌-◌, ◌++◌, filter, map, range_with_len}
 use Rattle.page_messages.specs.Bits.{bit_at, is_held}
 use Rattle.page_messages.proofs.bits.add_between.Given as goal
 

@@ -1,6 +1,6 @@
-use Rattle.std.proofs.Common.{leb, ltb, rules, List, subst, sym, ◌∙◌}
-use Rattle.std.proofs.lemmas.List.Sorted.{IsNonDecreasingBy-drop, IsPartitionPoint-from_clause, IsPartitionedBy-leb, IsPartitionedBy-ltb}
-use Rattle.std.specs.List.Sorted.{IsNonDecreasingBy}
+use Rattle.page_messages.proofs.Common.{leb, ltb, rules, List, subst, sym, ◌∙◌, IsNonDecreasingBy}
+use Rattle.std.proofs.lemmas.List.Sorted.{IsNonDecreasingBy-drop, IsPartitionPoint-from_clause, IsPartitionedBy-leb}
+use Rattle.std.proofs.lemmas.List.Sorted.{IsPartitionedBy-ltb}
 use Rattle.page_messages.specs.Layouts.{place_of}
 use Rattle.page_messages.specs.declared.bits.Held.{Held}
 use Rattle.page_messages.proofs.Places.{between}

@@ -1,7 +1,5 @@
-use Rattle.std.proofs.Common.{◌≡◌, ◌*◌, ◌<◌, ◌∙◌, All, ap, subst, List, ℕ, rules}
-use Rattle.std.specs.List.{flat_map}
+use Rattle.page_messages.proofs.Common.{◌≡◌, ◌*◌, ◌<◌, ◌∙◌, All, ap, subst, List, ℕ, rules, flat_map, take_all}
 use Rattle.std.specs.List.Sorted.{IsPermutation}
-use Rattle.std.proofs.lemmas.List.{take_all}
 use Rattle.std.proofs.lemmas.List.Elements.{All-more}
 use Rattle.std.proofs.lemmas.List.Sorted.{All-permutation, IsNonDecreasingBy-from_sort_by_key, answers_always}
 use Rattle.std.proofs.lemmas.List.Sorted.{length_permutation}

@@ -1,5 +1,4 @@
-use Rattle.std.proofs.Common.{◌≡◌, All, take}
-use Rattle.std.specs.List.{flat_map}
+use Rattle.page_messages.proofs.Common.{◌≡◌, All, take, flat_map}
 use Rattle.page_messages.specs.Bits.{held_of}
 use Rattle.page_messages.proofs.Holders.{IsSmall}
 use Rattle.page_messages.proofs.bits.held_bits.Given as goal

@@ -1,5 +1,4 @@
-use Rattle.std.proofs.Common.{◌+◌, ◌*◌, ◌/◌, ◌^◌, ◌<◌, ℕ, arith, subst, sym}
-use Rattle.markup.specs.Writing.{Becomes, adding}
+use Rattle.page_messages.proofs.Common.{◌+◌, ◌*◌, ◌/◌, ◌^◌, ◌<◌, ℕ, arith, subst, sym, Becomes, adding}
 use Rattle.page_messages.specs.Layouts.{free_rows}
 use Rattle.page_messages.specs.declared.bits.Held.{Held}
 use Rattle.page_messages.proofs.RowsDrawn.{draws, ends, goes_on}

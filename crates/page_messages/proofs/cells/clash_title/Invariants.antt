@@ -1,5 +1,4 @@
-use Rattle.std.proofs.Common.{◌≡◌, ◌++◌, codes, take}
-use Rattle.std.specs.List.{flat_map}
+use Rattle.page_messages.proofs.Common.{◌≡◌, ◌++◌, codes, take, flat_map}
 use Rattle.markup.specs.Html.{words}
 use Rattle.page_messages.specs.Layouts.{name_of}
 use Rattle.page_messages.specs.declared.bits.Held.{Held}

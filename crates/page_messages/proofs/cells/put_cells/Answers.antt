@@ -1,5 +1,4 @@
-use Rattle.std.proofs.Common.{◌≡◌, ◌+◌, ◌-◌, ◌<◌, ◌≤◌, ◌∙◌, ℕ, arith, subst, sym}
-use Rattle.markup.specs.Writing.{Becomes, adding}
+use Rattle.page_messages.proofs.Common.{◌≡◌, ◌+◌, ◌-◌, ◌<◌, ◌≤◌, ◌∙◌, ℕ, arith, subst, sym, Becomes, adding}
 use Rattle.page_messages.specs.Layouts.{bits_at, cell_html}
 use Rattle.page_messages.proofs.Adding.{on_ok}
 use Rattle.page_messages.proofs.CellsDrawn.{begins, ends, goes_on}

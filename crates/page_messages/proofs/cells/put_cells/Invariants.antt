@@ -1,5 +1,4 @@
-use Rattle.std.proofs.Common.{◌+◌, ◌^◌, ◌<◌}
-use Rattle.std.specs.List.Sorted.{IsNonDecreasingBy}
+use Rattle.page_messages.proofs.Common.{◌+◌, ◌^◌, ◌<◌, IsNonDecreasingBy}
 use Rattle.page_messages.specs.Layouts.{bits_at, place_of}
 use Rattle.page_messages.proofs.CellsDrawn.{CellsLeft}
 use Rattle.page_messages.proofs.cells.put_cells.Given as goal

@@ -1,8 +1,5 @@
-use Rattle.std.proofs.Common.{◌==◌, ◌∙◌, ℕ, List, Some, ap, arith, codes, length, subst, refl, sym, []}
-use Rattle.std.specs.List.{enumerate_from}
-use Rattle.std.proofs.lemmas.List.{take_all}
-use Rattle.std.proofs.lemmas.List.FromFn.{length-enumerate_from}
-use Rattle.dbc_sheet.specs.declared.message.Message.{Message}
+use Rattle.page_messages.proofs.Common.{◌==◌, ◌∙◌, ℕ, List, Some, ap, arith, codes, length, subst, refl, sym, []}
+use Rattle.page_messages.proofs.Common.{enumerate_from, take_all, length-enumerate_from, Message}
 use Rattle.markup.specs.declared.tag.Tag.TheVariants as tag
 use Rattle.page_parts.specs.Frames.{heading_html}
 use Rattle.page_messages.specs.Each.{AreCards, IsCard}

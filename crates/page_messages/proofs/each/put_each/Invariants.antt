@@ -1,5 +1,4 @@
-use Rattle.std.proofs.Common.{take}
-use Rattle.std.specs.List.{enumerate_from}
+use Rattle.page_messages.proofs.Common.{take, enumerate_from}
 use Rattle.page_messages.specs.Each.{AreCards}
 use Rattle.page_messages.specs.Layouts.{Adds}
 use Rattle.page_messages.proofs.each.put_each.Given as goal

@@ -1,7 +1,5 @@
-use Rattle.std.proofs.Common.{◌++◌, Bool, List, codes, length, nat_lt, refl, subst}
-use Rattle.markup.specs.Writing.{Becomes, adding, beginning, whole}
-use Rattle.markup.proofs.Changes.{added}
-use Rattle.dbc_sheet.specs.declared.message.Message.{Message}
+use Rattle.page_messages.proofs.Common.{◌++◌, Bool, List, codes, length, nat_lt, refl, subst, Becomes, adding}
+use Rattle.page_messages.proofs.Common.{beginning, whole, added, Message}
 use Rattle.page_parts.specs.Marks.{state_at}
 use Rattle.page_parts.specs.Subjects.{names_of, owner_at}
 use Rattle.page_parts.specs.declared.marks.State.{State}

@@ -1,8 +1,6 @@
-use Rattle.std.proofs.Common.{◌≡◌, ◌++◌, ◌∙◌, ℕ, List, [], append-nil, ap, codes, map, refl, subst}
-use Rattle.markup.specs.Html.{escaped}
-use Rattle.markup.specs.Writing.{Becomes, adding, beginning}
+use Rattle.page_messages.proofs.Common.{◌≡◌, ◌++◌, ◌∙◌, ℕ, List, [], append-nil, ap, codes, map, refl, subst, escaped}
+use Rattle.page_messages.proofs.Common.{Becomes, adding, beginning, added}
 use Rattle.markup.specs.declared.tag.Tag.TheVariants as tag
-use Rattle.markup.proofs.Changes.{added}
 use Rattle.page_parts.specs.Frames.{wide}
 use Rattle.page_messages.specs.Each.{wide_signals}
 use Rattle.page_messages.specs.Layouts.{Adds, AreLayouts}

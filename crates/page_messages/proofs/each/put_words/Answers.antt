@@ -1,6 +1,4 @@
-use Rattle.std.proofs.Common.{◌++◌, ℕ, List, [], subst}
-use Rattle.markup.specs.Writing.{Becomes, adding, whole}
-use Rattle.markup.proofs.Changes.{added}
+use Rattle.page_messages.proofs.Common.{◌++◌, ℕ, List, [], subst, Becomes, adding, whole, added}
 use Rattle.page_messages.specs.Each.{comment_html, facts_html, facts_id, paragraph, route_html}
 use Rattle.page_messages.proofs.each.put_words.Goals as goal
 

@@ -1,6 +1,5 @@
-use Rattle.std.proofs.Common.{◌≡◌, ◌∙◌, ℕ, [], true, ap, codes, cond, subst, sym}
+use Rattle.page_messages.proofs.Common.{◌≡◌, ◌∙◌, ℕ, [], true, ap, codes, cond, subst, sym, Becomes, adding}
 use Rattle.can_id.specs.J1939.{format_of, is_pdu1, pgn_of}
-use Rattle.markup.specs.Writing.{Becomes, adding}
 use Rattle.page_messages.specs.Each.{destination_fact, fact}
 use Rattle.page_messages.proofs.Adding.{added_as}
 use Rattle.page_messages.proofs.facts.put_destination.Goals as goal

@@ -1,6 +1,4 @@
-use Rattle.std.proofs.Common.{take}
-use Rattle.std.specs.List.{flat_map}
-use Rattle.markup.specs.Writing.{Becomes, adding}
+use Rattle.page_messages.proofs.Common.{take, flat_map, Becomes, adding}
 use Rattle.page_messages.specs.Layouts.{bit_head}
 use Rattle.page_messages.proofs.layouts.put_bit_heads.Given as goal
 

@@ -1,9 +1,8 @@
-use Rattle.std.proofs.Common.{◌≡◌, ◌++◌, ◌∙◌, ℕ, List, ap, filter, refl, subst, sym}
-use Rattle.markup.specs.Html.{end_tag, start_tag}
-use Rattle.markup.specs.Writing.{Becomes, adding, beginning}
+use Rattle.page_messages.proofs.Common.{◌≡◌, ◌++◌, ◌∙◌, ℕ, List, ap, filter, refl, subst, sym, end_tag, start_tag}
+use Rattle.page_messages.proofs.Common.{Becomes, adding, beginning, next}
 use Rattle.markup.specs.declared.tag.Tag.TheVariants as tag
-use Rattle.markup.proofs.Changes.{next}
-use Rattle.page_messages.specs.Layouts.{AreHeldBy, AreInOrder, bits_at, bits_html, caption_if, holders, is_there, layout_attributes, number_if}
+use Rattle.page_messages.specs.Layouts.{AreHeldBy, AreInOrder, bits_at, bits_html, caption_if, holders, is_there}
+use Rattle.page_messages.specs.Layouts.{layout_attributes, number_if}
 use Rattle.page_messages.specs.declared.bits.Held.{Held}
 use Rattle.page_messages.specs.declared.shown.Shown.{Shown}
 use Rattle.page_messages.proofs.Adding.{added_as, enclosed_after}

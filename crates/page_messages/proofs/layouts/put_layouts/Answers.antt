@@ -1,6 +1,6 @@
-use Rattle.std.proofs.Common.{◌≡◌, ◌==◌, ◌∙◌, ℕ, List, Some, false, find, length, ap, arith, subst, sym}
+use Rattle.page_messages.proofs.Common.{◌≡◌, ◌==◌, ◌∙◌, ℕ, List, Some, false, find, length, ap, arith, subst, sym}
+use Rattle.page_messages.proofs.Common.{nat_tests}
 use Rattle.std.specs.Option.{option_copied}
-use Rattle.std.proofs.lemmas.Bool.Decides.{nat_tests}
 use Rattle.page_messages.specs.Layouts.{Adds, AreValueLayouts, is_multiplexor}
 use Rattle.page_messages.proofs.Adding.{on_ok}
 use Rattle.page_messages.proofs.Drawn.{drawn_by_values}

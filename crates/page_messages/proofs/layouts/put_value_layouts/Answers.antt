@@ -1,7 +1,7 @@
-use Rattle.std.proofs.Common.{Bor, List, [], ℕ, Option, Some, codes, get_or, option_map, refl, subst, sym}
+use Rattle.page_messages.proofs.Common.{Bor, List, [], ℕ, Option, Some, codes, get_or, refl, subst, sym, take_all}
+use Rattle.page_messages.proofs.Common.{Becomes, adding}
+use Rattle.std.proofs.Common.{option_map}
 use Rattle.std.proofs.lemmas.Grind.{get_or_default_zero}
-use Rattle.std.proofs.lemmas.List.{take_all}
-use Rattle.markup.specs.Writing.{Becomes, adding}
 use Rattle.markup.specs.declared.tag.Tag.TheVariants as tag
 use Rattle.page_messages.specs.Layouts.{Adds, AreFor, IsValueLayout, caption, drawing_of, grid_html}
 use Rattle.page_messages.proofs.Adding.{adds_more, enclosed, nothing_added}

@@ -1,4 +1,4 @@
-use Rattle.std.proofs.Common.{take}
+use Rattle.page_messages.proofs.Common.{take}
 use Rattle.page_messages.specs.Layouts.{Adds, AreFor, IsValueLayout}
 use Rattle.page_messages.proofs.layouts.put_value_layouts.Given as goal
 

@@ -1,8 +1,8 @@
-use Rattle.std.proofs.Common.{◌++◌}
-use Rattle.markup.proofs.Changes.{added}
+use Rattle.page_messages.proofs.Common.{◌++◌, added}
 use Rattle.page_messages.proofs.Adding.{enclosed}
 use Rattle.page_messages.specs.Names.{message_head}
-use Rattle.page_messages.specs.Messages.{cells_of, number_cells, people_cells, releases_cell, row_attributes, state_cell}
+use Rattle.page_messages.specs.Messages.{cells_of, number_cells, people_cells, releases_cell, row_attributes}
+use Rattle.page_messages.specs.Messages.{state_cell}
 use Rattle.markup.specs.declared.tag.Tag.TheVariants as tag
 use Rattle.page_messages.proofs.messages.put_message_row.Goals as goal
 

@@ -1,8 +1,4 @@
-use Rattle.std.proofs.Common.{◌∙◌, List, subst}
-use Rattle.std.specs.List.{enumerate_from, flat_map}
-use Rattle.std.proofs.lemmas.List.{take_all}
-use Rattle.dbc_sheet.specs.declared.message.Message.{Message}
-use Rattle.markup.specs.Writing.{Becomes, adding}
+use Rattle.page_messages.proofs.Common.{◌∙◌, List, subst, enumerate_from, flat_map, take_all, Message, Becomes, adding}
 use Rattle.markup.proofs.Changes.{numbered_added}
 use Rattle.page_messages.specs.Messages.{message_row}
 use Rattle.page_messages.proofs.messages.put_message_rows.Goals as goal

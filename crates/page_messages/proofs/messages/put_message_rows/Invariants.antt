@@ -1,6 +1,4 @@
-use Rattle.std.proofs.Common.{take}
-use Rattle.std.specs.List.{enumerate_from, flat_map}
-use Rattle.markup.specs.Writing.{Becomes, adding}
+use Rattle.page_messages.proofs.Common.{take, enumerate_from, flat_map, Becomes, adding}
 use Rattle.page_messages.specs.Messages.{message_row}
 use Rattle.page_messages.proofs.messages.put_message_rows.Given as goal
 

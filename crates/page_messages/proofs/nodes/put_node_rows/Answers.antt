@@ -1,7 +1,5 @@
-use Rattle.std.proofs.Common.{ap, ◌∙◌}
-use Rattle.std.specs.Prelude.{ℕ, count_by}
-use Rattle.markup.specs.Writing.{adding}
-use Rattle.markup.proofs.Changes.{item_added}
+use Rattle.page_messages.proofs.Common.{ap, ◌∙◌, count_by, adding, item_added}
+use Rattle.std.specs.Prelude.{ℕ}
 use Rattle.office_views.specs.Sending.{sends}
 use Rattle.office_views.specs.Tally.{times}
 use Rattle.page_messages.specs.Nodes.{counts_row, node_row}

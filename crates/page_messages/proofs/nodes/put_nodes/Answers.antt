@@ -1,11 +1,8 @@
-use Rattle.std.proofs.Common.{◌≡◌, ◌==◌, ◌∙◌, Bool, true, false, List, None, ap, codes, cond, length, refl, subst, sym}
-use Rattle.dbc_sheet.specs.declared.message.Message.{Message}
+use Rattle.page_messages.proofs.Common.{◌≡◌, ◌==◌, ◌∙◌, Bool, true, false, List, None, ap, codes, cond, length, refl}
+use Rattle.page_messages.proofs.Common.{subst, sym, Message, Becomes, Writing, beginning, ending, next, with_part}
+use Rattle.page_messages.proofs.Common.{messages_of}
 use Rattle.dbc_sheet.specs.declared.node.Node.{Node}
-use Rattle.markup.specs.Writing.{Becomes, Writing, beginning, ending}
 use Rattle.markup.specs.declared.tag.Tag.TheVariants as tag
-use Rattle.markup.proofs.Changes.{next}
-use Rattle.page_parts.specs.Frames.{with_part}
-use Rattle.page_parts.specs.Subjects.{messages_of}
 use Rattle.page_messages.specs.Nodes.{is_large, with_matrix, with_matrix_in, with_node_table, with_nodes_in}
 use Rattle.page_messages.proofs.Choosing.{else_so, then_so}
 use Rattle.page_messages.proofs.nodes.put_nodes.Goals as goal

@@ -1,5 +1,4 @@
-use Rattle.std.proofs.Common.{map, take}
-use Rattle.markup.specs.Writing.{Becomes, adding}
+use Rattle.page_messages.proofs.Common.{map, take, Becomes, adding}
 use Rattle.page_messages.specs.Remarks.{later_names}
 use Rattle.page_messages.proofs.remarks.put_later_names.Given as goal
 

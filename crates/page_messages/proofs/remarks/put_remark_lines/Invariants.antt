@@ -1,6 +1,4 @@
-use Rattle.std.proofs.Common.{map, take}
-use Rattle.std.specs.List.{flat_map}
-use Rattle.markup.specs.Writing.{Becomes, adding}
+use Rattle.page_messages.proofs.Common.{map, take, flat_map, Becomes, adding}
 use Rattle.page_messages.specs.Remarks.{remark_line}
 use Rattle.page_messages.proofs.remarks.put_remark_lines.Given as goal
 

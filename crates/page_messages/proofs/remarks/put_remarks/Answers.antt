@@ -1,12 +1,10 @@
-use Rattle.std.proofs.Common.{◌++◌, ◌∙◌, ℕ, List, [], Some, Vec, Global, ap, codes, map, refl, sym, take}
-use Rattle.std.specs.Prelude.{vec_len}
-use Rattle.std.specs.List.{flat_map}
-use Rattle.markup.specs.Writing.{Becomes, Writing, adding, beginning, ending}
+use Rattle.page_messages.proofs.Common.{◌++◌, ◌∙◌, ℕ, List, [], Some, ap, codes, map, refl, sym, take, vec_len}
+use Rattle.page_messages.proofs.Common.{flat_map, Becomes, Writing, adding, beginning, ending, added, next, with_part}
+use Rattle.std.proofs.Common.{Vec, Global}
 use Rattle.markup.specs.declared.tag.Tag.TheVariants as tag
-use Rattle.markup.proofs.Changes.{added, next}
 use Rattle.page_parts.specs.Found.{clashes_of, found_nothing, passed_of}
-use Rattle.page_parts.specs.Frames.{with_part}
-use Rattle.page_messages.specs.Remarks.{clash_line, others_html, passed_html, remark_line, shown_remarks, with_remarks_in}
+use Rattle.page_messages.specs.Remarks.{clash_line, others_html, passed_html, remark_line, shown_remarks}
+use Rattle.page_messages.specs.Remarks.{with_remarks_in}
 use Rattle.page_messages.proofs.Adding.{added_as}
 use Rattle.page_messages.proofs.Choosing.{else_so}
 use Rattle.page_messages.proofs.remarks.put_remarks.Goals as goal

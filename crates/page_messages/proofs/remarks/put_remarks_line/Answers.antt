@@ -1,5 +1,4 @@
-use Rattle.std.proofs.Common.{◌≡◌, ◌==◌, ◌&&◌, ◌++◌, ◌∙◌, true, ap, codes, cond, sym}
-use Rattle.std.specs.Prelude.{vec_len}
+use Rattle.page_messages.proofs.Common.{◌≡◌, ◌==◌, ◌&&◌, ◌++◌, ◌∙◌, true, ap, codes, cond, sym, vec_len}
 use Rattle.page_messages.specs.Remarks.{remarks_line, remarks_link, unclear_html}
 use Rattle.page_messages.proofs.Adding.{added_as}
 use Rattle.page_messages.proofs.remarks.put_remarks_line.Goals as goal

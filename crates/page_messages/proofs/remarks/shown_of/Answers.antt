@@ -1,5 +1,4 @@
-use Rattle.std.proofs.Common.{arith, length, sym, ◌<◌}
-use Rattle.std.proofs.lemmas.List.{length-take-le, take_all}
+use Rattle.page_messages.proofs.Common.{arith, length, sym, ◌<◌, length-take-le, take_all}
 use Rattle.page_messages.proofs.remarks.shown_of.Goals as goal
 
 pub slice_bounds-result-end : goal.slice_bounds-result-end

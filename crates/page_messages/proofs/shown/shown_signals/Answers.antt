@@ -1,4 +1,4 @@
-use Rattle.std.proofs.Common.{Bool, ap, ◌∙◌}
+use Rattle.page_messages.proofs.Common.{Bool, ap, ◌∙◌}
 use Rattle.page_parts.specs.Marks.{has_changed}
 use Rattle.page_messages.specs.Signals.{Listed}
 use Rattle.page_messages.proofs.Listed.{listed_more}

@@ -1,4 +1,4 @@
-use Rattle.std.proofs.Common.{◌≡◌, map, take}
+use Rattle.page_messages.proofs.Common.{◌≡◌, map, take}
 use Rattle.page_messages.specs.Signals.{listed, listed_of}
 use Rattle.page_messages.proofs.shown.shown_signals.Given as goal
 

@@ -1,7 +1,4 @@
-use Rattle.std.proofs.Common.{◌++◌, codes, take}
-use Rattle.std.specs.List.{flat_map}
-use Rattle.markup.specs.Html.{escaped}
-use Rattle.markup.specs.Writing.{Becomes, adding}
+use Rattle.page_messages.proofs.Common.{◌++◌, codes, take, flat_map, escaped, Becomes, adding}
 use Rattle.page_messages.proofs.signals.put_names.Given as goal
 
 abbrev pub invariant-loop-name : goal.invariant-loop-name

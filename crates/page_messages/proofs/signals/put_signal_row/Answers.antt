@@ -1,4 +1,4 @@
-use Rattle.std.proofs.Common.{[]}
+use Rattle.page_messages.proofs.Common.{[]}
 use Rattle.markup.specs.declared.tag.Tag.TheVariants as tag
 use Rattle.page_messages.specs.Signals.{listed_of, signal_cells}
 use Rattle.page_messages.proofs.Adding.{enclosed}

@@ -1,10 +1,8 @@
-use Rattle.std.proofs.Common.{◌≡◌, ◌++◌, ◌∙◌, ℕ, List, [], ◌∷◌, Bor, ap, append_assoc, codes, map, refl, subst}
-use Rattle.std.specs.List.{flat_map}
-use Rattle.std.proofs.lemmas.List.{take_all}
-use Rattle.markup.specs.Html.{end_tag, escaped, start_tag, valued}
-use Rattle.markup.specs.Writing.{Becomes, Writing, adding, ending}
+use Rattle.page_messages.proofs.Common.{◌≡◌, ◌++◌, ◌∙◌, ℕ, List, [], ◌∷◌, Bor, ap, append_assoc, codes, map, refl}
+use Rattle.page_messages.proofs.Common.{subst, flat_map, take_all, end_tag, escaped, start_tag, Becomes, Writing}
+use Rattle.page_messages.proofs.Common.{adding, ending, item_added, next}
+use Rattle.markup.specs.Html.{valued}
 use Rattle.markup.specs.declared.tag.Tag.TheVariants as tag
-use Rattle.markup.proofs.Changes.{item_added, next}
 use Rattle.page_parts.specs.Frames.{heads_html, with_table}
 use Rattle.page_messages.specs.Signals.{Listed, listed_of, signal_heads, signal_row}
 use Rattle.page_messages.specs.declared.shown.Shown.{Shown}

@@ -1,5 +1,4 @@
-use Rattle.std.proofs.Common.{take}
-use Rattle.markup.specs.Writing.{Becomes, adding}
+use Rattle.page_messages.proofs.Common.{take, Becomes, adding}
 use Rattle.page_messages.specs.Tables.{later_values}
 use Rattle.page_messages.proofs.tables.put_later_values.Given as goal
 

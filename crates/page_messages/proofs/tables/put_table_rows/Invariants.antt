@@ -1,6 +1,4 @@
-use Rattle.std.proofs.Common.{take}
-use Rattle.std.specs.List.{flat_map}
-use Rattle.markup.specs.Writing.{Becomes, adding}
+use Rattle.page_messages.proofs.Common.{take, flat_map, Becomes, adding}
 use Rattle.page_messages.specs.Tables.{table_row}
 use Rattle.page_messages.proofs.tables.put_table_rows.Given as goal
 

@@ -1,4 +1,4 @@
-use Rattle.std.proofs.Common.{◌≡◌, get_or}
+use Rattle.page_messages.proofs.Common.{◌≡◌, get_or}
 use Rattle.page_messages.proofs.UsedRows.{position_more}
 use Rattle.page_messages.proofs.used.positions_of.Goals as goal
 

@@ -1,5 +1,4 @@
-use Rattle.std.proofs.Common.{ℕ, ◌<◌, ◌↔◌, IsTrue, take}
-use Rattle.bitlayout.specs.Mask.{Has, mask_end}
+use Rattle.page_messages.proofs.Common.{ℕ, ◌<◌, ◌↔◌, IsTrue, take, Has, mask_end}
 use Rattle.page_messages.specs.Used.{has_position}
 use Rattle.page_messages.proofs.used.positions_of.Given as goal
 

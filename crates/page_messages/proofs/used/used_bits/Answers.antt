@@ -1,6 +1,5 @@
-use Rattle.std.proofs.Common.{◌<◌, ◌∙◌, sym, arith}
+use Rattle.page_messages.proofs.Common.{◌<◌, ◌∙◌, sym, arith, mask_end}
 use Rattle.std.specs.Cmp.{both_ways}
-use Rattle.bitlayout.specs.Mask.{mask_end}
 use Rattle.page_messages.specs.Used.{has_position}
 use Rattle.page_messages.proofs.Counting.{counted_no, counted_yes}
 use Rattle.page_messages.proofs.used.used_bits.Goals as goal

@@ -1,5 +1,5 @@
-use Rattle.std.proofs.Common.{◌≡◌, ◌≤◌}
-use Rattle.std.specs.List.{count_by, range_with_len}
+use Rattle.page_messages.proofs.Common.{◌≡◌, ◌≤◌, range_with_len}
+use Rattle.std.specs.List.{count_by}
 use Rattle.page_messages.specs.Used.{has_position}
 use Rattle.page_messages.proofs.used.used_bits.Given as goal
 

@@ -1,6 +1,5 @@
-use Rattle.std.proofs.Common.{◌++◌, [], ◌∙◌, refl, sym, ap, append-nil, codes}
-use Rattle.std.proofs.lemmas.List.Concat.{flat_map-append}
-use Rattle.markup.specs.Html.{piece_html, words}
+use Rattle.page_numbers.proofs.Common.{◌++◌, [], ◌∙◌, refl, sym, ap, append-nil, codes, flat_map-append, piece_html}
+use Rattle.page_numbers.proofs.Common.{words}
 use Rattle.page_numbers.specs.CellHtml.{IsLater}
 use Rattle.page_numbers.specs.Index.{message_at}
 use Rattle.page_numbers.proofs.Closing.{joined}

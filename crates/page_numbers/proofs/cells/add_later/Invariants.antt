@@ -1,5 +1,4 @@
-use Rattle.std.proofs.Common.{◌≡◌, ◌++◌, ℕ, List, map, take}
-use Rattle.markup.specs.Html.{words}
+use Rattle.page_numbers.proofs.Common.{◌≡◌, ◌++◌, ℕ, List, map, take, words}
 use Rattle.page_numbers.specs.CellHtml.{IsLater}
 use Rattle.page_numbers.specs.Elements.{ArePieces}
 use Rattle.page_numbers.specs.Index.{message_at}

@@ -1,6 +1,4 @@
-use Rattle.std.proofs.Common.{◌++◌, ◌∙◌, ℕ, List, ap, codes}
-use Rattle.std.proofs.lemmas.List.Concat.{flat_map-append}
-use Rattle.markup.specs.Html.{escaped, piece_html, words}
+use Rattle.page_numbers.proofs.Common.{◌++◌, ◌∙◌, ℕ, List, ap, codes, flat_map-append, escaped, piece_html, words}
 use Rattle.page_numbers.proofs.cells.add_named.Goals as goal
 
 pub returns : goal.returns

@@ -1,5 +1,5 @@
-use Rattle.std.proofs.Common.{Bor, List, Option, [], ℕ, ap, sym, unwrap_or}
-use Rattle.std.specs.Option.{option_copied}
+use Rattle.page_numbers.proofs.Common.{List, Option, [], ℕ, ap, sym, option_copied}
+use Rattle.std.proofs.Common.{Bor, unwrap_or}
 use Rattle.page_numbers.specs.CellHtml.{held_cell}
 use Rattle.page_numbers.proofs.Closing.{instead}
 use Rattle.page_numbers.proofs.cells.put_held_of.Goals as goal

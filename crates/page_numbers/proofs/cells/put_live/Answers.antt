@@ -1,6 +1,4 @@
-use Rattle.std.proofs.Common.{◌≡◌, ◌++◌, [], append-nil, map, refl}
-use Rattle.markup.specs.Html.{words}
-use Rattle.markup.specs.Writing.{whole}
+use Rattle.page_numbers.proofs.Common.{◌≡◌, ◌++◌, [], append-nil, map, refl, words, whole}
 use Rattle.markup.specs.declared.tag.Tag.TheVariants as tag
 use Rattle.page_numbers.specs.CellHtml.{link_to, part_kind}
 use Rattle.page_numbers.specs.Elements.{around, classed}

@@ -1,8 +1,6 @@
-use Rattle.std.proofs.Common.{◌≡◌, ◌-◌, ◌++◌, ◌∙◌, List, ap, append_assoc, codes, decimal, length, map, subst, sym}
+use Rattle.page_numbers.proofs.Common.{◌≡◌, ◌-◌, ◌++◌, ◌∙◌, List, ap, append_assoc, codes, decimal, length, map, subst}
+use Rattle.page_numbers.proofs.Common.{sym, Message, flat_map-append, piece_html, words}
 use Rattle.std.proofs.lemmas.List.{length-map, take-map}
-use Rattle.dbc_sheet.specs.declared.message.Message.{Message}
-use Rattle.std.proofs.lemmas.List.Concat.{flat_map-append}
-use Rattle.markup.specs.Html.{piece_html, words}
 use Rattle.markup.specs.declared.attribute.Piece.{Piece}
 use Rattle.page_numbers.specs.CellHtml.{IsLater, more_words}
 use Rattle.page_numbers.specs.Elements.{ArePieces}

@@ -1,6 +1,4 @@
-use Rattle.std.proofs.Common.{◌++◌, take}
-use Rattle.std.specs.List.{flat_map}
-use Rattle.office_blocks.specs.Numbers.{HaveSame}
+use Rattle.page_numbers.proofs.Common.{◌++◌, take, flat_map, HaveSame}
 use Rattle.page_numbers.specs.Rows.{granted_rows}
 use Rattle.page_numbers.proofs.charts.add_blocks.Given as goal
 

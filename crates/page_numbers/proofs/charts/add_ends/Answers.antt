@@ -1,6 +1,4 @@
-use Rattle.std.proofs.Common.{◌∷◌, [], ◌++◌, ℕ, subst}
-use Rattle.std.proofs.lemmas.Result.{on_ok_weaker}
-use Rattle.office_blocks.specs.Numbers.{HaveSame}
+use Rattle.page_numbers.proofs.Common.{◌∷◌, [], ◌++◌, ℕ, subst, on_ok_weaker, HaveSame}
 use Rattle.page_numbers.specs.Charts.{row_of}
 use Rattle.page_numbers.specs.declared.charts.Chart.TheVariants.{Extended}
 use Rattle.page_numbers.proofs.SameRows.{same_more}

@@ -1,7 +1,5 @@
-use Rattle.std.proofs.Common.{◌≡◌, ◌++◌, ◌∙◌, [], true, false, ap, cond, sym}
-use Rattle.std.proofs.lemmas.Result.{on_ok_weaker}
-use Rattle.office_types.specs.Block.{same_form}
-use Rattle.office_types.specs.Free.{is_taken}
+use Rattle.page_numbers.proofs.Common.{◌≡◌, ◌++◌, ◌∙◌, [], true, false, ap, cond, sym, on_ok_weaker, same_form}
+use Rattle.page_numbers.proofs.Common.{is_taken}
 use Rattle.page_numbers.specs.Charts.{form_of}
 use Rattle.page_numbers.specs.Rows.{block_rows}
 use Rattle.page_numbers.proofs.SameRows.{same_kept}

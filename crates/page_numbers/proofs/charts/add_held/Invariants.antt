@@ -1,6 +1,4 @@
-use Rattle.std.proofs.Common.{◌++◌, take}
-use Rattle.std.specs.List.{flat_map}
-use Rattle.office_blocks.specs.Numbers.{HaveSame}
+use Rattle.page_numbers.proofs.Common.{◌++◌, take, flat_map, HaveSame}
 use Rattle.page_numbers.specs.Rows.{ident_row}
 use Rattle.page_numbers.proofs.charts.add_held.Given as goal
 

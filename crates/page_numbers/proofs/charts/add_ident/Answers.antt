@@ -1,7 +1,4 @@
-use Rattle.std.proofs.Common.{◌++◌, ◌∙◌, ap, sym}
-use Rattle.std.proofs.lemmas.Result.{on_ok_weaker}
-use Rattle.office_types.specs.Free.{is_taken}
-use Rattle.office_types.specs.declared.block.BlockForm.{BlockForm}
+use Rattle.page_numbers.proofs.Common.{◌++◌, ◌∙◌, ap, sym, on_ok_weaker, is_taken, BlockForm}
 use Rattle.page_numbers.specs.Index.{number_of}
 use Rattle.page_numbers.specs.Rows.{row_if}
 use Rattle.page_numbers.proofs.SameRows.{same_kept}

@@ -1,6 +1,4 @@
-use Rattle.std.proofs.Common.{◌≡◌, ◌-◌, ◌++◌, ℕ, arith, subst}
-use Rattle.std.specs.List.{flat_map, range_with_len}
-use Rattle.office_blocks.specs.Numbers.{HaveSame}
+use Rattle.page_numbers.proofs.Common.{◌≡◌, ◌-◌, ◌++◌, ℕ, arith, subst, flat_map, range_with_len, HaveSame}
 use Rattle.page_numbers.specs.Rows.{own_row}
 use Rattle.page_numbers.proofs.SameRows.{same_number}
 use Rattle.page_numbers.proofs.charts.add_numbers.Goals as goal

@@ -1,6 +1,4 @@
-use Rattle.std.proofs.Common.{◌≤◌, ◌++◌, ◌-◌}
-use Rattle.std.specs.List.{flat_map, range_with_len}
-use Rattle.office_blocks.specs.Numbers.{HaveSame}
+use Rattle.page_numbers.proofs.Common.{◌≤◌, ◌++◌, ◌-◌, flat_map, range_with_len, HaveSame}
 use Rattle.page_numbers.specs.Rows.{own_row}
 use Rattle.page_numbers.proofs.charts.add_numbers.Given as goal
 

@@ -1,6 +1,4 @@
-use Rattle.std.proofs.Common.{◌∷◌, [], ◌++◌, ◌∙◌, ap, cond, sym}
-use Rattle.std.proofs.lemmas.Result.{on_ok_weaker}
-use Rattle.office_types.specs.Free.{is_taken}
+use Rattle.page_numbers.proofs.Common.{◌∷◌, [], ◌++◌, ◌∙◌, ap, cond, sym, on_ok_weaker, is_taken}
 use Rattle.page_numbers.specs.Charts.{row_of}
 use Rattle.page_numbers.proofs.SameRows.{same_kept}
 use Rattle.page_numbers.proofs.charts.add_own.Goals as goal

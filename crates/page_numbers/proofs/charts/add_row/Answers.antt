@@ -1,4 +1,4 @@
-use Rattle.std.proofs.Common.{sym}
+use Rattle.page_numbers.proofs.Common.{sym}
 use Rattle.page_numbers.proofs.SameRows.{same_last}
 use Rattle.page_numbers.proofs.charts.add_row.Goals as goal
 

@@ -1,4 +1,4 @@
-use Rattle.std.proofs.Common.{◌∙◌, [], None, true, false, ap, codes, cond, sym}
+use Rattle.page_numbers.proofs.Common.{◌∙◌, [], None, true, false, ap, codes, cond, sym}
 use Rattle.page_numbers.specs.Elements.{part_html, wide_html}
 use Rattle.page_numbers.specs.Held.{held_html, held_table}
 use Rattle.page_numbers.proofs.Closing.{instead, part_closed, unchanged, wide_closed}

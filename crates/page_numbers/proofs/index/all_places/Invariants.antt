@@ -1,5 +1,4 @@
-use Rattle.std.proofs.Common.{◌≡◌, ◌≤◌, take}
-use Rattle.std.specs.List.{flat_map}
+use Rattle.page_numbers.proofs.Common.{◌≡◌, ◌≤◌, take, flat_map}
 use Rattle.page_numbers.specs.Index.{numbered}
 use Rattle.page_numbers.proofs.index.all_places.Given as goal
 

@@ -1,5 +1,4 @@
-use Rattle.std.proofs.Common.{ltb, rules}
-use Rattle.std.proofs.lemmas.List.Sorted.{IsPartitionPoint-from_clause, IsPartitionedBy-ltb}
+use Rattle.page_numbers.proofs.Common.{ltb, rules, IsPartitionPoint-from_clause, IsPartitionedBy-ltb}
 use Rattle.page_numbers.specs.Index.{number_at}
 use Rattle.page_numbers.proofs.index.count_below.Goals as goal
 

@@ -1,7 +1,4 @@
-use Rattle.std.proofs.Common.{◌∙◌, ap, not, ◌&&◌, ◌+◌}
-use Rattle.std.proofs.lemmas.List.Sums.{length-filter}
-use Rattle.office_types.specs.Free.{has_form, is_taken}
-use Rattle.office_blocks.specs.Blocks.{numbers_in}
+use Rattle.page_numbers.proofs.Common.{◌∙◌, ap, not, ◌&&◌, ◌+◌, length-filter, has_form, is_taken, numbers_in}
 use Rattle.page_numbers.specs.Tally.{held_in, live_in}
 use Rattle.page_numbers.proofs.Parts.{all}
 use Rattle.page_numbers.proofs.laws.counts_are_all.Goals as goal

@@ -1,6 +1,5 @@
-use Rattle.std.proofs.Common.{◌++◌, [], ap, codes}
+use Rattle.page_numbers.proofs.Common.{◌++◌, [], ap, codes, added}
 use Rattle.markup.specs.declared.tag.Tag.TheVariants as tag
-use Rattle.markup.proofs.Changes.{added}
 use Rattle.page_parts.specs.Letters.{class_in}
 use Rattle.page_parts.specs.declared.letters.Shade.TheVariants as shade
 use Rattle.page_numbers.specs.Elements.{around}

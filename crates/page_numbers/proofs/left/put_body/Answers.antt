@@ -1,7 +1,5 @@
-use Rattle.std.proofs.Common.{◌++◌, ◌∙◌, ap, codes, cond, sym}
-use Rattle.markup.specs.Html.{element_html}
+use Rattle.page_numbers.proofs.Common.{◌++◌, ◌∙◌, ap, codes, cond, sym, element_html, added}
 use Rattle.markup.specs.declared.tag.Tag.TheVariants as tag
-use Rattle.markup.proofs.Changes.{added}
 use Rattle.page_numbers.specs.Counts.{known_of}
 use Rattle.page_numbers.specs.Left.{blocks_html, left_body, no_block_html, teams_table}
 use Rattle.page_numbers.specs.declared.left.TheConstants.{NOTE}

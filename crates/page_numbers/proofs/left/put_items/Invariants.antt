@@ -1,6 +1,4 @@
-use Rattle.std.proofs.Common.{take}
-use Rattle.std.specs.List.{flat_map}
-use Rattle.markup.specs.Writing.{Becomes, adding}
+use Rattle.page_numbers.proofs.Common.{take, flat_map, Becomes, adding}
 use Rattle.page_numbers.specs.Left.{block_item}
 use Rattle.page_numbers.proofs.left.put_items.Given as goal
 

@@ -1,5 +1,4 @@
-use Rattle.std.proofs.Common.{take}
-use Rattle.markup.specs.Writing.{Becomes, adding}
+use Rattle.page_numbers.proofs.Common.{take, Becomes, adding}
 use Rattle.page_numbers.specs.Left.{later_html}
 use Rattle.page_numbers.proofs.left.put_later_runs.Given as goal
 

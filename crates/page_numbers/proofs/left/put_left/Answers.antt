@@ -1,4 +1,4 @@
-use Rattle.std.proofs.Common.{None, codes}
+use Rattle.page_numbers.proofs.Common.{None, codes}
 use Rattle.page_numbers.specs.Left.{left_body}
 use Rattle.page_numbers.proofs.Closing.{part_closed}
 use Rattle.page_numbers.proofs.left.put_left.Goals as goal

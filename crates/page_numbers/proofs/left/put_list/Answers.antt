@@ -1,5 +1,4 @@
-use Rattle.std.proofs.Common.{codes}
-use Rattle.std.specs.List.{flat_map}
+use Rattle.page_numbers.proofs.Common.{codes, flat_map}
 use Rattle.markup.specs.declared.tag.Tag.TheVariants as tag
 use Rattle.page_numbers.specs.Left.{block_item}
 use Rattle.page_numbers.proofs.Closing.{closed}

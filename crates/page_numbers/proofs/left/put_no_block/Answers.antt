@@ -1,7 +1,5 @@
-use Rattle.std.proofs.Common.{◌++◌, [], codes}
-use Rattle.markup.specs.Html.{escaped}
+use Rattle.page_numbers.proofs.Common.{◌++◌, [], codes, escaped, added}
 use Rattle.markup.specs.declared.tag.Tag.TheVariants as tag
-use Rattle.markup.proofs.Changes.{added}
 use Rattle.page_parts.specs.Words.{quiet}
 use Rattle.page_numbers.specs.Elements.{around}
 use Rattle.page_numbers.proofs.Closing.{closed}

@@ -1,7 +1,5 @@
-use Rattle.std.proofs.Common.{◌++◌, ◌∙◌, [], ap}
-use Rattle.markup.specs.Html.{element_html}
+use Rattle.page_numbers.proofs.Common.{◌++◌, ◌∙◌, [], ap, element_html, added}
 use Rattle.markup.specs.declared.tag.Tag.TheVariants as tag
-use Rattle.markup.proofs.Changes.{added}
 use Rattle.page_parts.specs.Letters.{badge}
 use Rattle.page_parts.specs.Words.{cell, number_cell}
 use Rattle.page_numbers.specs.Counts.{counts_of, granted, short}

@@ -1,7 +1,4 @@
-use Rattle.std.proofs.Common.{map, take}
-use Rattle.std.specs.List.{flat_map}
-use Rattle.markup.specs.Writing.{Becomes, adding}
-use Rattle.page_parts.specs.Subjects.{names_of}
+use Rattle.page_numbers.proofs.Common.{map, take, flat_map, Becomes, adding, names_of}
 use Rattle.page_numbers.specs.Counts.{known_in}
 use Rattle.page_numbers.specs.Left.{team_rows}
 use Rattle.page_numbers.proofs.left.put_rows.Given as goal

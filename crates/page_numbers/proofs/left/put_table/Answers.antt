@@ -1,6 +1,4 @@
-use Rattle.std.proofs.Common.{codes, ap}
-use Rattle.std.specs.List.{flat_map}
-use Rattle.page_parts.specs.Subjects.{names_of}
+use Rattle.page_numbers.proofs.Common.{codes, ap, flat_map, names_of}
 use Rattle.page_numbers.specs.Counts.{known_in}
 use Rattle.page_numbers.specs.Elements.{table_html}
 use Rattle.page_numbers.specs.Left.{all_rows, heads, team_rows}

@@ -1,6 +1,4 @@
-use Rattle.std.proofs.Common.{◌∙◌, ℕ, List, ap, codes}
-use Rattle.std.proofs.lemmas.Result.{on_ok_weaker}
-use Rattle.markup.specs.Writing.{adding}
+use Rattle.page_numbers.proofs.Common.{◌∙◌, ℕ, List, ap, codes, on_ok_weaker, adding}
 use Rattle.page_numbers.specs.Elements.{table_html, wide_html}
 use Rattle.page_numbers.specs.Left.{heads}
 use Rattle.page_numbers.proofs.Alike.{rows_same}

@@ -1,6 +1,4 @@
-use Rattle.std.proofs.Common.{◌≡◌, ◌≤◌, ℕ, arith, map, subst}
-use Rattle.std.specs.List.{range_with_len}
-use Rattle.office_seen.specs.Owners.{team_at}
+use Rattle.page_numbers.proofs.Common.{◌≡◌, ◌≤◌, ℕ, arith, map, subst, range_with_len, team_at}
 use Rattle.page_numbers.specs.Charts.{number_in}
 use Rattle.page_numbers.specs.Elements.{ArePieces, IsMoreBy}
 use Rattle.page_numbers.specs.Map.{IsCellAt, facts_in}

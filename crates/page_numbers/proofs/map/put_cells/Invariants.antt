@@ -1,5 +1,4 @@
-use Rattle.std.proofs.Common.{map}
-use Rattle.std.specs.List.{range_with_len}
+use Rattle.page_numbers.proofs.Common.{map, range_with_len}
 use Rattle.page_numbers.specs.Charts.{number_in}
 use Rattle.page_numbers.specs.Elements.{ArePieces, IsMoreBy}
 use Rattle.page_numbers.specs.Map.{IsCellAt, facts_in}

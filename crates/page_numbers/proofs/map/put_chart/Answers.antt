@@ -1,11 +1,7 @@
-use Rattle.std.proofs.Common.{◌≡◌, ◌∙◌, List, [], true, false, cond, refl, sym, ap, subst, arith}
+use Rattle.page_numbers.proofs.Common.{◌≡◌, ◌∙◌, List, [], true, false, cond, refl, sym, ap, subst, arith, on_ok_weaker}
+use Rattle.page_numbers.proofs.Common.{HaveSame, is_taken, BlockForm, GrantedBlock, names_of}
 use Rattle.std.specs.List.{filter_map}
-use Rattle.std.proofs.lemmas.Result.{on_ok_weaker}
-use Rattle.office_blocks.specs.Numbers.{HaveSame}
-use Rattle.office_types.specs.Free.{is_taken}
-use Rattle.office_types.specs.declared.block.BlockForm.{BlockForm}
-use Rattle.office_types.specs.declared.state.GrantedBlock.{GrantedBlock}
-use Rattle.page_parts.specs.Subjects.{messages_of, names_of}
+use Rattle.page_parts.specs.Subjects.{messages_of}
 use Rattle.page_numbers.specs.Charts.{form_of, is_shown}
 use Rattle.page_numbers.specs.Index.{Indexed, number_of}
 use Rattle.page_numbers.specs.Map.{Facts, IsTable, facts_of}

@@ -1,9 +1,8 @@
-use Rattle.std.proofs.Common.{get_or}
+use Rattle.page_numbers.proofs.Common.{get_or, get_or_default}
 use Rattle.page_numbers.specs.Charts.{charts}
 use Rattle.page_numbers.specs.Map.{IsChart}
 use Rattle.page_numbers.specs.declared.charts.Chart.TheVariants.{Standard}
 use Rattle.page_numbers.proofs.Pieces.{nothing_put, piece_put}
-use Rattle.std.proofs.lemmas.List.{get_or_default}
 use Rattle.page_numbers.proofs.map.put_charts.Goals as goal
 
 pub loop-chart-init : goal.loop-chart-init

@@ -1,4 +1,4 @@
-use Rattle.std.proofs.Common.{take}
+use Rattle.page_numbers.proofs.Common.{take}
 use Rattle.page_numbers.specs.Charts.{charts}
 use Rattle.page_numbers.specs.Elements.{ArePieces, IsMoreBy}
 use Rattle.page_numbers.specs.Map.{IsChart}

@@ -1,6 +1,5 @@
-use Rattle.std.proofs.Common.{◌++◌, [], refl}
+use Rattle.page_numbers.proofs.Common.{◌++◌, [], refl, added}
 use Rattle.markup.specs.declared.tag.Tag.TheVariants as tag
-use Rattle.markup.proofs.Changes.{added}
 use Rattle.page_numbers.specs.Elements.{around}
 use Rattle.page_numbers.specs.Map.{row_head}
 use Rattle.page_numbers.proofs.Closing.{closed}

@@ -1,7 +1,6 @@
-use Rattle.std.proofs.Common.{get_or}
+use Rattle.page_numbers.proofs.Common.{get_or, get_or_default}
 use Rattle.page_numbers.specs.Map.{IsRow, facts_in}
 use Rattle.page_numbers.proofs.Pieces.{nothing_put, piece_put}
-use Rattle.std.proofs.lemmas.List.{get_or_default}
 use Rattle.page_numbers.proofs.map.put_rows.Goals as goal
 
 pub loop-row-init : goal.loop-row-init

@@ -1,4 +1,4 @@
-use Rattle.std.proofs.Common.{take}
+use Rattle.page_numbers.proofs.Common.{take}
 use Rattle.page_numbers.specs.Elements.{ArePieces, IsMoreBy}
 use Rattle.page_numbers.specs.Map.{IsRow, facts_in}
 use Rattle.page_numbers.proofs.map.put_rows.Given as goal

@@ -1,7 +1,5 @@
-use Rattle.std.proofs.Common.{◌++◌, [], codes, refl}
-use Rattle.markup.specs.Writing.{whole}
+use Rattle.page_numbers.proofs.Common.{◌++◌, [], codes, refl, whole, added}
 use Rattle.markup.specs.declared.tag.Tag.TheVariants as tag
-use Rattle.markup.proofs.Changes.{added}
 use Rattle.page_numbers.specs.Elements.{around}
 use Rattle.page_numbers.proofs.Closing.{closed}
 use Rattle.page_numbers.proofs.map.put_table.Goals as goal

@@ -1,8 +1,6 @@
-use Rattle.std.proofs.Common.{◌≡◌, ◌+◌, ◌++◌, ◌∷◌, [], ◌∙◌, ℕ, List, length, refl, sym, ap, append-nil, append_assoc, take}
-use Rattle.std.proofs.Common.{arith, drop}
-use Rattle.std.specs.List.{flat_map}
+use Rattle.page_numbers.proofs.Common.{◌≡◌, ◌+◌, ◌++◌, ◌∷◌, [], ◌∙◌, ℕ, List, length, refl, sym, ap, append-nil}
+use Rattle.page_numbers.proofs.Common.{append_assoc, take, arith, drop, flat_map, flat_map-append}
 use Rattle.std.proofs.lemmas.List.{take-append-drop}
-use Rattle.std.proofs.lemmas.List.Concat.{flat_map-append}
 use Rattle.page_numbers.specs.Map.{IsTable, facts_in}
 use Rattle.page_numbers.proofs.Pieces.{last_put, nothing_put}
 use Rattle.page_numbers.proofs.map.put_tables.Goals as goal

@@ -1,5 +1,4 @@
-use Rattle.std.proofs.Common.{◌≡◌, ◌++◌, ℕ, List, length}
-use Rattle.std.specs.List.{flat_map}
+use Rattle.page_numbers.proofs.Common.{◌≡◌, ◌++◌, ℕ, List, length, flat_map}
 use Rattle.page_numbers.specs.Elements.{ArePieces, IsMoreBy}
 use Rattle.page_numbers.specs.Map.{IsTable, facts_in}
 use Rattle.page_numbers.proofs.map.put_tables.Given as goal

@@ -1,8 +1,5 @@
-use Rattle.std.proofs.Common.{◌++◌, ◌∙◌, ap, codes, refl}
-use Rattle.page_parts.specs.Frames.{with_part}
-use Rattle.markup.specs.Writing.{whole}
+use Rattle.page_numbers.proofs.Common.{◌++◌, ◌∙◌, ap, codes, refl, with_part, whole, added}
 use Rattle.markup.specs.declared.tag.Tag.TheVariants as tag
-use Rattle.markup.proofs.Changes.{added}
 use Rattle.page_numbers.specs.Elements.{around, part_html}
 use Rattle.page_numbers.specs.Map.{whose}
 use Rattle.page_numbers.proofs.Closing.{closed, part_closed}

@@ -1,4 +1,4 @@
-use Rattle.std.proofs.Common.{arith}
+use Rattle.page_numbers.proofs.Common.{arith}
 use Rattle.std.proofs.lemmas.List.Sorted.{IsNonDecreasingBy-from_all_adjacent}
 use Rattle.page_numbers.specs.Ordered.{high, low}
 use Rattle.page_numbers.proofs.near.are_ordered.Goals as goal

@@ -1,6 +1,5 @@
-use Rattle.std.proofs.Common.{◌≤◌}
+use Rattle.page_numbers.proofs.Common.{◌≤◌, GrantedBlock}
 use Rattle.std.specs.List.{AllAdjacentBelow}
-use Rattle.office_types.specs.declared.state.GrantedBlock.{GrantedBlock}
 use Rattle.page_numbers.specs.Ordered.{high, low}
 use Rattle.page_numbers.proofs.near.are_ordered.Given as goal
 

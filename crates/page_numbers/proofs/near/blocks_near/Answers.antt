@@ -1,10 +1,8 @@
-use Rattle.std.proofs.Common.{◌≡◌, ◌-◌, ◌∙◌, true, List, length, take, drop, ap, sym, subst}
+use Rattle.page_numbers.proofs.Common.{◌≡◌, ◌-◌, ◌∙◌, true, List, length, take, drop, ap, sym, subst, find}
+use Rattle.page_numbers.proofs.Common.{has_number_in, GrantedBlock}
 use Rattle.std.specs.Prelude.{option_map}
-use Rattle.std.specs.List.{find}
 use Rattle.std.proofs.lemmas.List.{take_rest}
 use Rattle.std.proofs.lemmas.List.Sorted.{IsNonDecreasingBy-drop}
-use Rattle.office_seen.specs.Granted.{has_number_in}
-use Rattle.office_types.specs.declared.state.GrantedBlock.{GrantedBlock}
 use Rattle.page_numbers.specs.Charts.{is_near}
 use Rattle.page_numbers.specs.Ordered.{AreOrdered, high, low}
 use Rattle.page_numbers.proofs.Nearby.{after, before, near}

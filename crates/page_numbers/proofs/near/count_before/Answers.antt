@@ -1,6 +1,6 @@
-use Rattle.std.proofs.Common.{◌<◌, ℕ, arith, get_or, ltb, rules, subst}
+use Rattle.page_numbers.proofs.Common.{◌<◌, ℕ, arith, get_or, ltb, rules, subst, IsPartitionPoint-from_clause}
+use Rattle.page_numbers.proofs.Common.{IsPartitionedBy-ltb}
 use Rattle.std.proofs.lemmas.Bool.{ltb-true}
-use Rattle.std.proofs.lemmas.List.Sorted.{IsPartitionPoint-from_clause, IsPartitionedBy-ltb}
 use Rattle.page_numbers.specs.Charts.{is_near}
 use Rattle.page_numbers.specs.Ordered.{high}
 use Rattle.page_numbers.proofs.Nearby.{ends_before, none_before}

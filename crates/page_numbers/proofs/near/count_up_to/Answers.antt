@@ -1,6 +1,6 @@
-use Rattle.std.proofs.Common.{◌<◌, ℕ, get_or, leb, rules, subst}
+use Rattle.page_numbers.proofs.Common.{◌<◌, ℕ, get_or, leb, rules, subst, IsPartitionPoint-from_clause}
 use Rattle.std.proofs.lemmas.Bool.{leb-false}
-use Rattle.std.proofs.lemmas.List.Sorted.{IsPartitionPoint-from_clause, IsPartitionedBy-leb}
+use Rattle.std.proofs.lemmas.List.Sorted.{IsPartitionedBy-leb}
 use Rattle.page_numbers.specs.Charts.{is_near}
 use Rattle.page_numbers.specs.Ordered.{low}
 use Rattle.page_numbers.proofs.Nearby.{begins_after, none_after}

@@ -1,5 +1,4 @@
-use Rattle.std.proofs.Common.{◌≡◌, ◌++◌, map, take}
-use Rattle.std.specs.List.{flat_map}
+use Rattle.page_numbers.proofs.Common.{◌≡◌, ◌++◌, map, take, flat_map}
 use Rattle.page_numbers.specs.Spns.{first_in, said_of}
 use Rattle.page_numbers.proofs.spns.add_firsts.Given as goal
 

@@ -1,4 +1,4 @@
-use Rattle.std.proofs.Common.{◌≡◌, ◌++◌, map, take}
+use Rattle.page_numbers.proofs.Common.{◌≡◌, ◌++◌, map, take}
 use Rattle.page_numbers.specs.Spns.{gone, said_of}
 use Rattle.page_numbers.proofs.spns.add_gone.Given as goal
 

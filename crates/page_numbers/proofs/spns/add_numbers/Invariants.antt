@@ -1,5 +1,4 @@
-use Rattle.std.proofs.Common.{◌≡◌, ◌++◌, map, take}
-use Rattle.std.specs.List.{flat_map}
+use Rattle.page_numbers.proofs.Common.{◌≡◌, ◌++◌, map, take, flat_map}
 use Rattle.page_numbers.specs.Spns.{rows_at, said_of}
 use Rattle.page_numbers.proofs.spns.add_numbers.Given as goal
 

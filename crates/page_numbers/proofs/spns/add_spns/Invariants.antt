@@ -1,5 +1,4 @@
-use Rattle.std.proofs.Common.{◌≡◌, ◌++◌, not, map, take}
-use Rattle.std.specs.Prelude.{◌==◌}
+use Rattle.page_numbers.proofs.Common.{◌≡◌, ◌++◌, not, map, take, ◌==◌}
 use Rattle.std.specs.List.{filter}
 use Rattle.page_numbers.proofs.spns.add_spns.Given as goal
 

@@ -1,6 +1,4 @@
-use Rattle.std.proofs.Common.{◌++◌, ap, codes, decimal}
-use Rattle.markup.specs.Html.{escaped}
-use Rattle.markup.proofs.Changes.{added}
+use Rattle.page_numbers.proofs.Common.{◌++◌, ap, codes, decimal, escaped, added}
 use Rattle.page_numbers.proofs.Closing.{instead}
 use Rattle.page_numbers.proofs.spns.put_gone_place.Goals as goal
 

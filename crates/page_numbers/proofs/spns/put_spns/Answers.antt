@@ -1,5 +1,5 @@
-use Rattle.std.proofs.Common.{◌≡◌, ◌∙◌, [], None, ap, codes, cond, length, nat_le, sym}
-use Rattle.page_parts.specs.Frames.{with_fold}
+use Rattle.page_numbers.proofs.Common.{◌≡◌, ◌∙◌, [], None, ap, codes, cond, length, sym, with_fold}
+use Rattle.std.proofs.Common.{nat_le}
 use Rattle.page_numbers.specs.Elements.{fold_html, part_html}
 use Rattle.page_numbers.specs.Spns.{list_html, spns_html, summary_html}
 use Rattle.page_numbers.proofs.Closing.{fold_closed, instead, part_closed, unchanged}

@@ -1,5 +1,5 @@
-use Rattle.std.proofs.Common.{◌-◌, ◌++◌, ◌∙◌, ap, codes, count_by, decimal, length}
-use Rattle.markup.proofs.Changes.{added}
+use Rattle.page_numbers.proofs.Common.{◌-◌, ◌++◌, ◌∙◌, ap, codes, decimal, length, added}
+use Rattle.std.proofs.Common.{count_by}
 use Rattle.page_parts.specs.Words.{counted}
 use Rattle.page_numbers.specs.Spns.{is_live_row}
 use Rattle.page_numbers.proofs.Closing.{instead}

@@ -1,4 +1,4 @@
-use Rattle.std.proofs.Common.{codes}
+use Rattle.page_numbers.proofs.Common.{codes}
 use Rattle.markup.specs.declared.tag.Tag.TheVariants as tag
 use Rattle.page_numbers.proofs.Closing.{closed}
 use Rattle.page_numbers.proofs.spns.put_where.Goals as goal

@@ -1,5 +1,4 @@
-use Rattle.std.proofs.Common.{◌≡◌, take}
-use Rattle.std.specs.List.{flat_map}
+use Rattle.page_numbers.proofs.Common.{◌≡◌, take, flat_map}
 use Rattle.office_blocks.specs.Blocks.{spns_of}
 use Rattle.page_numbers.proofs.spns.spns_in.Given as goal
 

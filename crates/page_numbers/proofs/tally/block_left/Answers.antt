@@ -1,4 +1,4 @@
-use Rattle.std.proofs.Common.{◌∙◌, sym}
+use Rattle.page_numbers.proofs.Common.{◌∙◌, sym}
 use Rattle.page_numbers.proofs.InBlocks.{one_form}
 use Rattle.page_numbers.proofs.tally.block_left.Goals as goal
 

@@ -1,5 +1,4 @@
-use Rattle.std.proofs.Common.{◌≡◌, ◌≤◌, take}
-use Rattle.std.specs.List.{count_by}
+use Rattle.page_numbers.proofs.Common.{◌≡◌, ◌≤◌, take, count_by}
 use Rattle.page_numbers.specs.Tally.{is_beside}
 use Rattle.page_numbers.proofs.tally.count_beside.Given as goal
 

@@ -1,6 +1,4 @@
-use Rattle.std.proofs.Common.{◌≡◌, ◌≤◌, take}
-use Rattle.std.specs.List.{count_by}
-use Rattle.office_types.specs.Free.{has_form}
+use Rattle.page_numbers.proofs.Common.{◌≡◌, ◌≤◌, take, count_by, has_form}
 use Rattle.page_numbers.proofs.tally.count_formed.Given as goal
 
 abbrev pub invariant-loop-number : goal.invariant-loop-number

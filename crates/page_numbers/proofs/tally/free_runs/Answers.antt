@@ -1,4 +1,4 @@
-use Rattle.std.proofs.Common.{◌∙◌, sym}
+use Rattle.page_numbers.proofs.Common.{◌∙◌, sym}
 use Rattle.page_numbers.specs.Tally.{is_of, runs_at}
 use Rattle.page_numbers.proofs.InBlocks.{formed}
 use Rattle.page_numbers.proofs.Totals.{list_kept, list_passed}

@@ -1,5 +1,4 @@
-use Rattle.std.proofs.Common.{◌≡◌, filter, take}
-use Rattle.std.specs.List.{flat_map}
+use Rattle.page_numbers.proofs.Common.{◌≡◌, filter, take, flat_map}
 use Rattle.page_numbers.specs.Tally.{is_of, runs_at}
 use Rattle.page_numbers.proofs.tally.free_runs.Given as goal
 

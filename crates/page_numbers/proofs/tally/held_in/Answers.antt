@@ -1,4 +1,4 @@
-use Rattle.std.proofs.Common.{◌∙◌}
+use Rattle.page_numbers.proofs.Common.{◌∙◌}
 use Rattle.page_numbers.specs.Tally.{is_beside}
 use Rattle.page_numbers.proofs.InBlocks.{counted_in}
 use Rattle.page_numbers.proofs.tally.held_in.Goals as goal

@@ -1,4 +1,4 @@
-use Rattle.std.proofs.Common.{◌∙◌, sym, arith}
+use Rattle.page_numbers.proofs.Common.{◌∙◌, sym, arith}
 use Rattle.page_numbers.specs.Tally.{is_of, held_at}
 use Rattle.page_numbers.proofs.InBlocks.{held_few}
 use Rattle.page_numbers.proofs.Totals.{sum_kept, sum_passed}

@@ -1,4 +1,4 @@
-use Rattle.std.proofs.Common.{◌≡◌, ◌≤◌, ◌*◌, ◌^◌, filter, map, sum, take}
+use Rattle.page_numbers.proofs.Common.{◌≡◌, ◌≤◌, ◌*◌, ◌^◌, filter, map, sum, take}
 use Rattle.page_numbers.specs.Tally.{is_of, held_at}
 use Rattle.page_numbers.proofs.tally.held_total.Given as goal
 

@@ -1,5 +1,4 @@
-use Rattle.std.proofs.Common.{◌∙◌}
-use Rattle.office_types.specs.Free.{has_form}
+use Rattle.page_numbers.proofs.Common.{◌∙◌, has_form}
 use Rattle.page_numbers.proofs.InBlocks.{counted_in}
 use Rattle.page_numbers.proofs.tally.live_in.Goals as goal
 

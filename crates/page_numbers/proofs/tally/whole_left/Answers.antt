@@ -1,4 +1,4 @@
-use Rattle.std.proofs.Common.{◌∙◌}
+use Rattle.page_numbers.proofs.Common.{◌∙◌}
 use Rattle.page_numbers.proofs.InBlocks.{whole_count, whole_runs}
 use Rattle.page_numbers.proofs.tally.whole_left.Goals as goal
 

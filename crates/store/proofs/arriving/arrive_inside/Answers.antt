@@ -1,11 +1,6 @@
-use Rattle.std.proofs.Common.{◌∷◌, ◌++◌, [], ap, refl, sym, subst, ◌∙◌}
-use Rattle.std.specs.Prelude.{IsTrue}
-use Rattle.sqlite.specs.Effect.{Database}
-use Rattle.sqlite.specs.Held.{state}
-use Rattle.store_tables.specs.Statements.{statistics_of}
-use Rattle.store_tables.specs.Tables.{IsOffice, tables_of}
-use Rattle.office_history.specs.History.{answer_again, first_of}
-use Rattle.office_history.specs.Answering.{answered}
+use Rattle.store.proofs.Common.{◌∷◌, ◌++◌, [], ap, refl, sym, subst, ◌∙◌, IsTrue, Database, state, statistics_of}
+use Rattle.store.proofs.Common.{IsOffice, tables_of, first_of, answered}
+use Rattle.office_history.specs.History.{answer_again}
 use Rattle.store.specs.Holds.{Holds}
 use Rattle.store.proofs.OneArrival.{again_holds, some_of}
 use Rattle.store.proofs.arriving.arrive_inside.Goals as goal

@@ -1,24 +1,9 @@
-use Rattle.std.proofs.Common.{◌≡◌, ◌++◌, ◌∷◌, [], List, Option, ℕ, refl, sym, ap, subst, ◌∙◌, arith}
-use Rattle.std.specs.Prelude.{IsTrue}
-use Rattle.sqlite.specs.Effect.{Database}
-use Rattle.sqlite.specs.Held.{state}
-use Rattle.sqlite.specs.State.{HasCleanDisk}
+use Rattle.store.proofs.Common.{◌≡◌, ◌++◌, ◌∷◌, [], List, Option, ℕ, refl, sym, ap, subst, ◌∙◌, arith, IsTrue, Database}
+use Rattle.store.proofs.Common.{state, HasCleanDisk, reply_parts, SpnBook, Change, Net, HaveOwnBlocks, IsHeadFirst}
+use Rattle.store.proofs.Common.{all_applied, net_named, statistics_of, IsOffice, Tables, tables_of, kept_row, part_rows}
+use Rattle.store.proofs.Common.{Follows, IsNetAt, IsNext, nothing_left, answered}
 use Rattle.sqlite.proofs.InsideLemmas.{keeps_then}
-use Rattle.office_types.specs.Reply.{reply_parts}
-use Rattle.office_types.specs.declared.book.SpnBook.{SpnBook}
-use Rattle.office_types.specs.declared.change.Change.{Change}
-use Rattle.office_types.specs.declared.state.Net.{Net}
-use Rattle.office_rules.specs.Change.{HaveOwnBlocks, IsHeadFirst, all_applied}
-use Rattle.office_rules.specs.Step.{net_named}
-use Rattle.store_tables.specs.Statements.{statistics_of}
-use Rattle.store_tables.specs.Tables.{IsOffice, Tables, tables_of}
 use Rattle.office_history.specs.declared.arrival.Answer.TheVariants as answer
-use Rattle.store_changes.specs.Kept.{kept_row, part_rows}
-use Rattle.store_rows.specs.Follows.{Follows}
-use Rattle.store_rows.specs.NetIn.{IsNetAt}
-use Rattle.store_changes.specs.Writing.{IsNext}
-use Rattle.store_rows.proofs.Frames.{nothing_left}
-use Rattle.office_history.specs.Answering.{answered}
 use Rattle.store.proofs.OneArrival.{AreFollowed, before_of, first_holds, net_of_office}
 use Rattle.store.proofs.arriving.first_arrival.Goals as goal
 

@@ -1,13 +1,5 @@
-use Rattle.std.proofs.Common.{◌≡◌, ◌⊎◌, ◌++◌, ◌∷◌, [], not, sym, ap, subst, ◌∙◌, arith, rules}
-use Rattle.sqlite.specs.Effect.{Database}
-use Rattle.sqlite.specs.Held.{state}
-use Rattle.sqlite.specs.State.{HasCleanDisk}
-use Rattle.sqlite.specs.Tree.{Trees}
-use Rattle.sqlite.proofs.Callers.{survives_begin}
-use Rattle.store_tables.specs.Statements.{statistics_of}
-use Rattle.store_tables.specs.Tables.{IsOffice}
-use Rattle.office_history.specs.declared.arrival.Answer.{Answer}
-use Rattle.office_history.specs.Answering.{answered}
+use Rattle.store.proofs.Common.{◌≡◌, ◌⊎◌, ◌++◌, ◌∷◌, [], not, sym, ap, subst, ◌∙◌, arith, rules, Database, state}
+use Rattle.store.proofs.Common.{HasCleanDisk, Trees, survives_begin, statistics_of, IsOffice, Answer, answered}
 use Rattle.store.specs.Calls.{LeavesStatistics}
 use Rattle.store.specs.Holding.{Keeps, Leaves}
 use Rattle.store.specs.Opening.{HasTables}

@@ -1,13 +1,7 @@
-use Rattle.std.proofs.Common.{◌≡◌, ◌∙◌, Option, ap, sym, subst, arith}
-use Rattle.sqlite.specs.Effect.{Database}
-use Rattle.sqlite.specs.Held.{state}
-use Rattle.sqlite.specs.State.{HasCleanDisk}
-use Rattle.office_rules.specs.Change.{IsDecision}
-use Rattle.store_tables.specs.Tables.{IsOffice, tables_of}
+use Rattle.store.proofs.Common.{◌≡◌, ◌∙◌, Option, ap, sym, subst, arith, Database, state, HasCleanDisk, IsDecision}
+use Rattle.store.proofs.Common.{IsOffice, tables_of, next_number, IsBookIn}
 use Rattle.office_types.specs.declared.book.SpnBook.{SpnBook as Book}
 use Rattle.office_types.specs.declared.state.Net.{Net as Network}
-use Rattle.store_changes.specs.Writing.{next_number}
-use Rattle.store_rows.specs.Rows.{IsBookIn}
 use Rattle.store.proofs.CountedReleases.{net_counted}
 use Rattle.store.proofs.deciding.decide_by_count.Goals as goal
 

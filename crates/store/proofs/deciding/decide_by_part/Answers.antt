@@ -1,11 +1,6 @@
-use Rattle.std.proofs.Common.{◌≡◌, ◌∙◌, ap, sym, subst, arith}
-use Rattle.std.proofs.lemmas.Bool.{false≢true}
-use Rattle.sqlite.specs.Effect.{Database}
-use Rattle.sqlite.specs.Held.{state}
-use Rattle.sqlite.specs.State.{HasCleanDisk}
-use Rattle.office_facts.specs.Scope.{reads_part, is_part}
-use Rattle.store_tables.specs.Tables.{IsOffice, tables_of}
-use Rattle.store_rows.specs.Rows.{IsBookIn}
+use Rattle.store.proofs.Common.{◌≡◌, ◌∙◌, ap, sym, subst, arith, false≢true, Database, state, HasCleanDisk, reads_part}
+use Rattle.store.proofs.Common.{IsOffice, tables_of, IsBookIn}
+use Rattle.office_facts.specs.Scope.{is_part}
 use Rattle.store.proofs.DecidedOnPart.{absent_decided, excerpt_decided, fits_task}
 use Rattle.store.proofs.deciding.decide_by_part.Goals as goal
 

@@ -1,4 +1,4 @@
-use Rattle.std.proofs.lemmas.Result.{IfOk-weaker}
+use Rattle.store.proofs.Common.{IfOk-weaker}
 use Rattle.store.proofs.DecidedOnPart.{next_unwanted}
 use Rattle.store.proofs.deciding.decide_on_tables.Goals as goal
 

@@ -1,8 +1,4 @@
-use Rattle.std.proofs.Common.{refl, subst, arith}
-use Rattle.std.specs.Prelude.{IsTrue}
-use Rattle.sqlite.specs.Effect.{Database}
-use Rattle.sqlite.specs.Held.{state}
-use Rattle.sqlite.specs.State.{HasCleanDisk}
+use Rattle.store.proofs.Common.{refl, subst, arith, IsTrue, Database, state, HasCleanDisk}
 use Rattle.store.specs.Holding.{Keeps}
 use Rattle.store.specs.Looking.{IsShown, bytes_of}
 use Rattle.store.proofs.looking.look_alone.Goals as goal

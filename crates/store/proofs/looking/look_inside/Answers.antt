@@ -1,6 +1,5 @@
-use Rattle.std.proofs.Common.{Some, ap, subst, sym}
+use Rattle.store.proofs.Common.{Some, ap, subst, sym, Look}
 use Rattle.store.specs.Looking.{IsShown}
-use Rattle.office_types.specs.declared.look.Look.{Look}
 use Rattle.store.proofs.looking.look_inside.Goals as goal
 
 pub returns-in_ok-nets_text-in-Nets-clause-found : goal.returns-in_ok-nets_text-in-Nets-clause-found

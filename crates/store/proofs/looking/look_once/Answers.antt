@@ -1,12 +1,5 @@
-use Rattle.std.proofs.Common.{◌≡◌, inl, inr, false, not, sym, ap, subst, ◌∙◌, arith, rules}
-use Rattle.std.specs.Prelude.{IsTrue}
-use Rattle.std.proofs.lemmas.Result.{IfOk-weaker}
-use Rattle.sqlite.specs.Effect.{Database}
-use Rattle.sqlite.specs.Held.{Held, state}
-use Rattle.sqlite.specs.State.{HasCleanDisk}
-use Rattle.sqlite.proofs.Callers.{survives_begin}
-use Rattle.store_rows.proofs.Frames.{nothing_left}
-use Rattle.store_tables.specs.Tables.{IsOffice}
+use Rattle.store.proofs.Common.{◌≡◌, inl, inr, false, not, sym, ap, subst, ◌∙◌, arith, rules, IsTrue, IfOk-weaker}
+use Rattle.store.proofs.Common.{Database, Held, state, HasCleanDisk, survives_begin, nothing_left, IsOffice}
 use Rattle.store.specs.Calls.{OnlyLooks}
 use Rattle.store.proofs.looking.look_once.Goals as goal
 

@@ -1,14 +1,12 @@
-use Rattle.std.proofs.Common.{◌≡◌, inl, inr, List, [], ℕ, not, Ok, Err, Result, sym, ap, subst, ◌∙◌, rules}
-use Rattle.std.specs.Prelude.{IfErr, IfOk, IsTrue}
-use Rattle.sqlite.specs.Held.{state}
-use Rattle.sqlite.specs.Order.{Row}
-use Rattle.sqlite.specs.State.{HasCleanDisk, IsNotRun, IsUnchanged, KeepsCommit, State, store_error}
-use Rattle.sqlite.specs.declared.error.Error.{Error}
+use Rattle.store.proofs.Common.{◌≡◌, inl, inr, List, [], ℕ, not, Ok, Err, Result, sym, ap, subst, ◌∙◌, rules, IfErr}
+use Rattle.store.proofs.Common.{IfOk, IsTrue, state, Row, HasCleanDisk, IsUnchanged, KeepsCommit, State, Error}
+use Rattle.store.proofs.Common.{unchanged_keeps}
+use Rattle.sqlite.specs.State.{IsNotRun, store_error}
 use Rattle.sqlite.specs.declared.error.Error.TheVariants.{SqlInputError}
 use Rattle.sqlite_resolve.specs.declared.error.CompileError.{CompileError}
 use Rattle.sqlite_trees.specs.declared.error.StoreError.{StoreError}
 use Rattle.sqlite_trees.specs.declared.error.StoreError.TheVariants.{OutOfMemory}
-use Rattle.store_tables.proofs.Keeping.{not_run_keeps, unchanged_keeps}
+use Rattle.store_tables.proofs.Keeping.{not_run_keeps}
 use Rattle.store.proofs.losing.is_open.Goals as goal
 
 -- a text that is prepared, or is not, commits nothing

@@ -1,14 +1,5 @@
-use Rattle.std.proofs.Common.{◌≡◌, true, sym, subst, arith, rules}
-use Rattle.std.specs.Prelude.{◌≢◌, OnOk}
-use Rattle.std.proofs.lemmas.Result.{on_ok_weaker}
-use Rattle.sqlite.specs.Held.{state}
-use Rattle.sqlite.specs.State.{HasCleanDisk, Survives}
-use Rattle.sqlite.proofs.Callers.{survives_begin}
-use Rattle.sqlite.proofs.StateLemmas.{survives_then}
-use Rattle.store_tables.specs.Statements.{IsOfficeWith}
-use Rattle.store_migrate.specs.FormSchema.{schema_of}
-use Rattle.store_migrate.specs.declared.forms.SchemaForm.{SchemaForm}
-use Rattle.store_migrate.specs.declared.forms.SchemaForm.TheVariants.{Foreign}
+use Rattle.store.proofs.Common.{◌≡◌, true, sym, subst, arith, rules, ◌≢◌, OnOk, on_ok_weaker, state, HasCleanDisk}
+use Rattle.store.proofs.Common.{Survives, survives_begin, survives_then, IsOfficeWith, schema_of, SchemaForm, Foreign}
 use Rattle.store.specs.Opening.{HasCommitted, IsCarried, MayCarry}
 use Rattle.store.proofs.TablesInForm.{carried_as, committed_so}
 use Rattle.store.proofs.migrating.carry_all.Goals as goal

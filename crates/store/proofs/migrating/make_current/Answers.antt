@@ -1,11 +1,5 @@
-use Rattle.std.proofs.Common.{inl, inr, ap, sym, subst, ◌∙◌, arith, rules}
-use Rattle.std.proofs.lemmas.Result.{on_ok_weaker}
-use Rattle.sqlite.specs.Effect.{Database}
-use Rattle.sqlite.specs.Held.{state}
-use Rattle.sqlite.specs.State.{HasCleanDisk, IsUnchanged}
-use Rattle.sqlite.proofs.StateLemmas.{survives_then}
-use Rattle.store_tables.specs.Schema.{IsCurrentSchema, IsOfficeSchema}
-use Rattle.store_tables.specs.Tables.{tables_of}
+use Rattle.store.proofs.Common.{inl, inr, ap, sym, subst, ◌∙◌, arith, rules, on_ok_weaker, Database, state}
+use Rattle.store.proofs.Common.{HasCleanDisk, IsUnchanged, survives_then, IsCurrentSchema, IsOfficeSchema, tables_of}
 use Rattle.store.specs.Opening.{MayCarry, MayGrow, MayMigrate}
 use Rattle.store.proofs.TablesInForm.{first_of_form, form_schema, older_marks, older_or_second, second_of_form}
 use Rattle.store.proofs.OpenedTables.{apart, apart_13, none_of_office}

@@ -1,6 +1,5 @@
-use Rattle.std.proofs.Common.{inl, inr, rules}
-use Rattle.sqlite.specs.Held.{state}
-use Rattle.store_migrate.specs.declared.forms.SchemaForm.TheVariants.{All, Analyzed, Bodies, Rows}
+use Rattle.store.proofs.Common.{inl, inr, rules, state, Analyzed, Bodies, Rows}
+use Rattle.store_migrate.specs.declared.forms.SchemaForm.TheVariants.{All}
 use Rattle.store.specs.Opening.{MayGrow}
 use Rattle.store.proofs.TablesInForm.{form_is, rows_not_all}
 use Rattle.store.proofs.AfterCrash.{survives_more}

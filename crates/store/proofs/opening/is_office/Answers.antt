@@ -1,4 +1,4 @@
-use Rattle.std.proofs.Common.{refl}
+use Rattle.store.proofs.Common.{refl}
 use Rattle.store.proofs.TablesInForm.{form_schema, never_foreign}
 use Rattle.store.proofs.opening.is_office.Goals as goal
 

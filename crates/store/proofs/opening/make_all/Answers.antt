@@ -1,9 +1,5 @@
-use Rattle.std.proofs.Common.{List, ap, arith, ◌∙◌}
-use Rattle.sqlite.specs.Held.{state}
-use Rattle.sqlite.specs.Order.{Row}
-use Rattle.sqlite.specs.State.{HasCleanDisk}
+use Rattle.store.proofs.Common.{List, ap, arith, ◌∙◌, state, Row, HasCleanDisk, Tables, no_rows}
 use Rattle.sqlite.specs.Tree.{put_row}
-use Rattle.store_tables.specs.Tables.{Tables, no_rows}
 use Rattle.store_statements.specs.Rows.{mark_row}
 use Rattle.store_migrate.proofs.AllCarried.{marks_put}
 use Rattle.store.proofs.opening.make_all.Goals as goal

@@ -1,14 +1,6 @@
-use Rattle.std.proofs.Common.{◌≡◌, ◌∙◌, ap, sym, subst, arith, rules}
-use Rattle.std.specs.Prelude.{OnOk}
-use Rattle.std.proofs.lemmas.Result.{on_ok_weaker}
-use Rattle.sqlite.specs.Effect.{Database}
-use Rattle.sqlite.specs.Held.{state}
-use Rattle.sqlite.specs.State.{HasCleanDisk, Survives}
-use Rattle.sqlite.specs.Tree.{Trees}
-use Rattle.sqlite.proofs.Callers.{survives_begin}
-use Rattle.sqlite.proofs.StateLemmas.{survives_then}
-use Rattle.store_tables.specs.Schema.{office_schema, schema_13}
-use Rattle.store_tables.specs.Statements.{IsOfficeWith}
+use Rattle.store.proofs.Common.{◌≡◌, ◌∙◌, ap, sym, subst, arith, rules, OnOk, on_ok_weaker, Database, state}
+use Rattle.store.proofs.Common.{HasCleanDisk, Survives, Trees, survives_begin, survives_then, schema_13, IsOfficeWith}
+use Rattle.store_tables.specs.Schema.{office_schema}
 use Rattle.store.specs.Opening.{AreTreesOf, HasCommitted, IsGrown}
 use Rattle.store.proofs.TablesInForm.{grown_done, grown_so}
 use Rattle.store.proofs.opening.make_part.Goals as goal

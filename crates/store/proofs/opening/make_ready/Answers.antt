@@ -1,11 +1,5 @@
-use Rattle.std.proofs.Common.{◌≡◌, ◌⊎◌, inl, inr, ap, sym, subst, ◌∙◌, arith, rules}
-use Rattle.std.specs.Prelude.{OnOk}
-use Rattle.std.proofs.lemmas.Result.{on_ok_weaker}
-use Rattle.sqlite.specs.Effect.{Database}
-use Rattle.sqlite.specs.Held.{state}
-use Rattle.sqlite.specs.State.{HasCleanDisk, IsUnchanged}
-use Rattle.store_tables.specs.Schema.{IsCurrentSchema, schema_13}
-use Rattle.store_tables.specs.Statements.{IsOfficeWith}
+use Rattle.store.proofs.Common.{◌≡◌, ◌⊎◌, inl, inr, ap, sym, subst, ◌∙◌, arith, rules, OnOk, on_ok_weaker, Database}
+use Rattle.store.proofs.Common.{state, HasCleanDisk, IsUnchanged, IsCurrentSchema, schema_13, IsOfficeWith}
 use Rattle.store.specs.Opening.{HasCommitted, IsGrown}
 use Rattle.store.proofs.OpenedTables.{apart, apart_13, none_of_office}
 use Rattle.store.proofs.opening.make_ready.Goals as goal

@@ -1,8 +1,5 @@
-use Rattle.std.proofs.Common.{◌≡◌, refl, not, sym, ap, subst, ◌∙◌, arith, rules}
-use Rattle.sqlite.specs.Held.{state}
-use Rattle.sqlite.specs.State.{HasCleanDisk}
-use Rattle.sqlite.proofs.Callers.{survives_begin}
-use Rattle.store_rows.proofs.Frames.{nothing_left}
+use Rattle.store.proofs.Common.{◌≡◌, refl, not, sym, ap, subst, ◌∙◌, arith, rules, state, HasCleanDisk, survives_begin}
+use Rattle.store.proofs.Common.{nothing_left}
 use Rattle.store.specs.Making.{StaysWhole}
 use Rattle.store.proofs.opening.profile_of_others.Goals as goal
 

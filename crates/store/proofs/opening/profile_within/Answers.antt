@@ -1,4 +1,4 @@
-use Rattle.sqlite.specs.Held.{state}
+use Rattle.store.proofs.Common.{state}
 use Rattle.store.proofs.OtherTables.{asked_keeps}
 use Rattle.store.proofs.opening.profile_within.Goals as goal
 

@@ -1,10 +1,5 @@
-use Rattle.std.proofs.Common.{◌≡◌, inl, inr, not, sym, ap, subst, ◌∙◌, arith, rules}
-use Rattle.sqlite.specs.Effect.{Database}
-use Rattle.sqlite.specs.Held.{state}
-use Rattle.sqlite.specs.State.{HasCleanDisk}
-use Rattle.sqlite.specs.Tree.{Trees}
-use Rattle.sqlite.proofs.Callers.{survives_begin}
-use Rattle.store_tables.specs.Tables.{IsOffice}
+use Rattle.store.proofs.Common.{◌≡◌, inl, inr, not, sym, ap, subst, ◌∙◌, arith, rules, Database, state, HasCleanDisk}
+use Rattle.store.proofs.Common.{Trees, survives_begin, IsOffice}
 use Rattle.store.specs.Calls.{LeavesStatistics}
 use Rattle.store.specs.Holding.{Keeps, Leaves}
 use Rattle.store.specs.Opening.{HasTables, StatisticsStay}

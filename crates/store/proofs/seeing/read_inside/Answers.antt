@@ -1,10 +1,4 @@
-use Rattle.std.proofs.Common.{Err, Ok, Result}
-use Rattle.std.specs.Prelude.{IfOk}
-use Rattle.std.proofs.lemmas.Result.{IfOk-weaker}
-use Rattle.sqlite.specs.Held.{state}
-use Rattle.sqlite.specs.declared.error.Error.{Error}
-use Rattle.office_rules.specs.Step.{net_named}
-use Rattle.store_tables.specs.Tables.{tables_of}
+use Rattle.store.proofs.Common.{Err, Ok, Result, IfOk, IfOk-weaker, state, Error, net_named, tables_of}
 use Rattle.store_looks.specs.Read.{AreNamesRead, IsRead}
 use Rattle.store_looks.specs.Seen.{OnNetAndBook}
 use Rattle.store_looks.specs.declared.reading.ReadNet.{ReadNet}

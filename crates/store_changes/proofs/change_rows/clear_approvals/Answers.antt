@@ -1,4 +1,4 @@
-use Rattle.store_rows.proofs.Frames.{edits_end}
+use Rattle.store_changes.proofs.Common.{edits_end}
 use Rattle.store_changes.proofs.change_rows.clear_approvals.Goals as goal
 
 pub returns-clause-frame : goal.returns-clause-frame

@@ -1,5 +1,4 @@
-use Rattle.std.proofs.Common.{ap, ◌∙◌}
-use Rattle.std.proofs.lemmas.Result.{on_ok_weaker}
+use Rattle.store_changes.proofs.Common.{ap, ◌∙◌, on_ok_weaker}
 use Rattle.office_types.specs.Block.{form_number}
 use Rattle.office_types.specs.declared.block.Block.{Block}
 use Rattle.store_changes.proofs.change_rows.write_block.Goals as goal

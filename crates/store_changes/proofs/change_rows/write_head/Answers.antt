@@ -1,6 +1,4 @@
-use Rattle.std.proofs.Common.{sym, subst, ◌∙◌}
-use Rattle.std.proofs.lemmas.Result.{on_ok_weaker}
-use Rattle.dbc_grammar.specs.Reads.{Reads}
+use Rattle.store_changes.proofs.Common.{sym, subst, ◌∙◌, on_ok_weaker, Reads}
 use Rattle.store_changes.proofs.change_rows.write_head.Goals as goal
 
 pub returns-clause-written : goal.returns-clause-written

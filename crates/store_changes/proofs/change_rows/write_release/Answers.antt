@@ -1,6 +1,4 @@
-use Rattle.std.proofs.Common.{sym, subst}
-use Rattle.dbc_grammar.specs.Reads.{Reads}
-use Rattle.store_rows.proofs.Frames.{edits_end}
+use Rattle.store_changes.proofs.Common.{sym, subst, Reads, edits_end}
 use Rattle.store_changes.proofs.change_rows.write_release.Goals as goal
 
 pub returns-clause-written : goal.returns-clause-written

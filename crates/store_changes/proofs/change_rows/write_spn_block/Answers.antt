@@ -1,5 +1,4 @@
-use Rattle.std.proofs.Common.{refl, ◌∙◌}
-use Rattle.std.proofs.lemmas.Result.{on_ok_weaker}
+use Rattle.store_changes.proofs.Common.{refl, ◌∙◌, on_ok_weaker}
 use Rattle.store_changes.proofs.change_rows.write_spn_block.Goals as goal
 
 pub returns-clause-written : goal.returns-clause-written

@@ -1,9 +1,5 @@
-use Rattle.std.proofs.Common.{◌∙◌, not, filter, List, ap, arith}
-use Rattle.sqlite.specs.Held.{state}
-use Rattle.sqlite.specs.Order.{Row}
-use Rattle.sqlite.specs.State.{HasCleanDisk}
-use Rattle.store_tables.specs.Tables.{Tables}
-use Rattle.store_statements.specs.Rows.{has_net_and_number}
+use Rattle.store_changes.proofs.Common.{◌∙◌, not, filter, List, ap, arith, state, Row, HasCleanDisk, Tables}
+use Rattle.store_changes.proofs.Common.{has_net_and_number}
 use Rattle.store_changes.proofs.message_rows.remove_numbered.Goals as goal
 
 pub returns-clause-removed : goal.returns-clause-removed

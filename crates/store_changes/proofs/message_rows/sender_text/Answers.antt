@@ -1,5 +1,5 @@
-use Rattle.std.proofs.Common.{◌≢◌, [], IfSome, sym, ap, subst, ◌∙◌}
-use Rattle.std.proofs.lemmas.Bool.{false≢true}
+use Rattle.store_changes.proofs.Common.{[], sym, ap, subst, ◌∙◌, false≢true}
+use Rattle.std.proofs.Common.{◌≢◌, IfSome}
 use Rattle.dbc_words.specs.Name.{is_name}
 use Rattle.store_changes.proofs.message_rows.sender_text.Goals as goal
 

@@ -1,8 +1,5 @@
-use Rattle.std.proofs.Common.{◌∙◌, ◌∷◌, ◌++◌, [], ap, pos}
-use Rattle.sqlite.specs.Order.{Row}
-use Rattle.sqlite.specs.declared.types.Value.TheVariants.{Blob, Int, Text}
+use Rattle.store_changes.proofs.Common.{◌∙◌, ◌∷◌, ◌++◌, [], ap, pos, Row, Blob, Int, Text, makes_as}
 use Rattle.store_rows.specs.LiveWritten.{with_msg}
-use Rattle.store_rows.proofs.Made.{makes_as}
 use Rattle.store_changes.proofs.message_rows.write_msg.Goals as goal
 
 pub returns-clause-written : goal.returns-clause-written

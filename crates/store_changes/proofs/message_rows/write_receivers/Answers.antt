@@ -1,14 +1,8 @@
-use Rattle.std.proofs.Common.{◌≡◌, ◌∙◌, ◌∷◌, ◌++◌, [], List, ◌<◌, ◌+◌, take, length, sym, ap, arith, append_assoc}
-use Rattle.std.proofs.Common.{length-take}
-use Rattle.std.proofs.lemmas.List.{take_more}
-use Rattle.sqlite.specs.Held.{state}
-use Rattle.sqlite.specs.Order.{Row}
-use Rattle.sqlite.specs.State.{HasCleanDisk}
-use Rattle.store_tables.specs.Tables.{Tables, tables_of}
-use Rattle.store_rows.specs.Live.{receiver_values}
-use Rattle.store_rows.specs.LiveWritten.{receiver_rows}
+use Rattle.store_changes.proofs.Common.{◌≡◌, ◌∙◌, ◌∷◌, ◌++◌, [], List, ◌<◌, ◌+◌, take, length, sym, ap, arith}
+use Rattle.store_changes.proofs.Common.{append_assoc, length-take, take_more, state, Row, HasCleanDisk, Tables}
+use Rattle.store_changes.proofs.Common.{tables_of, receiver_values, receiver_rows, edits_end, ends_and_stays}
+use Rattle.store_changes.proofs.Common.{writes_then}
 use Rattle.store_changes.proofs.ReceiverRows.{rows_push}
-use Rattle.store_rows.proofs.Frames.{edits_end, ends_and_stays, writes_then}
 use Rattle.store_changes.proofs.message_rows.write_receivers.Goals as goal
 
 pub loop-name-preserved : goal.loop-name-preserved

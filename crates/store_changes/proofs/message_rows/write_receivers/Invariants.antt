@@ -1,10 +1,5 @@
-use Rattle.std.proofs.Common.{◌≡◌, ◌++◌, take}
-use Rattle.sqlite.specs.Held.{state}
-use Rattle.sqlite.specs.State.{HasCleanDisk}
-use Rattle.store_tables.specs.Frames.{WritesAndStaysIn}
-use Rattle.store_tables.specs.Tables.{IsOffice, tables_of}
-use Rattle.store_rows.specs.LiveWritten.{receiver_rows}
-use Rattle.store_rows.proofs.Frames.{going}
+use Rattle.store_changes.proofs.Common.{◌≡◌, ◌++◌, take, state, HasCleanDisk, WritesAndStaysIn, IsOffice, tables_of}
+use Rattle.store_changes.proofs.Common.{receiver_rows, going}
 use Rattle.store_changes.proofs.message_rows.write_receivers.Given as goal
 
 abbrev pub invariant-loop-name : goal.invariant-loop-name

@@ -1,9 +1,5 @@
-use Rattle.std.proofs.Common.{◌∙◌, ◌∷◌, ◌++◌, [], ap, pos}
-use Rattle.sqlite.specs.Order.{Row}
-use Rattle.sqlite.specs.declared.types.Value.TheVariants.{Blob, Int, Text}
+use Rattle.store_changes.proofs.Common.{◌∙◌, ◌∷◌, ◌++◌, [], ap, pos, Row, Blob, Int, Text, sig_values, makes_as}
 use Rattle.store_statements.specs.Mux.{mux_number}
-use Rattle.store_rows.specs.Live.{sig_values}
-use Rattle.store_rows.proofs.Made.{makes_as}
 use Rattle.store_changes.proofs.message_rows.write_sig.Goals as goal
 
 pub returns-clause-written : goal.returns-clause-written

@@ -1,8 +1,7 @@
-use Rattle.std.proofs.Common.{◌∙◌, arith, rules}
-use Rattle.sqlite.specs.Held.{state}
-use Rattle.sqlite.specs.State.{HasCleanDisk}
+use Rattle.store_changes.proofs.Common.{◌∙◌, arith, state, HasCleanDisk, edits_end}
+use Rattle.std.proofs.Common.{rules}
 use Rattle.sqlite.proofs.InsideLemmas.{keeps_then}
-use Rattle.store_rows.proofs.Frames.{edits_end, ends_then, nothing_left}
+use Rattle.store_rows.proofs.Frames.{ends_then, nothing_left}
 use Rattle.store_changes.proofs.message_rows.write_signal.Goals as goal
 
 pub returns-clause-frame : goal.returns-clause-frame

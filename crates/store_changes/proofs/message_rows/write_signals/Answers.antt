@@ -1,13 +1,8 @@
-use Rattle.std.proofs.Common.{◌≡◌, ◌∙◌, ◌∷◌, ◌++◌, [], ◌<◌, ◌+◌, take, length, sym, ap, subst, arith, length-take}
-use Rattle.std.specs.List.{AllByRecursion}
-use Rattle.std.proofs.lemmas.List.{take_more}
-use Rattle.sqlite.specs.Held.{state}
-use Rattle.sqlite.specs.State.{HasCleanDisk}
-use Rattle.store_tables.specs.Tables.{tables_of}
-use Rattle.store_rows.specs.LiveWritten.{IsSignal, placed_from, with_signal, with_signals}
-use Rattle.store_rows.proofs.SeatRows.{all_append}
+use Rattle.store_changes.proofs.Common.{◌≡◌, ◌∙◌, ◌∷◌, ◌++◌, [], ◌<◌, ◌+◌, take, length, sym, ap, subst, arith}
+use Rattle.store_changes.proofs.Common.{length-take, AllByRecursion, take_more, state, HasCleanDisk, tables_of}
+use Rattle.store_changes.proofs.Common.{IsSignal, placed_from, with_signal, with_signals, all_append, ends_and_stays}
+use Rattle.store_changes.proofs.Common.{writes_then}
 use Rattle.store_changes.proofs.ReceiverRows.{signals_push}
-use Rattle.store_rows.proofs.Frames.{ends_and_stays, writes_then}
 use Rattle.store_changes.proofs.message_rows.write_signals.Goals as goal
 
 pub loop-signal-preserved : goal.loop-signal-preserved

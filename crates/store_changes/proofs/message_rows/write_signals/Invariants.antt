@@ -1,11 +1,5 @@
-use Rattle.std.proofs.Common.{◌≡◌, take}
-use Rattle.std.specs.List.{AllByRecursion}
-use Rattle.sqlite.specs.Held.{state}
-use Rattle.sqlite.specs.State.{HasCleanDisk}
-use Rattle.store_tables.specs.Frames.{WritesAndStaysIn}
-use Rattle.store_tables.specs.Tables.{IsOffice, tables_of}
-use Rattle.store_rows.specs.LiveWritten.{IsSignal, placed_from, with_signals}
-use Rattle.store_rows.proofs.Frames.{going}
+use Rattle.store_changes.proofs.Common.{◌≡◌, take, AllByRecursion, state, HasCleanDisk, WritesAndStaysIn, IsOffice}
+use Rattle.store_changes.proofs.Common.{tables_of, IsSignal, placed_from, with_signals, going}
 use Rattle.store_changes.proofs.message_rows.write_signals.Given as goal
 
 abbrev pub invariant-loop-signal : goal.invariant-loop-signal

@@ -1,20 +1,9 @@
-use Rattle.std.proofs.Common.{ℕ, pos, ◌≡◌, ◌∙◌, ◌∷◌, ◌++◌, [], List, ◌<◌, ◌+◌, take, length, sym, ap, subst, arith}
-use Rattle.std.proofs.Common.{append_assoc, length-take}
-use Rattle.std.proofs.lemmas.List.{take_more}
-use Rattle.std.specs.List.{AllByRecursion}
-use Rattle.dbc_sheet.specs.declared.value_texts.ValueText.{ValueText}
-use Rattle.decimal.specs.Number.{IsDecimal}
+use Rattle.store_changes.proofs.Common.{ℕ, pos, ◌≡◌, ◌∙◌, ◌∷◌, ◌++◌, [], List, ◌<◌, ◌+◌, take, length, sym, ap, subst}
+use Rattle.store_changes.proofs.Common.{arith, append_assoc, length-take, take_more, AllByRecursion, ValueText}
+use Rattle.store_changes.proofs.Common.{IsDecimal, Int, Text, Blob, all_append, state, Row, HasCleanDisk, Tables}
+use Rattle.store_changes.proofs.Common.{tables_of, sigvalue_values, value_rows, edits_end, ends_and_stays, writes_then}
 use Rattle.decimal.specs.Printing.{text_of}
-use Rattle.sqlite.specs.declared.types.Value.TheVariants.{Int, Text, Blob}
-use Rattle.store_rows.proofs.SeatRows.{all_append}
-use Rattle.sqlite.specs.Held.{state}
-use Rattle.sqlite.specs.Order.{Row}
-use Rattle.sqlite.specs.State.{HasCleanDisk}
-use Rattle.store_tables.specs.Tables.{Tables, tables_of}
-use Rattle.store_rows.specs.Live.{sigvalue_values}
-use Rattle.store_rows.specs.LiveWritten.{value_rows}
 use Rattle.store_changes.proofs.ReceiverRows.{values_push}
-use Rattle.store_rows.proofs.Frames.{edits_end, ends_and_stays, writes_then}
 use Rattle.store_changes.proofs.message_rows.write_values.Goals as goal
 
 pub loop-entry-preserved : goal.loop-entry-preserved

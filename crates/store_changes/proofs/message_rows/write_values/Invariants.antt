@@ -1,13 +1,5 @@
-use Rattle.std.proofs.Common.{◌≡◌, ◌++◌, take}
-use Rattle.std.specs.List.{AllByRecursion}
-use Rattle.dbc_sheet.specs.declared.value_texts.ValueText.{ValueText}
-use Rattle.decimal.specs.Number.{IsDecimal}
-use Rattle.sqlite.specs.Held.{state}
-use Rattle.sqlite.specs.State.{HasCleanDisk}
-use Rattle.store_tables.specs.Frames.{WritesAndStaysIn}
-use Rattle.store_tables.specs.Tables.{IsOffice, tables_of}
-use Rattle.store_rows.specs.LiveWritten.{value_rows}
-use Rattle.store_rows.proofs.Frames.{going}
+use Rattle.store_changes.proofs.Common.{◌≡◌, ◌++◌, take, AllByRecursion, ValueText, IsDecimal, state, HasCleanDisk}
+use Rattle.store_changes.proofs.Common.{WritesAndStaysIn, IsOffice, tables_of, value_rows, going}
 use Rattle.store_changes.proofs.message_rows.write_values.Given as goal
 
 abbrev pub invariant-loop-entry : goal.invariant-loop-entry

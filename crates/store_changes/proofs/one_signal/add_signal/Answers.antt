@@ -1,13 +1,7 @@
-use Rattle.std.proofs.Common.{◌≡◌, ◌∙◌, sym, ap, subst, arith}
-use Rattle.sqlite.specs.Effect.{Database}
-use Rattle.sqlite.specs.Held.{state}
-use Rattle.sqlite.specs.State.{HasCleanDisk}
-use Rattle.store_statements.specs.Rows.{has_net_and_number}
+use Rattle.store_changes.proofs.Common.{◌≡◌, ◌∙◌, sym, ap, subst, arith, Database, state, HasCleanDisk}
+use Rattle.store_changes.proofs.Common.{has_net_and_number, IsOffice, tables_of, IsAfter, with_signal, live_named}
 use Rattle.store_statements.specs.Shown.{last_place_order, last_place_shown}
 use Rattle.store_tables.specs.Selected.{IsFirstSelected}
-use Rattle.store_tables.specs.Tables.{IsOffice, tables_of}
-use Rattle.store_rows.specs.LiveWritten.{IsAfter, with_signal}
-use Rattle.office_rules.specs.Facts.{live_named}
 use Rattle.store_changes.proofs.OneByOne.{both_ok}
 use Rattle.store_changes.proofs.SignalPlaces.{there_if_numbered}
 use Rattle.store_changes.proofs.one_signal.add_signal.Goals as goal

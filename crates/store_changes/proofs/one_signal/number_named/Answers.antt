@@ -1,9 +1,5 @@
-use Rattle.std.proofs.Common.{◌∙◌, ap, slice_get}
-use Rattle.std.specs.Option.{option_map}
-use Rattle.can_id.specs.Ident.{dbc_number}
-use Rattle.sqlite.specs.Held.{state}
-use Rattle.office_types.specs.declared.state.LiveMessage.{LiveMessage}
-use Rattle.store_tables.specs.Tables.{tables_of}
+use Rattle.store_changes.proofs.Common.{◌∙◌, ap, option_map, dbc_number, state, LiveMessage, tables_of}
+use Rattle.std.proofs.Common.{slice_get}
 use Rattle.store_rows.proofs.OneMessage.{named_number, none_named}
 use Rattle.store_changes.proofs.one_signal.number_named.Goals as goal
 

@@ -1,6 +1,4 @@
-use Rattle.std.proofs.Common.{sym, subst}
-use Rattle.std.proofs.lemmas.Result.{IfOk-weaker}
-use Rattle.store_rows.specs.LiveWritten.{IsAfter}
+use Rattle.store_changes.proofs.Common.{sym, subst, IfOk-weaker, IsAfter}
 use Rattle.store_rows.proofs.LastPlace.{last_shown, none_shown}
 use Rattle.store_changes.proofs.one_signal.place_after.Goals as goal
 

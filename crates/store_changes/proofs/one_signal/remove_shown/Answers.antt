@@ -1,12 +1,8 @@
-use Rattle.std.proofs.Common.{◌≡◌, ◌∙◌, ◌∷◌, ◌++◌, [], ◌<◌, ◌+◌, take, length, sym, ap, arith}
-use Rattle.std.proofs.lemmas.List.{take_more}
-use Rattle.sqlite.specs.Held.{state}
-use Rattle.sqlite.specs.State.{HasCleanDisk}
-use Rattle.store_tables.specs.Tables.{tables_of}
-use Rattle.store_rows.specs.LiveWritten.{without_place, without_places}
+use Rattle.store_changes.proofs.Common.{◌≡◌, ◌∙◌, ◌∷◌, ◌++◌, [], ◌<◌, ◌+◌, take, length, sym, ap, arith, take_more}
+use Rattle.store_changes.proofs.Common.{state, HasCleanDisk, tables_of, without_place, without_places, edits_end}
+use Rattle.store_changes.proofs.Common.{ends_and_stays, writes_then}
 use Rattle.store_changes.specs.Places.{number_in, places_shown}
 use Rattle.store_changes.proofs.SignalPlaces.{places_removed}
-use Rattle.store_rows.proofs.Frames.{edits_end, ends_and_stays, writes_then}
 use Rattle.store_changes.proofs.one_signal.remove_shown.Goals as goal
 
 pub loop-row-preserved : goal.loop-row-preserved

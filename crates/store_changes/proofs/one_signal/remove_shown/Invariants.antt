@@ -1,11 +1,6 @@
-use Rattle.std.proofs.Common.{◌≡◌, take}
-use Rattle.sqlite.specs.Held.{state}
-use Rattle.sqlite.specs.State.{HasCleanDisk}
-use Rattle.store_tables.specs.Frames.{WritesAndStaysIn}
-use Rattle.store_tables.specs.Tables.{IsOffice, tables_of}
-use Rattle.store_rows.specs.LiveWritten.{without_places}
+use Rattle.store_changes.proofs.Common.{◌≡◌, take, state, HasCleanDisk, WritesAndStaysIn, IsOffice, tables_of}
+use Rattle.store_changes.proofs.Common.{without_places, going}
 use Rattle.store_changes.specs.Places.{places_shown}
-use Rattle.store_rows.proofs.Frames.{going}
 use Rattle.store_changes.proofs.one_signal.remove_shown.Given as goal
 
 abbrev pub invariant-loop-row : goal.invariant-loop-row

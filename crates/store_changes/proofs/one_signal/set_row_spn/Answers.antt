@@ -1,12 +1,6 @@
-use Rattle.std.proofs.Common.{◌≡◌, ◌∙◌, [], ◌∷◌, ◌++◌, refl, ap, arith}
-use Rattle.std.proofs.lemmas.Result.{on_ok_weaker}
-use Rattle.dbc_sheet.specs.declared.signal.Signal.{Signal}
-use Rattle.sqlite.specs.Held.{state}
-use Rattle.sqlite.specs.Order.{column}
-use Rattle.sqlite.specs.State.{HasCleanDisk}
-use Rattle.store_tables.specs.Tables.{Tables, tables_of}
-use Rattle.store_rows.specs.Live.{sig_values, bare_signal}
-use Rattle.store_rows.proofs.Values.{one_number}
+use Rattle.store_changes.proofs.Common.{◌≡◌, ◌∙◌, [], ◌∷◌, ◌++◌, refl, ap, arith, on_ok_weaker, Signal, state, column}
+use Rattle.store_changes.proofs.Common.{HasCleanDisk, Tables, tables_of, sig_values, one_number}
+use Rattle.store_rows.specs.Live.{bare_signal}
 use Rattle.store_rows.proofs.PartShown.{one_shown}
 use Rattle.store_changes.proofs.SetSignals.{one_numbered}
 use Rattle.store_changes.proofs.one_signal.set_row_spn.Goals as goal

@@ -1,11 +1,5 @@
-use Rattle.std.proofs.Common.{◌∙◌, ◌++◌, ap, arith}
-use Rattle.std.proofs.lemmas.Result.{on_ok_weaker}
-use Rattle.sqlite.specs.Held.{state}
-use Rattle.sqlite.specs.Order.{column}
-use Rattle.sqlite.specs.State.{HasCleanDisk}
-use Rattle.store_tables.specs.Tables.{Tables, tables_of}
-use Rattle.store_rows.specs.LiveWritten.{value_rows}
-use Rattle.store_rows.proofs.Values.{one_number}
+use Rattle.store_changes.proofs.Common.{◌∙◌, ◌++◌, ap, arith, on_ok_weaker, state, column, HasCleanDisk, Tables}
+use Rattle.store_changes.proofs.Common.{tables_of, value_rows, one_number}
 use Rattle.store_changes.proofs.SetSignals.{one_described}
 use Rattle.store_changes.proofs.one_signal.set_row_values.Goals as goal
 

@@ -1,15 +1,7 @@
-use Rattle.std.proofs.Common.{◌≡◌, ◌∙◌, ℕ, List, ◌∷◌, ◌++◌, [], ◌<◌, ◌+◌, take, length, sym, ap, subst, arith}
-use Rattle.std.proofs.lemmas.List.{take_more}
-use Rattle.dbc_sheet.specs.declared.signal.Signal.{Signal}
-use Rattle.sqlite.specs.Held.{state}
-use Rattle.sqlite.specs.State.{HasCleanDisk}
-use Rattle.store_tables.specs.Tables.{tables_of}
-use Rattle.store_rows.specs.Listed.{AreShown}
-use Rattle.store_rows.specs.LiveWritten.{with_spns}
-use Rattle.store_rows.specs.SignalShowing.{PlacesAscend, ShowsPlaced}
-use Rattle.store_rows.proofs.Reading.{shown_none, shown_push}
+use Rattle.store_changes.proofs.Common.{◌≡◌, ◌∙◌, ℕ, List, ◌∷◌, ◌++◌, [], ◌<◌, ◌+◌, take, length, sym, ap, subst, arith}
+use Rattle.store_changes.proofs.Common.{take_more, Signal, state, HasCleanDisk, tables_of, AreShown, with_spns}
+use Rattle.store_changes.proofs.Common.{PlacesAscend, ShowsPlaced, shown_none, shown_push, none_written, writes_then}
 use Rattle.store_changes.proofs.SetSignals.{ascend_parts, numbered_after, none_numbered}
-use Rattle.store_rows.proofs.Frames.{none_written, writes_then}
 use Rattle.store_changes.proofs.one_signal.set_shown_spn.Goals as goal
 
 pub loop-row-init : goal.loop-row-init

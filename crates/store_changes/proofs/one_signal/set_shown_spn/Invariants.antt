@@ -1,13 +1,5 @@
-use Rattle.std.proofs.Common.{◌≡◌, ℕ, List, take}
-use Rattle.dbc_sheet.specs.declared.signal.Signal.{Signal}
-use Rattle.sqlite.specs.Held.{state}
-use Rattle.sqlite.specs.State.{HasCleanDisk}
-use Rattle.store_tables.specs.Frames.{WritesAndStaysIn}
-use Rattle.store_tables.specs.Tables.{IsOffice, tables_of}
-use Rattle.store_rows.specs.Listed.{AreShown}
-use Rattle.store_rows.specs.LiveWritten.{with_spns}
-use Rattle.store_rows.specs.SignalShowing.{PlacesAscend, ShowsPlaced}
-use Rattle.store_rows.proofs.Frames.{going}
+use Rattle.store_changes.proofs.Common.{◌≡◌, ℕ, List, take, Signal, state, HasCleanDisk, WritesAndStaysIn, IsOffice}
+use Rattle.store_changes.proofs.Common.{tables_of, AreShown, with_spns, PlacesAscend, ShowsPlaced, going}
 use Rattle.store_changes.proofs.one_signal.set_shown_spn.Given as goal
 
 abbrev pub invariant-loop-row : goal.invariant-loop-row

@@ -1,20 +1,8 @@
-use Rattle.std.proofs.Common.{◌≡◌, ◌∙◌, ℕ, List, ◌∷◌, ◌++◌, [], ◌<◌, ◌+◌, take, length, sym, ap, subst, arith}
-use Rattle.std.proofs.lemmas.List.{take_more}
-use Rattle.std.specs.List.{AllByRecursion}
-use Rattle.dbc_sheet.specs.declared.signal.Signal.{Signal}
-use Rattle.dbc_sheet.specs.declared.value_texts.ValueText.{ValueText}
-use Rattle.decimal.specs.Number.{IsDecimal}
-use Rattle.sqlite.specs.Held.{state}
-use Rattle.sqlite.specs.Order.{Row}
-use Rattle.sqlite.specs.State.{HasCleanDisk}
-use Rattle.store_tables.specs.Tables.{tables_of}
-use Rattle.store_rows.specs.Listed.{AreShown}
-use Rattle.store_rows.specs.LiveWritten.{with_texts}
-use Rattle.store_rows.specs.SignalShowing.{PlacesAscend, ShowsPlaced}
-use Rattle.store_rows.proofs.Reading.{shown_none, shown_push}
-use Rattle.store_rows.proofs.SeatRows.{all_append}
+use Rattle.store_changes.proofs.Common.{◌≡◌, ◌∙◌, ℕ, List, ◌∷◌, ◌++◌, [], ◌<◌, ◌+◌, take, length, sym, ap, subst, arith}
+use Rattle.store_changes.proofs.Common.{take_more, AllByRecursion, Signal, ValueText, IsDecimal, state, Row}
+use Rattle.store_changes.proofs.Common.{HasCleanDisk, tables_of, AreShown, with_texts, PlacesAscend, ShowsPlaced}
+use Rattle.store_changes.proofs.Common.{shown_none, shown_push, all_append, none_written, writes_then}
 use Rattle.store_changes.proofs.SetSignals.{ascend_parts, described_after, none_described}
-use Rattle.store_rows.proofs.Frames.{none_written, writes_then}
 use Rattle.store_changes.proofs.one_signal.set_shown_values.Goals as goal
 
 pub loop-row-init : goal.loop-row-init

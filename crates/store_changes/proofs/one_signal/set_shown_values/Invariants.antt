@@ -1,17 +1,6 @@
-use Rattle.std.proofs.Common.{◌≡◌, ℕ, List, take}
-use Rattle.std.specs.List.{AllByRecursion}
-use Rattle.dbc_sheet.specs.declared.signal.Signal.{Signal}
-use Rattle.dbc_sheet.specs.declared.value_texts.ValueText.{ValueText}
-use Rattle.decimal.specs.Number.{IsDecimal}
-use Rattle.sqlite.specs.Held.{state}
-use Rattle.sqlite.specs.Order.{Row}
-use Rattle.sqlite.specs.State.{HasCleanDisk}
-use Rattle.store_tables.specs.Frames.{WritesAndStaysIn}
-use Rattle.store_tables.specs.Tables.{IsOffice, tables_of}
-use Rattle.store_rows.specs.Listed.{AreShown}
-use Rattle.store_rows.specs.LiveWritten.{with_texts}
-use Rattle.store_rows.specs.SignalShowing.{PlacesAscend, ShowsPlaced}
-use Rattle.store_rows.proofs.Frames.{going}
+use Rattle.store_changes.proofs.Common.{◌≡◌, ℕ, List, take, AllByRecursion, Signal, ValueText, IsDecimal, state, Row}
+use Rattle.store_changes.proofs.Common.{HasCleanDisk, WritesAndStaysIn, IsOffice, tables_of, AreShown, with_texts}
+use Rattle.store_changes.proofs.Common.{PlacesAscend, ShowsPlaced, going}
 use Rattle.store_changes.proofs.one_signal.set_shown_values.Given as goal
 
 abbrev pub invariant-loop-row : goal.invariant-loop-row

@@ -1,21 +1,9 @@
-use Rattle.std.proofs.Common.{◌≡◌, ◌∙◌, sym, ap, subst, arith}
-use Rattle.std.proofs.lemmas.Result.{on_ok_weaker}
-use Rattle.can_id.specs.Ident.{dbc_number}
-use Rattle.sqlite.specs.Effect.{Database}
-use Rattle.sqlite.specs.Held.{state}
-use Rattle.sqlite.specs.State.{HasCleanDisk}
-use Rattle.store_statements.specs.Rows.{has_name_of}
-use Rattle.store_statements.specs.Shown.{sigs_order, sigs_shown}
-use Rattle.office_rules.specs.Facts.{live_named}
-use Rattle.store_tables.specs.Selected.{IsSelected}
-use Rattle.store_tables.specs.Tables.{IsOffice, tables_of}
-use Rattle.store_rows.specs.LiveWritten.{placed_named, with_spns}
-use Rattle.store_rows.proofs.LiveNamed.{named_ascend}
-use Rattle.store_rows.proofs.LiveRows.{named_sigs_are_shown, places_ascend}
-use Rattle.store_rows.proofs.NamedFollows.{its_signals}
+use Rattle.store_changes.proofs.Common.{◌≡◌, ◌∙◌, sym, ap, subst, arith, on_ok_weaker, dbc_number, Database, state}
+use Rattle.store_changes.proofs.Common.{HasCleanDisk, has_name_of, sigs_order, sigs_shown, live_named, IsSelected}
+use Rattle.store_changes.proofs.Common.{IsOffice, tables_of, placed_named, with_spns, named_ascend}
+use Rattle.store_changes.proofs.Common.{named_sigs_are_shown, places_ascend, its_signals, stays_if_read}
 use Rattle.store_changes.proofs.SetSignals.{spn_set}
 use Rattle.store_changes.proofs.SignalPlaces.{there_if_numbered}
-use Rattle.store_rows.proofs.Made.{stays_if_read}
 use Rattle.store_changes.proofs.one_signal.set_signal_spn.Goals as goal
 
 pub returns-in_ok-rows-in-Some-clause-written : goal.returns-in_ok-rows-in-Some-clause-written

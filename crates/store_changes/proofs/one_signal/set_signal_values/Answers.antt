@@ -1,25 +1,11 @@
-use Rattle.std.proofs.Common.{◌≡◌, ◌∙◌, sym, ap, subst, arith}
-use Rattle.std.specs.List.{AllByRecursion}
-use Rattle.can_id.specs.Ident.{dbc_number}
-use Rattle.dbc_sheet.specs.declared.value_texts.ValueText.{ValueText}
-use Rattle.decimal.specs.Number.{IsDecimal}
-use Rattle.sqlite.specs.Effect.{Database}
-use Rattle.sqlite.specs.Held.{state}
-use Rattle.sqlite.specs.State.{HasCleanDisk}
-use Rattle.store_statements.specs.Rows.{has_name_of}
-use Rattle.store_statements.specs.Shown.{sigs_order, sigs_shown}
-use Rattle.office_rules.specs.Facts.{live_named}
-use Rattle.store_tables.specs.Selected.{IsSelected}
-use Rattle.store_tables.specs.Tables.{IsOffice, tables_of}
-use Rattle.store_rows.specs.LiveWritten.{placed_named, with_texts}
-use Rattle.store_rows.specs.SignalShowing.{ShowsPlaced}
-use Rattle.store_rows.proofs.LiveNamed.{named_ascend}
-use Rattle.store_rows.proofs.LiveRows.{named_sigs_are_shown, places_ascend}
-use Rattle.store_rows.proofs.NamedFollows.{its_signals}
+use Rattle.store_changes.proofs.Common.{◌≡◌, ◌∙◌, sym, ap, subst, arith, AllByRecursion, dbc_number, ValueText}
+use Rattle.store_changes.proofs.Common.{IsDecimal, Database, state, HasCleanDisk, has_name_of, sigs_order, sigs_shown}
+use Rattle.store_changes.proofs.Common.{live_named, IsSelected, IsOffice, tables_of, placed_named, with_texts}
+use Rattle.store_changes.proofs.Common.{ShowsPlaced, named_ascend, named_sigs_are_shown, places_ascend, its_signals}
+use Rattle.store_changes.proofs.Common.{stays_if_read}
 use Rattle.store_changes.proofs.OneByOne.{both_ok}
 use Rattle.store_changes.proofs.SetSignals.{all_shown, texts_set}
 use Rattle.store_changes.proofs.SignalPlaces.{there_if_numbered}
-use Rattle.store_rows.proofs.Made.{stays_if_read}
 use Rattle.store_changes.proofs.one_signal.set_signal_values.Goals as goal
 
 pub returns-in_ok-rows-in-Some-clause-written : goal.returns-in_ok-rows-in-Some-clause-written

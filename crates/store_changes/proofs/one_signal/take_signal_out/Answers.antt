@@ -1,18 +1,9 @@
-use Rattle.std.proofs.Common.{◌≡◌, ◌∙◌, sym, ap, subst, arith}
-use Rattle.std.proofs.lemmas.Result.{on_ok_weaker}
-use Rattle.sqlite.specs.Effect.{Database}
-use Rattle.sqlite.specs.Held.{state}
-use Rattle.sqlite.specs.State.{HasCleanDisk}
-use Rattle.store_statements.specs.Rows.{has_name_of}
-use Rattle.store_statements.specs.Shown.{sigs_order, sigs_shown}
-use Rattle.office_rules.specs.Facts.{live_named}
-use Rattle.store_tables.specs.Selected.{IsSelected}
-use Rattle.store_tables.specs.Tables.{IsOffice, tables_of}
-use Rattle.store_rows.specs.LiveWritten.{IsGone, without_places}
-use Rattle.store_rows.proofs.LiveRows.{named_sigs_are_shown, places_ascend}
+use Rattle.store_changes.proofs.Common.{◌≡◌, ◌∙◌, sym, ap, subst, arith, on_ok_weaker, Database, state, HasCleanDisk}
+use Rattle.store_changes.proofs.Common.{has_name_of, sigs_order, sigs_shown, live_named, IsSelected, IsOffice}
+use Rattle.store_changes.proofs.Common.{tables_of, IsGone, without_places, named_sigs_are_shown, places_ascend}
+use Rattle.store_changes.proofs.Common.{stays_if_read}
 use Rattle.store_changes.specs.Places.{places_shown}
 use Rattle.store_changes.proofs.SignalPlaces.{its_places, taken_out, there_if_numbered}
-use Rattle.store_rows.proofs.Made.{stays_if_read}
 use Rattle.store_changes.proofs.one_signal.take_signal_out.Goals as goal
 
 pub returns-in_ok-rows-in-Some-clause-written : goal.returns-in_ok-rows-in-Some-clause-written

@@ -1,4 +1,4 @@
-use Rattle.std.proofs.Common.{◌≡◌}
+use Rattle.store_changes.proofs.Common.{◌≡◌}
 use Rattle.store_changes.proofs.release_sheet.add_messages.Given as goal
 
 abbrev pub invariant-loop-message : goal.invariant-loop-message

@@ -1,7 +1,6 @@
-use Rattle.std.proofs.Common.{◌≡◌, List, sym, ap, ◌∙◌}
+use Rattle.store_changes.proofs.Common.{◌≡◌, List, sym, ap, ◌∙◌, Sheet}
 use Rattle.std.proofs.lemmas.Slice.Eq.{slice_eq-Decides}
 use Rattle.dbc_sheet.specs.declared.message.Message.{Message}
-use Rattle.dbc_sheet.specs.declared.sheet.Sheet.{Sheet}
 use Rattle.store_changes.proofs.release_sheet.release_sheet.Goals as goal
 
 pub returns-then-eq : goal.returns-then-eq

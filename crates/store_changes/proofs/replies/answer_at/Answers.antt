@@ -1,11 +1,6 @@
-use Rattle.std.proofs.Common.{◌≡◌, sym, ap, subst, ◌∙◌, Some, arith}
-use Rattle.std.specs.Prelude.{slice_get}
-use Rattle.std.specs.Option.{option_map}
-use Rattle.sqlite.specs.Effect.{Database}
-use Rattle.sqlite.specs.Held.{state}
-use Rattle.sqlite.specs.State.{HasCleanDisk}
-use Rattle.office_history.specs.History.{Answered, answer_again}
-use Rattle.store_tables.specs.Tables.{IsOffice, tables_of}
+use Rattle.store_changes.proofs.Common.{◌≡◌, sym, ap, subst, ◌∙◌, Some, arith, slice_get, option_map, Database, state}
+use Rattle.store_changes.proofs.Common.{HasCleanDisk, Answered, IsOffice, tables_of}
+use Rattle.office_history.specs.History.{answer_again}
 use Rattle.store_changes.specs.Kept.{AreKeptParts}
 use Rattle.store_changes.proofs.Kept.{is_kept, not_kept}
 use Rattle.store_changes.proofs.replies.answer_at.Goals as goal

@@ -1,5 +1,4 @@
-use Rattle.std.proofs.Common.{sym, ◌∙◌}
-use Rattle.std.proofs.lemmas.Result.{IfOk-weaker}
+use Rattle.store_changes.proofs.Common.{sym, ◌∙◌, IfOk-weaker}
 use Rattle.store_changes.proofs.KeptParts.{parts_are_shown}
 use Rattle.store_changes.proofs.replies.parts_at.Goals as goal
 

@@ -1,4 +1,4 @@
-use Rattle.std.proofs.Common.{sym, ◌∙◌}
+use Rattle.store_changes.proofs.Common.{sym, ◌∙◌}
 use Rattle.store_changes.proofs.ReplyNumbers.{reported}
 use Rattle.store_changes.proofs.replies.reply_in.Goals as goal
 

@@ -1,15 +1,10 @@
-use Rattle.std.proofs.Common.{◌≡◌, ◌∙◌, ◌∷◌, ◌++◌, [], List, ◌<◌, ◌+◌, take, length, get_or, refl, sym, ap, arith}
-use Rattle.std.proofs.Common.{append_assoc, length-take}
-use Rattle.std.proofs.lemmas.List.{take_more}
-use Rattle.sqlite.specs.Held.{state}
-use Rattle.sqlite.specs.Order.{Row}
-use Rattle.sqlite.specs.State.{HasCleanDisk}
+use Rattle.store_changes.proofs.Common.{◌≡◌, ◌∙◌, ◌∷◌, ◌++◌, [], List, ◌<◌, ◌+◌, take, length, get_or, refl, sym, ap}
+use Rattle.store_changes.proofs.Common.{arith, append_assoc, length-take, take_more, state, Row, HasCleanDisk, Tables}
+use Rattle.store_changes.proofs.Common.{tables_of, edits_end, ends_and_stays, writes_then}
 use Rattle.office_types.specs.declared.reply.PartReply.TheVariants.{Done}
 use Rattle.store_statements.specs.Rows.{part_row}
-use Rattle.store_tables.specs.Tables.{Tables, tables_of}
 use Rattle.store_changes.specs.Kept.{part_rows, part_values}
 use Rattle.store_changes.proofs.KeptParts.{parts_push}
-use Rattle.store_rows.proofs.Frames.{edits_end, ends_and_stays, writes_then}
 use Rattle.store_changes.proofs.replies.write_parts.Goals as goal
 
 pub loop-part-preserved : goal.loop-part-preserved

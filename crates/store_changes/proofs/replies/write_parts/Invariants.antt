@@ -1,10 +1,6 @@
-use Rattle.std.proofs.Common.{◌≡◌, ◌+◌, ◌++◌, take}
-use Rattle.sqlite.specs.Held.{state}
-use Rattle.sqlite.specs.State.{HasCleanDisk}
-use Rattle.store_tables.specs.Frames.{WritesAndStaysIn}
-use Rattle.store_tables.specs.Tables.{IsOffice, tables_of}
+use Rattle.store_changes.proofs.Common.{◌≡◌, ◌+◌, ◌++◌, take, state, HasCleanDisk, WritesAndStaysIn, IsOffice}
+use Rattle.store_changes.proofs.Common.{tables_of, going}
 use Rattle.store_changes.specs.Kept.{part_rows}
-use Rattle.store_rows.proofs.Frames.{going}
 use Rattle.store_changes.proofs.replies.write_parts.Given as goal
 
 abbrev pub invariant-loop-part : goal.invariant-loop-part

@@ -1,10 +1,5 @@
-use Rattle.std.proofs.Common.{◌≡◌, sym, ap, subst, ◌∙◌, Some, arith}
-use Rattle.std.specs.Prelude.{slice_get}
-use Rattle.std.specs.Option.{option_map}
-use Rattle.sqlite.specs.Effect.{Database}
-use Rattle.sqlite.specs.Held.{state}
-use Rattle.sqlite.specs.State.{HasCleanDisk}
-use Rattle.store_tables.specs.Tables.{IsOffice, tables_of}
+use Rattle.store_changes.proofs.Common.{◌≡◌, sym, ap, subst, ◌∙◌, Some, arith, slice_get, option_map, Database, state}
+use Rattle.store_changes.proofs.Common.{HasCleanDisk, IsOffice, tables_of}
 use Rattle.store_changes.specs.Kept.{AreKeptParts, content_and_answer}
 use Rattle.store_changes.proofs.Kept.{is_kept, not_kept}
 use Rattle.store_changes.proofs.requests.kept_at.Goals as goal

@@ -1,5 +1,4 @@
-use Rattle.std.proofs.Common.{sym}
-use Rattle.std.proofs.lemmas.Result.{IfOk-weaker}
+use Rattle.store_changes.proofs.Common.{IfOk-weaker}
 use Rattle.store_changes.proofs.TeamKeys.{keys_are_of}
 use Rattle.store_changes.proofs.requests.keys_of.Goals as goal
 

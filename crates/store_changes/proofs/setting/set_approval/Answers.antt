@@ -1,7 +1,4 @@
-use Rattle.std.proofs.Common.{arith}
-use Rattle.sqlite.specs.Held.{state}
-use Rattle.sqlite.specs.State.{HasCleanDisk}
-use Rattle.store_rows.proofs.Made.{makes_then}
+use Rattle.store_changes.proofs.Common.{arith, state, HasCleanDisk, makes_then}
 use Rattle.store_changes.proofs.setting.set_approval.Goals as goal
 
 pub returns-clause-set : goal.returns-clause-set

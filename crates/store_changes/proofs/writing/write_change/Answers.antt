@@ -1,8 +1,6 @@
-use Rattle.std.proofs.lemmas.Result.{on_ok_weaker}
-use Rattle.sqlite.specs.Held.{state}
+use Rattle.store_changes.proofs.Common.{on_ok_weaker, state, tables_of}
 use Rattle.office_types.specs.declared.change.Change.TheVariants.{SetHead, RemoveMessage, SetSpnBlock, Hold, EnterSpn}
 use Rattle.office_types.specs.declared.change.Change.TheVariants.{SetApproval, ClearApprovals}
-use Rattle.store_tables.specs.Tables.{tables_of}
 use Rattle.store_changes.proofs.OneByOne.{added_release, added_signal, any_change, described_signal, numbered_signal}
 use Rattle.store_changes.proofs.OneByOne.{own_block, removed_signal, whole_message}
 use Rattle.store_changes.proofs.writing.write_change.Goals as goal

@@ -1,12 +1,8 @@
-use Rattle.std.proofs.Common.{◌≡◌, ◌∷◌, ◌++◌, [], ◌<◌, ◌+◌, take, drop, length, sym, subst, arith, add-one, drop-cons}
-use Rattle.std.proofs.Common.{take_all}
-use Rattle.std.proofs.lemmas.List.{take_more}
-use Rattle.sqlite.specs.Held.{state}
-use Rattle.sqlite.specs.State.{HasCleanDisk}
-use Rattle.office_rules.specs.Change.{NetAndBook, all_applied}
-use Rattle.store_tables.specs.Tables.{IsOffice, tables_of}
-use Rattle.store_rows.specs.Follows.{AreWritten}
-use Rattle.store_rows.proofs.Changes.{changes_follow, first_alone}
+use Rattle.store_changes.proofs.Common.{◌≡◌, ◌∷◌, ◌++◌, [], ◌<◌, ◌+◌, take, drop, length, sym, subst, arith, take_more}
+use Rattle.store_changes.proofs.Common.{state, HasCleanDisk, NetAndBook, all_applied, IsOffice, tables_of, AreWritten}
+use Rattle.store_changes.proofs.Common.{first_alone}
+use Rattle.std.proofs.Common.{add-one, drop-cons, take_all}
+use Rattle.store_rows.proofs.Changes.{changes_follow}
 use Rattle.store_changes.proofs.OneByOne.{AreBegun, next_alone, one_more, own_parts}
 use Rattle.store_rows.proofs.Frames.{stays_then}
 use Rattle.store_changes.proofs.writing.write_changes.Goals as goal

@@ -1,15 +1,9 @@
-use Rattle.std.proofs.Common.{Option, take, drop}
-use Rattle.sqlite.specs.Held.{state}
-use Rattle.sqlite.specs.State.{HasCleanDisk}
+use Rattle.store_changes.proofs.Common.{Option, take, drop, state, HasCleanDisk, Net, HaveOwnBlocks, IsHeadFirst}
+use Rattle.store_changes.proofs.Common.{IsOffice, tables_of, IsNetAt, going}
 use Rattle.office_types.specs.declared.book.SpnBook.{SpnBook}
-use Rattle.office_types.specs.declared.state.Net.{Net}
-use Rattle.office_rules.specs.Change.{HaveOwnBlocks, IsHeadFirst}
 use Rattle.store_tables.specs.Frames.{StaysIn}
-use Rattle.store_tables.specs.Tables.{IsOffice, tables_of}
-use Rattle.store_rows.specs.NetIn.{IsNetAt}
 use Rattle.store_changes.specs.Writing.{IsNext}
 use Rattle.store_changes.proofs.OneByOne.{AreBegun}
-use Rattle.store_rows.proofs.Frames.{going}
 use Rattle.store_changes.proofs.writing.write_changes.Given as goal
 
 abbrev pub invariant-loop-change : goal.invariant-loop-change

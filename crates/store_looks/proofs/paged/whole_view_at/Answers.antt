@@ -1,5 +1,4 @@
-use Rattle.std.proofs.Common.{subst}
-use Rattle.std.proofs.lemmas.Result.{IfOk-weaker}
+use Rattle.store_looks.proofs.Common.{subst, IfOk-weaker}
 use Rattle.store_looks.specs.Seen.{IsSeen}
 use Rattle.store_looks.proofs.Seeing.{whole_seen}
 use Rattle.store_looks.proofs.paged.whole_view_at.Goals as goal

@@ -1,4 +1,4 @@
-use Rattle.std.proofs.lemmas.Result.{IfOk-weaker}
+use Rattle.store_looks.proofs.Common.{IfOk-weaker}
 use Rattle.store_looks.proofs.ReadWhole.{read_bare, read_whole}
 use Rattle.store_looks.proofs.reading.net_so.Goals as goal
 

@@ -1,10 +1,5 @@
-use Rattle.std.proofs.Common.{◌≡◌, ◌∙◌, sym, subst, arith}
-use Rattle.sqlite.specs.Effect.{Database}
-use Rattle.sqlite.specs.Held.{state}
-use Rattle.sqlite.specs.State.{HasCleanDisk}
-use Rattle.store_tables.specs.Tables.{IsOffice, tables_of}
-use Rattle.store_rows.specs.Rows.{IsBookIn}
-use Rattle.store_rows.proofs.Made.{reads_any, reads_then, while_open}
+use Rattle.store_looks.proofs.Common.{◌≡◌, ◌∙◌, sym, subst, arith, Database, state, HasCleanDisk, IsOffice, tables_of}
+use Rattle.store_looks.proofs.Common.{IsBookIn, reads_any, reads_then, while_open}
 use Rattle.store_net.specs.Nets.{AreKnownNets}
 use Rattle.store_looks.proofs.ReadWhole.{all_named, none_named}
 use Rattle.store_looks.proofs.reading.read_net_at.Goals as goal

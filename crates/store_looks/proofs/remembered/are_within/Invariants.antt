@@ -1,5 +1,4 @@
-use Rattle.std.proofs.Common.{◌≡◌, ◌+◌, take}
-use Rattle.store_bodies.specs.ReadText.{text_bytes}
+use Rattle.store_looks.proofs.Common.{◌≡◌, ◌+◌, take, text_bytes}
 use Rattle.store_looks.proofs.remembered.are_within.Given as goal
 
 -- what the texts so far leave of the limit

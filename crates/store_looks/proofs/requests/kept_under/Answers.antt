@@ -1,6 +1,4 @@
-use Rattle.std.proofs.Common.{◌∙◌, sym, ap}
-use Rattle.std.specs.Option.{option_map}
-use Rattle.store_changes.specs.Kept.{content_and_answer, kept_answer}
+use Rattle.store_looks.proofs.Common.{◌∙◌, sym, ap, option_map, content_and_answer, kept_answer}
 use Rattle.store_looks.proofs.Asked.{one_some}
 use Rattle.store_looks.proofs.requests.kept_under.Goals as goal
 

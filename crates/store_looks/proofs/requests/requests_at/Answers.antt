@@ -1,12 +1,8 @@
-use Rattle.std.proofs.Common.{◌≡◌, ◌∙◌, sym, ap, subst, arith, rules}
-use Rattle.sqlite.specs.Effect.{Database}
-use Rattle.sqlite.specs.Held.{state}
-use Rattle.sqlite.specs.State.{HasCleanDisk}
-use Rattle.sqlite.proofs.Callers.{unchanged_then}
+use Rattle.store_looks.proofs.Common.{◌≡◌, ◌∙◌, sym, ap, subst, arith, Database, state, HasCleanDisk, unchanged_then}
+use Rattle.store_looks.proofs.Common.{AreKept, AreKeptParts, IsOffice, tables_of}
+use Rattle.std.proofs.Common.{rules}
 use Rattle.office_looks.specs.Looks.{list_in}
 use Rattle.office_looks.specs.Requests.{requests_table}
-use Rattle.store_changes.specs.Kept.{AreKept, AreKeptParts}
-use Rattle.store_tables.specs.Tables.{IsOffice, tables_of}
 use Rattle.store_looks.proofs.Asked.{are_requests}
 use Rattle.store_looks.proofs.requests.requests_at.Goals as goal
 

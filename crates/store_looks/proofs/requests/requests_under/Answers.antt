@@ -1,14 +1,8 @@
 use Rattle.store_rows.proofs.Made.{on_any}
-use Rattle.std.proofs.Common.{◌≡◌, ◌∙◌, ℕ, List, [], ◌∷◌, ◌++◌, sym, ap, subst, arith}
-use Rattle.sqlite.specs.Effect.{Database}
-use Rattle.sqlite.specs.Held.{state}
-use Rattle.sqlite.specs.State.{HasCleanDisk}
-use Rattle.sqlite.proofs.Callers.{unchanged_then}
+use Rattle.store_looks.proofs.Common.{◌≡◌, ◌∙◌, ℕ, List, [], ◌∷◌, ◌++◌, sym, ap, subst, arith, Database, state}
+use Rattle.store_looks.proofs.Common.{HasCleanDisk, unchanged_then, asked, IsOffice, tables_of, AreKept, AreKeptParts}
 use Rattle.sqlite.proofs.InsideLemmas.{keeps_then}
-use Rattle.office_looks.specs.Requests.{asked}
 use Rattle.office_types.specs.declared.reply.Reply.{Reply}
-use Rattle.store_tables.specs.Tables.{IsOffice, tables_of}
-use Rattle.store_changes.specs.Kept.{AreKept, AreKeptParts}
 use Rattle.store_rows.proofs.Frames.{nothing_left}
 use Rattle.store_looks.proofs.Asked.{all_told, one_told}
 use Rattle.store_looks.proofs.requests.requests_under.Goals as goal

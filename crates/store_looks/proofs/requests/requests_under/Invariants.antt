@@ -1,12 +1,6 @@
-use Rattle.std.proofs.Common.{◌≡◌, List, map, take}
-use Rattle.std.specs.Prelude.{IsTrue}
-use Rattle.std.specs.List.{AllByRecursion, flat_map}
-use Rattle.sqlite.specs.Held.{state}
-use Rattle.sqlite.specs.State.{HasCleanDisk, IsUnchanged, KeepsCommit, Survives}
-use Rattle.office_history.specs.History.{Answered}
-use Rattle.office_looks.specs.Requests.{asked_of}
-use Rattle.store_tables.specs.Tables.{IsOffice, tables_of}
-use Rattle.store_changes.specs.Kept.{AreKept, AreKeptParts}
+use Rattle.store_looks.proofs.Common.{◌≡◌, List, map, take, IsTrue, AllByRecursion, flat_map, state, HasCleanDisk}
+use Rattle.store_looks.proofs.Common.{Answered, asked_of, IsOffice, tables_of, AreKept, AreKeptParts}
+use Rattle.sqlite.specs.State.{IsUnchanged, KeepsCommit, Survives}
 use Rattle.store_looks.specs.Asked.{IsFirstOf}
 use Rattle.store_looks.proofs.requests.requests_under.Given as goal
 

@@ -1,4 +1,4 @@
-use Rattle.std.proofs.Common.{subst, ◌∙◌}
+use Rattle.store_looks.proofs.Common.{subst, ◌∙◌}
 use Rattle.store_looks.specs.Seen.{IsSeen}
 use Rattle.store_looks.proofs.Remembering.{still_true}
 use Rattle.store_looks.proofs.Seeing.{look_text, whole_seen}

@@ -1,5 +1,4 @@
-use Rattle.std.proofs.Common.{ap, sym, ◌∙◌}
-use Rattle.office_looks.specs.Looks.{shown_of}
+use Rattle.store_looks.proofs.Common.{ap, sym, ◌∙◌, shown_of}
 use Rattle.store_looks.specs.Seen.{seen_text}
 use Rattle.store_looks.proofs.shown.shown.Goals as goal
 

@@ -1,5 +1,4 @@
-use Rattle.std.proofs.Common.{◌≡◌, ◌++◌, filter, map, take}
-use Rattle.std.specs.Str.{bytes_eq}
+use Rattle.store_looks.proofs.Common.{◌≡◌, ◌++◌, filter, map, take, bytes_eq}
 use Rattle.office_seen.specs.View.{spn_block}
 use Rattle.store_looks.proofs.view.blocks_of.Given as goal
 

@@ -1,7 +1,4 @@
-use Rattle.std.proofs.Common.{◌≡◌, ◌∙◌, [], sym, subst}
-use Rattle.std.proofs.lemmas.Result.{IfOk-weaker}
-use Rattle.std.specs.Option.{option_map}
-use Rattle.office_looks.specs.Reads.{net_read}
+use Rattle.store_looks.proofs.Common.{◌≡◌, ◌∙◌, [], sym, subst, IfOk-weaker, option_map, net_read}
 use Rattle.store_looks.proofs.Seeing.{whole_read}
 use Rattle.store_looks.proofs.view.net_for.Goals as goal
 

@@ -1,4 +1,4 @@
-use Rattle.std.proofs.Common.{◌≡◌, map, take}
+use Rattle.store_looks.proofs.Common.{◌≡◌, map, take}
 use Rattle.store_looks.proofs.view.owners_of.Given as goal
 
 abbrev pub invariant-loop-one : goal.invariant-loop-one

@@ -1,6 +1,4 @@
-use Rattle.std.proofs.Common.{Some, sym, subst, ◌∙◌}
-use Rattle.office_looks.specs.Reads.{AreRead}
-use Rattle.store_net.specs.NetParts.{HasLast}
+use Rattle.store_looks.proofs.Common.{Some, sym, subst, ◌∙◌, AreRead, HasLast}
 use Rattle.store_looks.proofs.Seeing.{last_read}
 use Rattle.store_looks.proofs.view.releases_for.Goals as goal
 

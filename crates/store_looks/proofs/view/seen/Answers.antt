@@ -1,6 +1,5 @@
-use Rattle.std.proofs.Common.{List, subst, sym}
+use Rattle.store_looks.proofs.Common.{List, subst, sym, Sheet}
 use Rattle.std.specs.Prelude.{IfSome}
-use Rattle.dbc_sheet.specs.declared.sheet.Sheet.{Sheet}
 use Rattle.store_bodies.specs.ReadText.{AreReadAs}
 use Rattle.store_looks.proofs.view.seen.Goals as goal
 

@@ -1,11 +1,5 @@
-use Rattle.std.proofs.Common.{◌≡◌, ◌∙◌, Some, sym, subst, arith}
-use Rattle.sqlite.specs.Effect.{Database}
-use Rattle.sqlite.specs.Held.{state}
-use Rattle.sqlite.specs.State.{HasCleanDisk}
-use Rattle.store_tables.specs.Tables.{IsOffice, tables_of}
-use Rattle.store_rows.specs.NetIn.{IsNetAt}
-use Rattle.store_rows.specs.Rows.{IsBookIn}
-use Rattle.store_rows.proofs.Made.{reads_any, reads_then, while_open}
+use Rattle.store_looks.proofs.Common.{◌≡◌, ◌∙◌, Some, sym, subst, arith, Database, state, HasCleanDisk, IsOffice}
+use Rattle.store_looks.proofs.Common.{tables_of, IsNetAt, IsBookIn, reads_any, reads_then, while_open}
 use Rattle.store_looks.proofs.Seeing.{nothing_seen, seen_with}
 use Rattle.store_looks.proofs.view.view_at.Goals as goal
 

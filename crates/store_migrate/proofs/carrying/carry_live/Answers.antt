@@ -1,9 +1,5 @@
-use Rattle.std.proofs.Common.{◌≡◌, ◌∙◌, List, sym, subst, arith}
-use Rattle.std.proofs.lemmas.Result.{on_ok_weaker}
-use Rattle.sqlite.specs.Held.{state}
-use Rattle.sqlite.specs.State.{HasCleanDisk}
-use Rattle.store_tables.specs.Tables.{IsOffice, tables_of}
-use Rattle.office_types.specs.declared.state.Net.{Net}
+use Rattle.store_migrate.proofs.Common.{◌≡◌, ◌∙◌, List, sym, subst, arith, on_ok_weaker, state, HasCleanDisk, IsOffice}
+use Rattle.store_migrate.proofs.Common.{tables_of, Net}
 use Rattle.store_migrate.proofs.NetsCarried.{carried_alike}
 use Rattle.store_migrate.proofs.carrying.carry_live.Goals as goal
 

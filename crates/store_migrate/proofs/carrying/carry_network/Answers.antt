@@ -1,8 +1,5 @@
-use Rattle.std.proofs.Common.{◌≡◌, ◌∙◌, sym, subst, arith}
-use Rattle.std.proofs.lemmas.Result.{on_ok_weaker}
-use Rattle.sqlite.specs.Held.{state}
-use Rattle.sqlite.specs.State.{HasCleanDisk}
-use Rattle.store_tables.specs.Tables.{IsOffice, tables_of}
+use Rattle.store_migrate.proofs.Common.{◌≡◌, ◌∙◌, sym, subst, arith, on_ok_weaker, state, HasCleanDisk, IsOffice}
+use Rattle.store_migrate.proofs.Common.{tables_of}
 use Rattle.store_migrate.proofs.LiveAdded.{added_alike}
 use Rattle.store_migrate.proofs.NetsCarried.{net_carried}
 use Rattle.store_migrate.proofs.carrying.carry_network.Goals as goal

@@ -1,9 +1,4 @@
-use Rattle.std.proofs.Common.{arith}
-use Rattle.std.proofs.lemmas.Result.{on_ok_weaker}
-use Rattle.sqlite.specs.Held.{state}
-use Rattle.sqlite.specs.State.{HasCleanDisk}
-use Rattle.store_tables.specs.Tables.{tables_of}
-use Rattle.store_rows.specs.NetIn.{HasBodies}
+use Rattle.store_migrate.proofs.Common.{arith, on_ok_weaker, state, HasCleanDisk, tables_of, HasBodies}
 use Rattle.store_migrate.proofs.AllCarried.{held_as_rows, nets_known}
 use Rattle.store_migrate.proofs.carrying.carry_over.Goals as goal
 

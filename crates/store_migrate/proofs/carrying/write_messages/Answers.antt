@@ -1,8 +1,5 @@
-use Rattle.std.proofs.Common.{◌≡◌, ◌∷◌, ◌++◌, [], ◌<◌, ◌+◌, take, length, sym, subst, arith}
-use Rattle.std.proofs.lemmas.List.{take_more}
-use Rattle.sqlite.specs.Held.{state}
-use Rattle.sqlite.specs.State.{HasCleanDisk}
-use Rattle.store_tables.specs.Tables.{tables_of}
+use Rattle.store_migrate.proofs.Common.{◌≡◌, ◌∷◌, ◌++◌, [], ◌<◌, ◌+◌, take, length, sym, subst, arith, take_more, state}
+use Rattle.store_migrate.proofs.Common.{HasCleanDisk, tables_of}
 use Rattle.store_migrate.specs.Carried.{AddsLive}
 use Rattle.store_migrate.proofs.LiveAdded.{next_added}
 use Rattle.store_rows.proofs.Frames.{ends_and_stays, writes_then}

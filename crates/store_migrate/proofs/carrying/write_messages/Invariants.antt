@@ -1,10 +1,6 @@
-use Rattle.std.proofs.Common.{take}
-use Rattle.sqlite.specs.Held.{state}
-use Rattle.sqlite.specs.State.{HasCleanDisk}
+use Rattle.store_migrate.proofs.Common.{take, state, HasCleanDisk, IsOffice, tables_of, going}
 use Rattle.store_tables.specs.Frames.{WritesAndStaysIn}
-use Rattle.store_tables.specs.Tables.{IsOffice, tables_of}
 use Rattle.store_migrate.specs.Carried.{AddsLive}
-use Rattle.store_rows.proofs.Frames.{going}
 use Rattle.store_migrate.proofs.carrying.write_messages.Given as goal
 
 abbrev pub invariant-loop-message : goal.invariant-loop-message

@@ -1,4 +1,4 @@
-use Rattle.std.proofs.Common.{rules, ◌∙◌, sym}
+use Rattle.store_migrate.proofs.Common.{rules, ◌∙◌, sym}
 use Rattle.std.proofs.lemmas.Bool.{false≢true}
 use Rattle.store_migrate.proofs.Formed.{all_are, all_counted, analyzed_are, analyzed_counted, begun, bodies_are}
 use Rattle.store_migrate.proofs.Formed.{bodies_counted, counted, none_counted, rows_are, rows_counted}

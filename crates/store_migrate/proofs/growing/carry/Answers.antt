@@ -1,9 +1,5 @@
-use Rattle.std.proofs.Common.{inl, inr, refl, sym, subst}
-use Rattle.std.proofs.lemmas.Result.{on_ok_weaker}
-use Rattle.sqlite.specs.Held.{state}
-use Rattle.office_rules.specs.Profile.{One}
+use Rattle.store_migrate.proofs.Common.{inl, inr, refl, sym, subst, on_ok_weaker, state, One, named_rows}
 use Rattle.store_tables.specs.Schema.{analyzed_schema, office_schema}
-use Rattle.store_tables.proofs.Changing.{named_rows}
 use Rattle.store_migrate.proofs.Grown.{edited_office, named_analyzed, office_with}
 use Rattle.store_migrate.specs.Forms.{HoldsAsRows}
 use Rattle.store_migrate.proofs.growing.carry.Goals as goal

@@ -1,8 +1,4 @@
-use Rattle.std.proofs.Common.{◌∙◌, sym, subst, arith, rules}
-use Rattle.std.proofs.lemmas.Result.{on_ok_weaker}
-use Rattle.sqlite.specs.Held.{state}
-use Rattle.sqlite.specs.State.{HasCleanDisk}
-use Rattle.sqlite.proofs.InsideLemmas.{keeps_then}
+use Rattle.store_migrate.proofs.Common.{◌∙◌, sym, subst, arith, rules, on_ok_weaker, state, HasCleanDisk, keeps_then}
 use Rattle.store_tables.specs.Schema.{schema_9}
 use Rattle.store_migrate.specs.Forms.{HoldsAsBodies}
 use Rattle.store_migrate.proofs.Grown.{grown_office, grown_statistics, grown_tables, none_after_9}

@@ -1,9 +1,5 @@
-use Rattle.std.proofs.Common.{◌∙◌, sym, subst, arith, rules}
-use Rattle.std.proofs.lemmas.Result.{on_ok_weaker}
-use Rattle.sqlite.specs.Held.{state}
-use Rattle.sqlite.specs.State.{HasCleanDisk}
-use Rattle.sqlite.proofs.InsideLemmas.{keeps_then}
-use Rattle.office_rules.specs.Profile.{One}
+use Rattle.store_migrate.proofs.Common.{◌∙◌, sym, subst, arith, rules, on_ok_weaker, state, HasCleanDisk, keeps_then}
+use Rattle.store_migrate.proofs.Common.{One}
 use Rattle.store_tables.specs.Schema.{schema_13}
 use Rattle.store_migrate.specs.Forms.{HoldsAsRows}
 use Rattle.store_migrate.proofs.Grown.{grown_office, grown_statistics, grown_tables, none_after_13}

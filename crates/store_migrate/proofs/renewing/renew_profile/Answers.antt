@@ -1,10 +1,5 @@
-use Rattle.std.proofs.Common.{◌∙◌, List, ap, arith}
-use Rattle.sqlite.specs.Held.{state}
-use Rattle.sqlite.specs.Order.{Row}
-use Rattle.sqlite.specs.State.{HasCleanDisk}
-use Rattle.sqlite.specs.Tree.{put_row}
-use Rattle.store_tables.specs.Tables.{Tables, tables_of}
-use Rattle.store_statements.specs.Rows.{mark_row}
+use Rattle.store_migrate.proofs.Common.{◌∙◌, List, ap, arith, state, Row, HasCleanDisk, put_row, Tables, tables_of}
+use Rattle.store_migrate.proofs.Common.{mark_row}
 use Rattle.store_migrate.proofs.AllCarried.{held_renewed, marks_put}
 use Rattle.store_migrate.proofs.renewing.renew_profile.Goals as goal
 

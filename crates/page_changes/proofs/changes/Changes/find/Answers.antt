@@ -1,7 +1,4 @@
-use Rattle.std.proofs.Common.{List, Bor, subst, sym}
-use Rattle.std.specs.List.Sorted.{IsStrictlySortedBy}
-use Rattle.std.specs.Ordering.{nat_cmp, on}
-use Rattle.dbc_compare.specs.declared.difference.Difference.{Difference}
+use Rattle.page_changes.proofs.Common.{List, Bor, subst, sym, IsStrictlySortedBy, nat_cmp, on, Difference}
 use Rattle.page_changes.specs.Changes.{number_of_change}
 use Rattle.page_changes.proofs.ChangeParts.{change_found, change_missing}
 use Rattle.page_changes.proofs.changes.Changes.find.Goals as goal

@@ -1,4 +1,4 @@
-use Rattle.std.proofs.Common.{rules}
+use Rattle.page_numbers.proofs.Common.{rules}
 use Rattle.std.proofs.lemmas.List.Sorted.{IsNonDecreasingBy-from_sort_by_key, answers_always, length_permutation}
 use Rattle.page_numbers.specs.Index.{number_at}
 use Rattle.page_numbers.proofs.Places.{in_order}

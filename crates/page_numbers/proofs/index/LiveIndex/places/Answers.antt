@@ -1,6 +1,6 @@
-use Rattle.std.proofs.Common.{◌≡◌, ℕ, ◌+◌, ◌-◌, ◌≤◌, List, length, take, drop, map, ap, sym, ◌∙◌, subst, arith}
+use Rattle.page_numbers.proofs.Common.{◌≡◌, ℕ, ◌+◌, ◌-◌, ◌≤◌, List, length, take, drop, map, ap, sym, ◌∙◌, subst, arith}
+use Rattle.page_numbers.proofs.Common.{length-drop}
 use Rattle.std.proofs.Math.Seq.{take-length}
-use Rattle.std.proofs.lemmas.List.{length-drop}
 use Rattle.page_numbers.specs.Index.{AreBelow, Indexed, Numbered, live_at, message_at}
 use Rattle.page_numbers.proofs.Places.{between}
 use Rattle.page_numbers.proofs.index.LiveIndex.places.Goals as goal

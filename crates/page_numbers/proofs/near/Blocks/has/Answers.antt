@@ -1,6 +1,4 @@
-use Rattle.std.proofs.Common.{◌≡◌, ◌∙◌, Some, None, ap, refl}
-use Rattle.std.specs.Prelude.{is_some}
-use Rattle.std.specs.Option.{option_copied}
+use Rattle.page_numbers.proofs.Common.{◌≡◌, ◌∙◌, Some, None, ap, refl, is_some, option_copied}
 use Rattle.page_numbers.proofs.near.Blocks.has.Goals as goal
 
 pub returns : goal.returns

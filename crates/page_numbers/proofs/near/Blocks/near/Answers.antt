@@ -1,6 +1,4 @@
-use Rattle.std.proofs.Common.{◌∙◌, List, ap}
-use Rattle.office_seen.specs.Owners.{team_at}
-use Rattle.office_types.specs.declared.state.GrantedBlock.{GrantedBlock}
+use Rattle.page_numbers.proofs.Common.{◌∙◌, List, ap, team_at, GrantedBlock}
 use Rattle.page_numbers.proofs.near.Blocks.near.Goals as goal
 
 pub returns : goal.returns

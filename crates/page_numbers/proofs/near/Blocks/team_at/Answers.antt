@@ -1,4 +1,4 @@
-use Rattle.std.proofs.Common.{◌∙◌, arith}
+use Rattle.page_numbers.proofs.Common.{◌∙◌, arith}
 use Rattle.page_numbers.proofs.near.Blocks.team_at.Goals as goal
 
 pub returns : goal.returns

@@ -1,6 +1,4 @@
-use Rattle.std.proofs.Common.{◌≡◌, sym, subst, ◌∙◌, arith}
-use Rattle.sqlite.specs.Held.{state}
-use Rattle.sqlite.specs.State.{HasCleanDisk}
+use Rattle.store.proofs.Common.{◌≡◌, sym, subst, ◌∙◌, arith, state, HasCleanDisk}
 use Rattle.store.specs.Calls.{KeepsStatistics, LeavesStatistics}
 use Rattle.store.specs.Holding.{Holding}
 use Rattle.store.specs.Office.{OfficeView}

@@ -1,8 +1,4 @@
-use Rattle.std.proofs.Common.{◌≡◌, inl, inr, refl, sym, subst, ◌∙◌, arith}
-use Rattle.sqlite.specs.Held.{state}
-use Rattle.sqlite.specs.State.{HasCleanDisk}
-use Rattle.office_types.specs.declared.state.Office.{Office}
-use Rattle.store_tables.specs.Tables.{tables_of}
+use Rattle.store.proofs.Common.{◌≡◌, inl, inr, refl, sym, subst, ◌∙◌, arith, state, HasCleanDisk, Office, tables_of}
 use Rattle.store.specs.Calls.{KeepsStatistics, LeavesStatistics}
 use Rattle.store.specs.Holding.{Holding}
 use Rattle.store.specs.Looking.{IsShown, bytes_of}

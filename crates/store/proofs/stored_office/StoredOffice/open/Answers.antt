@@ -1,9 +1,6 @@
-use Rattle.std.proofs.Common.{[], inl, inr, not, refl, sym, ap, subst, ◌∙◌, rules}
-use Rattle.sqlite.specs.Effect.{Database}
-use Rattle.sqlite.specs.Held.{state}
-use Rattle.store_tables.specs.Schema.{IsCurrentSchema, schema_13, schema_9}
-use Rattle.store_migrate.specs.FormSchema.{schema_of}
-use Rattle.store_migrate.specs.declared.forms.SchemaForm.TheVariants.{Rows}
+use Rattle.store.proofs.Common.{[], inl, inr, not, refl, sym, ap, subst, ◌∙◌, rules, Database, state, IsCurrentSchema}
+use Rattle.store.proofs.Common.{schema_13, schema_of, Rows}
+use Rattle.store_tables.specs.Schema.{schema_9}
 use Rattle.store.specs.Holding.{Keeps}
 use Rattle.store.specs.Opening.{HasOffice, HasTables, MayComplete}
 use Rattle.store.proofs.TablesInForm.{completed, left_in_form, office_in_form, schema_in_form, statistics_completed}

@@ -1,9 +1,7 @@
-use Rattle.std.proofs.Common.{◌≡◌, ◌+◌, ◌<◌, ◌++◌, ◌∷◌, [], length, take, refl, sym, ap, subst, ◌∙◌, arith, take_all}
-use Rattle.std.specs.Prelude.{All, IsErr, IsTrue}
+use Rattle.store.proofs.Common.{◌≡◌, ◌+◌, ◌++◌, ◌∷◌, [], length, take, refl, sym, ap, subst, ◌∙◌, arith, All, IsErr}
+use Rattle.store.proofs.Common.{IsTrue, All-nil, state, HasCleanDisk}
+use Rattle.std.proofs.Common.{◌<◌, take_all}
 use Rattle.std.proofs.lemmas.List.{take_more}
-use Rattle.std.proofs.lemmas.List.Elements.{All-nil}
-use Rattle.sqlite.specs.Held.{state}
-use Rattle.sqlite.specs.State.{HasCleanDisk}
 use Rattle.store.specs.Holding.{Keeps}
 use Rattle.store.specs.Headline.{HasRunOnTables}
 use Rattle.store.specs.Running.{FailsBy, IsNoProfile, answered_of}

@@ -1,10 +1,7 @@
-use Rattle.std.proofs.Common.{◌≡◌, ◌≤◌, List, length, take}
-use Rattle.std.specs.Prelude.{All, IsErr, IsTrue}
+use Rattle.store.proofs.Common.{◌≡◌, List, length, take, All, IsErr, IsTrue, state, HasCleanDisk, Answered}
+use Rattle.std.proofs.Common.{◌≤◌}
 use Rattle.std.specs.Vec.{vec_capacity, vec_len}
-use Rattle.sqlite.specs.Held.{state}
-use Rattle.sqlite.specs.State.{HasCleanDisk}
 use Rattle.sqlite_trees.specs.View.{doubt}
-use Rattle.office_history.specs.History.{Answered}
 use Rattle.store.specs.Holding.{Holding}
 use Rattle.store.specs.Headline.{HasRunOnTables}
 use Rattle.store.specs.Opening.{HasTables}

@@ -1,7 +1,4 @@
-use Rattle.std.proofs.Common.{◌≡◌, inl, inr, refl, sym, subst, ◌∙◌, arith}
-use Rattle.sqlite.specs.Held.{state}
-use Rattle.sqlite.specs.State.{HasCleanDisk}
-use Rattle.office_types.specs.declared.state.Office.{Office}
+use Rattle.store.proofs.Common.{◌≡◌, inl, inr, refl, sym, subst, ◌∙◌, arith, state, HasCleanDisk, Office}
 use Rattle.store.specs.Calls.{KeepsStatistics, LeavesStatistics}
 use Rattle.store.specs.Holding.{Holding}
 use Rattle.store.specs.Office.{OfficeView}

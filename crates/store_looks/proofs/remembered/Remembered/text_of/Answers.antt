@@ -1,5 +1,4 @@
-use Rattle.std.proofs.Common.{sym, subst}
-use Rattle.std.specs.Option.{option_map}
+use Rattle.store_looks.proofs.Common.{sym, subst, option_map}
 use Rattle.office_types.specs.declared.look.Look.{Look}
 use Rattle.store_looks.specs.Seen.{IsTextOn}
 use Rattle.store_looks.proofs.Remembering.{look_on}

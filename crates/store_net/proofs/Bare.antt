@@ -1,31 +1,17 @@
 -- Live messages without value texts, or without receivers too, and their table.
-use Rattle.std.proofs.Common.{◌≡◌, ◌∙◌, ℕ, suc, ◌<◌, List, [], ◌∷◌, map, length, Option, Some, None, refl, sym, ap}
-use Rattle.std.proofs.Common.{subst, length-append}
-use Rattle.std.proofs.lemmas.List.{length-map}
-use Rattle.std.specs.List.{AllByRecursion, flat_map}
+use Rattle.store_net.proofs.Common.{◌≡◌, ◌∙◌, ℕ, suc, ◌<◌, List, [], ◌∷◌, map, length, Option, Some, None, refl, sym}
+use Rattle.store_net.proofs.Common.{ap, subst, length-map, AllByRecursion, flat_map, Less, Row, by_number, Message}
+use Rattle.store_net.proofs.Common.{Sheet, Signal, table_of, live_messages, sheet_with, Head, LiveMessage, Net, Tables}
+use Rattle.store_net.proofs.Common.{IsSelected, has_net_and_number, receivers_order, receivers_shown, AreListed}
+use Rattle.store_net.proofs.Common.{AreShown, AreSignalsOf, live_rows, bare_signal, HasRows, IsNetAt, ShowsLive}
+use Rattle.store_net.proofs.Common.{ShowsPart, ShowsReceiver, placed_part, selected_shown}
+use Rattle.std.proofs.Common.{length-append}
 use Rattle.std.specs.List.Sorted.{IsStrictlySortedBy}
-use Rattle.std.specs.declared.cmp.Ordering.TheVariants.{Less}
-use Rattle.sqlite.specs.Order.{Row}
-use Rattle.dbc_sheet.specs.Messages.{by_number}
-use Rattle.dbc_sheet.specs.declared.message.Message.{Message}
-use Rattle.dbc_sheet.specs.declared.sheet.Sheet.{Sheet}
-use Rattle.dbc_sheet.specs.declared.signal.Signal.{Signal}
-use Rattle.office_views.specs.Table.{message_row, signal_count, table_of}
-use Rattle.office_types.specs.State.{live_messages, sheet_with}
-use Rattle.office_types.specs.declared.state.Head.{Head}
-use Rattle.office_types.specs.declared.state.LiveMessage.{LiveMessage}
-use Rattle.office_types.specs.declared.state.Net.{Net}
-use Rattle.store_tables.specs.Tables.{Tables}
-use Rattle.store_tables.specs.Selected.{IsSelected}
-use Rattle.store_statements.specs.Rows.{has_net_and_number}
-use Rattle.store_statements.specs.Shown.{receivers_order, receivers_shown}
-use Rattle.store_rows.specs.Listed.{AreListed, AreShown}
-use Rattle.store_rows.specs.Live.{AreSignalsOf, IsReceiverRow, live_rows, parts_of, bare_signal}
-use Rattle.store_rows.specs.NetIn.{HasRows, IsNetAt}
-use Rattle.store_rows.specs.SignalShowing.{PlacesAscend, ShowsLive, ShowsPart, ShowsPlaced, ShowsReceiver}
+use Rattle.office_views.specs.Table.{message_row, signal_count}
+use Rattle.store_rows.specs.Live.{IsReceiverRow, parts_of}
+use Rattle.store_rows.specs.SignalShowing.{PlacesAscend, ShowsPlaced}
 use Rattle.store_rows.proofs.LiveRows.{of_number, receivers_total}
-use Rattle.store_rows.proofs.PartShown.{IsPart, Part, one_shown, placed_part}
-use Rattle.store_rows.proofs.Reading.{selected_shown}
+use Rattle.store_rows.proofs.PartShown.{IsPart, Part, one_shown}
 use Rattle.store_net.specs.SignalParts.{live_in}
 use Rattle.store_net.specs.Texts.{live_table}
 use Rattle.store_net.specs.declared.signal_parts.SignalParts.{SignalParts}

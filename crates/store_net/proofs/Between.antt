@@ -1,25 +1,17 @@
 -- The queries on a range of numbers show the identifiers of live messages, and the held ones, that are in it.
-use Rattle.std.proofs.Common.{◌≡◌, ◌∙◌, ℕ, pos, Bool, true, false, cond, ◌&&◌, List, [], ◌∷◌, filter, map, refl, sym}
-use Rattle.std.proofs.Common.{ap, subst}
-use Rattle.std.specs.List.{AllByRecursion}
-use Rattle.std.specs.Ordering.{is_ge, is_le, nat_cmp}
-use Rattle.sqlite.specs.declared.types.Value.TheVariants.{Int}
-use Rattle.sqlite.specs.Order.{Row, column, value_cmp}
-use Rattle.can_id.specs.Ident.{IsIdentifier, dbc_number}
-use Rattle.can_id.specs.declared.ident.Ident.{Ident}
-use Rattle.office_types.specs.declared.state.LiveMessage.{LiveMessage}
-use Rattle.store_tables.specs.Selected.{IsSelected}
-use Rattle.store_tables.specs.Tables.{Tables}
-use Rattle.store_statements.specs.Rows.{has_number_between, is_between, is_of_net}
-use Rattle.store_statements.specs.Shown.{held_order, held_shown, msg_numbers_order, msg_numbers_shown, msgs_order}
-use Rattle.store_rows.specs.Listed.{AreListed, AreShown}
-use Rattle.store_rows.specs.Live.{AreLiveRows, IsMsgRow, live_rows}
+use Rattle.store_net.proofs.Common.{◌≡◌, ◌∙◌, ℕ, pos, Bool, true, false, cond, List, [], ◌∷◌, filter, map, refl, sym}
+use Rattle.store_net.proofs.Common.{ap, subst, AllByRecursion, nat_cmp, Int, Row, column, value_cmp, IsIdentifier}
+use Rattle.store_net.proofs.Common.{dbc_number, Ident, LiveMessage, IsSelected, Tables, is_of_net, msgs_order}
+use Rattle.store_net.proofs.Common.{AreListed, AreShown, AreLiveRows, IsMsgRow, live_rows, int_test, kept_listed}
+use Rattle.store_net.proofs.Common.{both_tests, selected_shown}
+use Rattle.std.proofs.Common.{◌&&◌}
+use Rattle.std.specs.Ordering.{is_ge, is_le}
+use Rattle.store_statements.specs.Rows.{has_number_between, is_between}
+use Rattle.store_statements.specs.Shown.{held_order, held_shown, msg_numbers_order, msg_numbers_shown}
 use Rattle.store_rows.specs.Showing.{ShowsIdent}
 use Rattle.store_rows.specs.Rows.{IsHeldRow}
-use Rattle.store_rows.proofs.Keys.{held_total, int_test}
-use Rattle.store_rows.proofs.Listing.{kept_listed}
+use Rattle.store_rows.proofs.Keys.{held_total}
 use Rattle.store_rows.proofs.LiveRows.{msgs_total}
-use Rattle.store_rows.proofs.Reading.{both_tests, selected_shown}
 use Rattle.store_net.specs.Numbers.{HasTaken, idents_between, is_in, live_idents}
 use Rattle.store_net.specs.Parts.{HasHeld}
 use Rattle.store_net.specs.declared.ranges.TakenTable.{TakenTable}

@@ -1,8 +1,6 @@
 -- Live messages put together one after the other, of the rows of their heads.
-use Rattle.std.proofs.Common.{◌≡◌, ℕ, ◌<◌, zero, suc, List, [], ◌∷◌, ◌++◌, length, take, get_or, refl, sym, ap, subst}
-use Rattle.std.proofs.Common.{arith}
-use Rattle.std.specs.List.{AllByRecursion}
-use Rattle.store_rows.specs.Listed.{AreShown}
+use Rattle.store_net.proofs.Common.{◌≡◌, ℕ, ◌<◌, zero, suc, List, [], ◌∷◌, ◌++◌, length, take, get_or, refl, sym, ap}
+use Rattle.store_net.proofs.Common.{subst, arith, AllByRecursion, AreShown}
 
 module _ {A X : Type 0} (R : A → X → Type 0) (P : A → Type 0) where
   pub record IsNext (items : List A) (at : ℕ) (row : X) : Type 0 where

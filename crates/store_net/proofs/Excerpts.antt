@@ -1,24 +1,17 @@
 -- What is read part by part is the network's.
-use Rattle.std.proofs.Common.{◌≡◌, ℕ, List, [], Option, Some, None, Result, Ok, Err, sym, subst}
-use Rattle.std.specs.Prelude.{IfOk, IfSome}
-use Rattle.std.specs.Str.{bytes_eq}
+use Rattle.store_net.proofs.Common.{◌≡◌, ℕ, List, [], Option, Some, None, sym, subst, IfSome, bytes_eq, Head}
+use Rattle.store_net.proofs.Common.{LiveMessage, Net, in_last, live_named, was_released, Tables, net_row, net_order}
+use Rattle.store_net.proofs.Common.{AreListed, HasRows, IsNetAt, RestRows, IsNetRow, IsRowOf, none_listed}
+use Rattle.std.proofs.Common.{Result, Ok, Err}
+use Rattle.std.specs.Prelude.{IfOk}
 use Rattle.std.proofs.lemmas.List.Elements.{All-contains}
 use Rattle.office_facts.specs.FactsOf.{message_in}
 use Rattle.office_facts.specs.Scope.{Scope}
 use Rattle.office_facts.specs.declared.excerpt.Excerpt.{Excerpt}
-use Rattle.office_types.specs.declared.state.Head.{Head}
-use Rattle.office_types.specs.declared.state.LiveMessage.{LiveMessage}
-use Rattle.office_types.specs.declared.state.Net.{Net}
 use Rattle.office_law.proofs.Lists.{Contains-found}
-use Rattle.office_rules.specs.Facts.{in_last, live_named, message_facts, was_released}
+use Rattle.office_rules.specs.Facts.{message_facts}
 use Rattle.office_rules.specs.Kept.{IsNet}
-use Rattle.store_tables.specs.Tables.{Tables}
-use Rattle.store_statements.specs.Rows.{net_row}
-use Rattle.store_statements.specs.Shown.{net_order}
-use Rattle.store_rows.specs.Listed.{AreListed}
-use Rattle.store_rows.specs.NetIn.{HasRows, IsNetAt, IsNetIn, RestRows}
-use Rattle.store_rows.specs.Rows.{IsNetRow, IsRowOf}
-use Rattle.store_rows.proofs.Listing.{none_listed}
+use Rattle.store_rows.specs.NetIn.{IsNetIn}
 use Rattle.store_net.specs.Excerpts.{ArePartsIn, IsExcerptIn, IsReadIn, MatchBoth}
 use Rattle.store_net.specs.Parts.{HasHead}
 

@@ -1,27 +1,22 @@
 -- Rows whose rowids are from 1 to a number are at most so many.
-use Rattle.std.proofs.Common.{◌≡◌, ◌∙◌, ℕ, ◌+◌, ◌<◌, ◌≤◌, pos, negsuc, Bool, true, false, cond, List, [], ◌∷◌, filter}
-use Rattle.std.proofs.Common.{length, refl, sym, ap, subst, arith, int_cmp, nat_cmp}
-use Rattle.std.specs.Prelude.{◌==◌, min, IsTrue}
-use Rattle.std.specs.List.{AllByRecursion}
+use Rattle.store_net.proofs.Common.{◌≡◌, ◌∙◌, ℕ, ◌+◌, ◌<◌, ◌≤◌, pos, Bool, true, false, cond, List, [], ◌∷◌, filter}
+use Rattle.store_net.proofs.Common.{length, refl, sym, ap, subst, arith, ◌==◌, min, IsTrue, AllByRecursion, Ordering}
+use Rattle.store_net.proofs.Common.{Less, eqb-true, nat_tests, length-map, Row, value_cmp, Int, Text, Blob, IsOffice}
+use Rattle.store_net.proofs.Common.{tables_of, has_rowid_below, msg_entries, int_test}
+use Rattle.std.proofs.Common.{negsuc, int_cmp, nat_cmp}
 use Rattle.std.specs.Ordering.{is_gt, is_lt}
-use Rattle.std.specs.declared.cmp.Ordering.{Ordering}
-use Rattle.std.specs.declared.cmp.Ordering.TheVariants.{Less, Equal, Greater}
-use Rattle.std.proofs.lemmas.Bool.{eqb-true}
-use Rattle.std.proofs.lemmas.Bool.Decides.{nat_tests}
-use Rattle.std.proofs.lemmas.List.{length-map}
-use Rattle.sqlite.specs.Order.{Row, value_cmp}
+use Rattle.std.specs.declared.cmp.Ordering.TheVariants.{Equal, Greater}
 use Rattle.sqlite.specs.declared.types.Value.{Value}
-use Rattle.sqlite.specs.declared.types.Value.TheVariants.{Null, Int, Real, Text, Blob}
+use Rattle.sqlite.specs.declared.types.Value.TheVariants.{Null, Real}
 use Rattle.sqlite_value.proofs.OrderLemmas.{value_cmp-Int}
 use Rattle.sqlite_trees.specs.Tree.{IsTable, rowid}
 use Rattle.sqlite_trees.specs.View.{IsShaped, is_int}
 use Rattle.sqlite_trees.specs.declared.store.Shape.TheVariants as shape
 use Rattle.sqlite.specs.State.{State}
-use Rattle.store_tables.specs.Tables.{IsOffice, tables_of, values}
+use Rattle.store_tables.specs.Tables.{values}
 use Rattle.store_tables.proofs.Changing.{shaped_before}
 use Rattle.store_tables.proofs.TableIndices.{msg, msg_only, msg_there}
-use Rattle.store_statements.specs.Rows.{has_rowid_above, has_rowid_below, is_below, msg_entries}
-use Rattle.store_rows.proofs.Keys.{int_test}
+use Rattle.store_statements.specs.Rows.{has_rowid_above, is_below}
 
 not_less : (a b : ℕ) → is_lt (nat_cmp a b) ≡ false → b ≤ a
 not_less a b e = by_order (nat_cmp a b) refl e

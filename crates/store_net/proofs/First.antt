@@ -1,10 +1,7 @@
 -- The first of the rows that a query shows, and its item.
-use Rattle.std.proofs.Common.{◌≡◌, List, [], ◌∷◌, Option, Some, None, slice_get, refl, sym, ap, subst, ◌∙◌}
-use Rattle.office_types.specs.declared.state.Head.{Head}
-use Rattle.sqlite.specs.Order.{Row}
-use Rattle.store_rows.specs.Listed.{AreShown}
+use Rattle.store_net.proofs.Common.{◌≡◌, List, Option, Some, None, slice_get, refl, ap, ◌∙◌, Head, Row, AreShown}
+use Rattle.store_net.proofs.Common.{none_first, some_first}
 use Rattle.store_rows.specs.Showing.{ShowsHead}
-use Rattle.store_rows.proofs.First.{none_first, some_first}
 use Rattle.store_net.specs.Parts.{heads}
 
 first_head : (head : Option Head) → slice_get (heads head) 0 ≡ head

@@ -1,25 +1,15 @@
 -- A name is live if the query on it shows a row, and the query that counts shows how many live messages there are.
-use Rattle.std.proofs.Common.{◌≡◌, ◌≤◌, ◌∙◌, ℕ, suc, ◌<◌, ◌^◌, pos, Bool, true, false, cond, not, List, [], ◌∷◌, filter}
-use Rattle.std.proofs.Common.{length, Some, refl, sym, ap, arith}
-use Rattle.std.specs.Prelude.{◌==◌, ◌||◌, min, slice_get}
-use Rattle.std.specs.List.{list_any}
-use Rattle.std.specs.Str.{bytes_eq}
+use Rattle.store_net.proofs.Common.{◌≡◌, ◌≤◌, ◌∙◌, ℕ, suc, ◌<◌, pos, Bool, true, false, cond, not, List, [], ◌∷◌}
+use Rattle.store_net.proofs.Common.{filter, length, Some, refl, sym, ap, arith, ◌==◌, ◌||◌, min, list_any, bytes_eq}
+use Rattle.store_net.proofs.Common.{length_permutation, Int, Row, column, has_name, LiveMessage, live_name, IsSelected}
+use Rattle.store_net.proofs.Common.{Tables, is_of_net, AreLiveRows, IsMsgRow, live_rows, ShowsLive, one_number}
+use Rattle.std.proofs.Common.{◌^◌}
+use Rattle.std.specs.Prelude.{slice_get}
 use Rattle.std.proofs.lemmas.Bool.{ne_eqb}
-use Rattle.std.proofs.lemmas.List.Sorted.{length_permutation}
-use Rattle.sqlite.specs.declared.types.Value.TheVariants.{Int}
-use Rattle.sqlite.specs.Order.{Row, column}
 use Rattle.sqlite_sql.specs.Aggregate.{count}
-use Rattle.dbc_words.specs.Named.{has_name}
-use Rattle.office_types.specs.declared.state.LiveMessage.{LiveMessage}
-use Rattle.office_rules.specs.Facts.{live_name}
-use Rattle.store_tables.specs.Selected.{IsSelected}
-use Rattle.store_tables.specs.Tables.{Tables}
-use Rattle.store_statements.specs.Rows.{has_net_and_name, is_of_net}
+use Rattle.store_statements.specs.Rows.{has_net_and_name}
 use Rattle.store_statements.specs.Shown.{msg_named_order, msg_named_shown}
-use Rattle.store_rows.specs.Live.{AreLiveRows, IsMsgRow, live_rows}
-use Rattle.store_rows.specs.SignalShowing.{ShowsLive}
 use Rattle.store_rows.proofs.LiveRows.{named_are_shown}
-use Rattle.store_rows.proofs.Values.{one_number}
 use Rattle.store_net.proofs.EachMessage.{count_shown}
 
 not_none : (n : ℕ) → not (suc n == 0) ≡ true

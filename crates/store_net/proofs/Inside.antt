@@ -1,24 +1,18 @@
 -- The taken identifiers that were read of a team's blocks are as good as all, where only numbers of the blocks count.
-use Rattle.std.proofs.Common.{◌≡◌, ◌∙◌, ℕ, ◌+◌, ◌≤◌, Bool, true, false, cond, List, [], ◌∷◌, ◌++◌, filter, Option, Some}
-use Rattle.std.proofs.Common.{None, refl, sym, ap, append-nil, arith}
-use Rattle.std.specs.Prelude.{◌==◌, ◌||◌, min, nat_le}
-use Rattle.std.specs.List.{AllByRecursion, cons_option, filter_map, flat_map, list_any}
-use Rattle.std.proofs.lemmas.Bool.{eqb-true, false≢true, leb-true}
-use Rattle.std.proofs.lemmas.Bool.Decides.{nat_tests}
+use Rattle.store_net.proofs.Common.{◌≡◌, ◌∙◌, ℕ, ◌+◌, ◌≤◌, Bool, true, false, cond, List, [], ◌∷◌, ◌++◌, filter, Option}
+use Rattle.store_net.proofs.Common.{Some, None, refl, sym, ap, append-nil, arith, ◌==◌, ◌||◌, min, nat_le}
+use Rattle.store_net.proofs.Common.{AllByRecursion, filter_map, flat_map, list_any, eqb-true, false≢true, nat_tests}
+use Rattle.store_net.proofs.Common.{IsIdentifier, dbc_number, ident_of, IdentForm, Standard, Extended, EXTENDED_FLAG}
+use Rattle.store_net.proofs.Common.{GREATEST_EXTENDED, Ident, Block, LiveMessage, group_of, is_wanted, number_in}
+use Rattle.store_net.proofs.Common.{same_ident, AgreeInside}
+use Rattle.std.specs.List.{cons_option}
+use Rattle.std.proofs.lemmas.Bool.{leb-true}
 use Rattle.std.proofs.lemmas.List.Concat.{flat_map-append}
 use Rattle.std.proofs.lemmas.List.Folds.{list_any-append}
-use Rattle.can_id.specs.Ident.{IsIdentifier, dbc_number, ident_of}
-use Rattle.can_id.specs.declared.form.IdentForm.{IdentForm}
-use Rattle.can_id.specs.declared.form.IdentForm.TheVariants.{Standard, Extended}
-use Rattle.can_id.specs.declared.form.TheConstants.{EXTENDED_FLAG, GREATEST_EXTENDED}
-use Rattle.can_id.specs.declared.ident.Ident.{Ident}
 use Rattle.can_id.specs.declared.ident.Ident.TheVariants as id
 use Rattle.office_types.specs.Block.{in_block}
 use Rattle.office_types.specs.Free.{is_taken}
-use Rattle.office_types.specs.declared.block.Block.{Block}
-use Rattle.office_types.specs.declared.state.LiveMessage.{LiveMessage}
-use Rattle.office_rules.specs.Facts.{group_of, has_ident, is_wanted, lies_in, number_in, same_ident}
-use Rattle.office_facts.specs.By.{AgreeInside}
+use Rattle.office_rules.specs.Facts.{has_ident, lies_in}
 use Rattle.store_rows.proofs.Keys.{and_left, and_right}
 use Rattle.store_net.specs.Numbers.{dbc_of, idents_between, idents_inside, is_in, live_idents}
 

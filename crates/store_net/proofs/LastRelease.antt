@@ -1,17 +1,10 @@
 -- The release of a number, and the last one, in the list of all.
-use Rattle.std.proofs.Common.{◌≡◌, ◌∙◌, ◌==◌, ◌+◌, ◌-◌, ◌<◌, ℕ, zero, suc, Bool, true, false, cond, List, [], ◌∷◌, ◌++◌}
-use Rattle.std.proofs.Common.{length, take, take_all, Option, Some, None, slice_get, refl, sym, ap, arith}
-use Rattle.std.specs.Prelude.{find}
-use Rattle.std.specs.Option.{option_map}
-use Rattle.std.proofs.lemmas.Bool.Decides.{nat_tests}
-use Rattle.std.proofs.lemmas.List.{take_more}
+use Rattle.store_net.proofs.Common.{◌≡◌, ◌∙◌, ◌+◌, ◌<◌, ℕ, zero, suc, Bool, true, false, cond, List, [], ◌∷◌, ◌++◌}
+use Rattle.store_net.proofs.Common.{length, take, take_all, Option, Some, None, slice_get, refl, sym, ap, arith, find}
+use Rattle.store_net.proofs.Common.{option_map, nat_tests, take_more, Ident, Sheet, in_last, Net, numbered}
+use Rattle.std.proofs.Common.{◌==◌, ◌-◌}
 use Rattle.std.proofs.lemmas.Option.{get_or_from_slice_get, slice_get_within}
 use Rattle.std.proofs.Math.Seq.{take-nil}
-use Rattle.can_id.specs.declared.ident.Ident.{Ident}
-use Rattle.dbc_sheet.specs.declared.sheet.Sheet.{Sheet}
-use Rattle.office_rules.specs.Facts.{in_last}
-use Rattle.office_types.specs.declared.state.Net.{Net}
-use Rattle.store_rows.specs.Rows.{numbered}
 use Rattle.store_net.specs.NetParts.{HasLast}
 use Rattle.store_net.specs.Parts.{releases_in}
 use Rattle.store_net.specs.Texts.{release_at, release_has}

@@ -1,3 +1,4 @@
+pub mod Common
 pub mod First
 pub mod Whole
 pub mod LiveSheet

@@ -1,33 +1,19 @@
 -- A sheet that is built of the live messages is the live sheet.
-use Rattle.std.proofs.Common.{◌≡◌, ℕ, ◌+◌, ◌<◌, List, [], ◌∷◌, ◌++◌, map, length, get_or, drop, Bool, true, false, cond}
-use Rattle.std.proofs.Common.{find, Option, Some, None, IsPermutation, add-one, refl, sym, ap, subst, ◌∙◌}
-use Rattle.std.specs.List.{AllByRecursion}
-use Rattle.std.specs.Str.{bytes_eq}
-use Rattle.std.specs.Option.{option_map}
+use Rattle.store_net.proofs.Common.{◌≡◌, ℕ, ◌+◌, ◌<◌, List, [], ◌∷◌, ◌++◌, map, length, get_or, drop, Bool, true, false}
+use Rattle.store_net.proofs.Common.{cond, Option, Some, None, IsPermutation, add-one, refl, sym, ap, subst, ◌∙◌}
+use Rattle.store_net.proofs.Common.{AllByRecursion, bytes_eq, option_map, Ordering, Less, put, dbc_number, by_number}
+use Rattle.store_net.proofs.Common.{has_number, Message, Sheet, message_chart, live_messages, sheet_with, Head}
+use Rattle.store_net.proofs.Common.{LiveMessage, Net, Tables, msgs_order, Row, AreShown, IsMsgRow, HasRows, IsNetAt}
+use Rattle.store_net.proofs.Common.{live_named}
+use Rattle.std.proofs.Common.{find}
 use Rattle.std.specs.List.Sorted.{IsStrictlySortedBy}
-use Rattle.std.specs.declared.cmp.Ordering.{Ordering}
-use Rattle.std.specs.declared.cmp.Ordering.TheVariants.{Less}
 use Rattle.std.proofs.Math.Seq.{drop-cons}
-use Rattle.base.specs.Keyed.{put}
-use Rattle.can_id.specs.Ident.{dbc_number}
-use Rattle.dbc_sheet.specs.Messages.{AreMessages, by_number, has_number, number_of}
-use Rattle.dbc_sheet.specs.declared.message.Message.{Message}
-use Rattle.dbc_sheet.specs.declared.sheet.Sheet.{Sheet}
+use Rattle.dbc_sheet.specs.Messages.{AreMessages, number_of}
 use Rattle.dbc_grammar.proofs.AscendingUnique.{one_ascending}
 use Rattle.dbc_read.proofs.Putting.{one_put}
-use Rattle.office_views.specs.Message.{message_chart}
-use Rattle.office_types.specs.State.{live_messages, sheet_of, sheet_with}
-use Rattle.office_types.specs.declared.state.Head.{Head}
-use Rattle.office_types.specs.declared.state.LiveMessage.{LiveMessage}
-use Rattle.office_types.specs.declared.state.Net.{Net}
-use Rattle.store_tables.specs.Tables.{Tables}
-use Rattle.store_statements.specs.Shown.{msgs_order}
-use Rattle.sqlite.specs.Order.{Row}
-use Rattle.store_rows.specs.Listed.{AreShown}
-use Rattle.store_rows.specs.Live.{IsMsgRow, msg_values}
-use Rattle.store_rows.specs.NetIn.{HasRows, IsNetAt}
+use Rattle.office_types.specs.State.{sheet_of}
+use Rattle.store_rows.specs.Live.{msg_values}
 use Rattle.store_rows.proofs.Keys.{number_order}
-use Rattle.office_rules.specs.Facts.{live_named}
 use Rattle.store_net.specs.Texts.{live_chart}
 use Rattle.store_net.proofs.Whole.{head_in}
 

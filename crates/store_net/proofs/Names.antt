@@ -1,42 +1,32 @@
 -- The list of networks: the names that a query of all networks shows are those of the networks, in order, and so are
 -- the lines that are written of them.
-use Rattle.std.proofs.Common.{◌≡◌, ◌<◌, ◌≤◌, ◌+◌, ℕ, suc, List, [], ◌∷◌, ◌++◌, map, length, take, take_all, get_or}
-use Rattle.std.proofs.Common.{Bool, true, false, cond, not, ◌||◌, Some, None, refl, sym, ap, subst, ◌∙◌, arith}
-use Rattle.std.specs.Prelude.{IsPermutation, filter, find}
-use Rattle.std.specs.List.{AllByRecursion, list_any}
+use Rattle.store_net.proofs.Common.{◌≡◌, ◌<◌, ◌≤◌, ◌+◌, ℕ, suc, List, [], ◌∷◌, ◌++◌, map, length, take, take_all}
+use Rattle.store_net.proofs.Common.{get_or, Bool, true, false, cond, not, Some, None, refl, sym, ap, subst, ◌∙◌, arith}
+use Rattle.store_net.proofs.Common.{find, AllByRecursion, list_any, is_eq, bytes_eq, Less, false≢true, length-map}
+use Rattle.store_net.proofs.Common.{length_permutation, Row, column, value_cmp, Text, Sheet, Head, Net, Tables}
+use Rattle.store_net.proofs.Common.{IsSelected, frozen_row, is_of_net, net_row, net_order, nets_text, AreListed}
+use Rattle.store_net.proofs.Common.{AreShown, IsNetAt, RestRows, IsFrozenRow, IsNetRow, IsRowOf, numbered, IsNamed}
+use Rattle.store_net.proofs.Common.{releases_total, none_listed, both_tests, selected_shown}
+use Rattle.std.proofs.Common.{◌||◌}
+use Rattle.std.specs.Prelude.{IsPermutation, filter}
 use Rattle.std.specs.List.Sorted.{IsStrictlySortedBy}
-use Rattle.std.specs.Ordering.{is_eq}
-use Rattle.std.specs.Str.{bytes_eq}
-use Rattle.std.specs.declared.cmp.Ordering.TheVariants.{Less}
-use Rattle.std.proofs.lemmas.Bool.{false≢true}
-use Rattle.std.proofs.lemmas.List.{get_or-map, length-map}
+use Rattle.std.proofs.lemmas.List.{get_or-map}
 use Rattle.std.proofs.lemmas.List.Elements.{All-from_recursion}
-use Rattle.std.proofs.lemmas.List.Sorted.{length_permutation, IsPermutation-cons, IsPermutation-filter_both}
-use Rattle.std.proofs.lemmas.List.Sorted.{IsPermutation-refl, IsPermutation-sym, IsPermutation-trans}
+use Rattle.std.proofs.lemmas.List.Sorted.{IsPermutation-cons, IsPermutation-filter_both, IsPermutation-refl}
+use Rattle.std.proofs.lemmas.List.Sorted.{IsPermutation-sym, IsPermutation-trans}
 use Rattle.std.proofs.lemmas.Slice.Eq.{bytes_eq-Decides}
-use Rattle.sqlite.specs.Order.{Row, column, value_cmp}
-use Rattle.sqlite.specs.declared.types.Value.TheVariants.{Text}
 use Rattle.sqlite.proofs.Callers.{one_permutation}
 use Rattle.sqlite_trees.proofs.ListLemmas.{IsPermutation-filter}
 use Rattle.dbc_words.proofs.Naming.{bytes_eq-flip}
-use Rattle.dbc_sheet.specs.declared.sheet.Sheet.{Sheet}
 use Rattle.office_types.specs.State.{by_name}
-use Rattle.office_types.specs.declared.state.Head.{Head}
-use Rattle.office_types.specs.declared.state.Net.{Net}
 use Rattle.office_law.proofs.OrderedNets.{order_shows}
-use Rattle.store_tables.specs.Tables.{Tables}
-use Rattle.store_tables.specs.Selected.{IsSelected}
-use Rattle.store_statements.specs.Rows.{frozen_row, is_any, is_of_net, net_row}
-use Rattle.store_statements.specs.Shown.{net_names_order, net_names_shown, net_order, release_numbers_order}
-use Rattle.store_statements.specs.Shown.{release_numbers_shown}
+use Rattle.store_statements.specs.Rows.{is_any}
+use Rattle.store_statements.specs.Shown.{net_names_order, net_names_shown, release_numbers_order, release_numbers_shown}
 use Rattle.columns.proofs.Pieces.{items_more}
-use Rattle.office_views.specs.NetList.{line_of, net_line, nets_text}
-use Rattle.store_rows.specs.Listed.{AreListed, AreShown}
-use Rattle.store_rows.specs.NetIn.{IsNetAt, IsRestAt, RestRows, rest_of}
-use Rattle.store_rows.specs.Rows.{IsFrozenRow, IsNetRow, IsRowOf, numbered, IsNamed}
-use Rattle.store_rows.proofs.Keys.{net_total, other_net, own_text, releases_total, text_order}
-use Rattle.store_rows.proofs.Listing.{found_listed, none_listed}
-use Rattle.store_rows.proofs.Reading.{both_tests, selected_shown}
+use Rattle.office_views.specs.NetList.{line_of, net_line}
+use Rattle.store_rows.specs.NetIn.{IsRestAt, rest_of}
+use Rattle.store_rows.proofs.Keys.{net_total, other_net, own_text, text_order}
+use Rattle.store_rows.proofs.Listing.{found_listed}
 use Rattle.store_rows.proofs.Setting.{left_none, left_others}
 use Rattle.store_rows.proofs.Values.{one_text}
 use Rattle.store_net.specs.Nets.{AreKnownNets, AreNets}

@@ -1,10 +1,7 @@
 -- Worked examples of identifiers within ranges and in blocks, computed from the definitions.
-use Rattle.std.proofs.Common.{◌≡◌, List, [], ◌∷◌, None, refl}
+use Rattle.store_net.proofs.Common.{◌≡◌, List, [], ◌∷◌, None, refl, Standard, Extended, Ident, LiveMessage}
 use Rattle.std.specs.Prelude.{codes}
-use Rattle.can_id.specs.declared.form.IdentForm.TheVariants.{Standard, Extended}
-use Rattle.can_id.specs.declared.ident.Ident.{Ident}
 use Rattle.can_id.specs.declared.ident.Ident.TheVariants as id
-use Rattle.office_types.specs.declared.state.LiveMessage.{LiveMessage}
 use Rattle.store_net.specs.Numbers.{dbc_of, idents_between, idents_inside, live_idents}
 
 abbrev live_at : Ident → LiveMessage

@@ -1,21 +1,14 @@
 -- An excerpt with identifiers is the network's for a command that gives out a number.
-use Rattle.std.proofs.Common.{◌≡◌, ◌∙◌, ℕ, ◌+◌, Bool, List, ◌++◌, sym, ap, subst}
-use Rattle.std.specs.List.{AllByRecursion, filter_map}
-use Rattle.can_id.specs.Ident.{IsIdentifier}
-use Rattle.can_id.specs.declared.form.IdentForm.{IdentForm}
-use Rattle.can_id.specs.declared.form.TheConstants.{EXTENDED_FLAG, GREATEST_EXTENDED}
-use Rattle.can_id.specs.declared.ident.Ident.{Ident}
+use Rattle.store_net.proofs.Common.{◌≡◌, ◌∙◌, ℕ, ◌+◌, Bool, List, ◌++◌, sym, ap, subst, AllByRecursion, filter_map}
+use Rattle.store_net.proofs.Common.{IsIdentifier, IdentForm, EXTENDED_FLAG, GREATEST_EXTENDED, Ident, Block, Net}
+use Rattle.store_net.proofs.Common.{blocks_of, group_of, is_wanted, number_in, AgreeInside, NumberExcerpt}
 use Rattle.office_types.specs.Block.{block_form}
-use Rattle.office_types.specs.declared.block.Block.{Block}
 use Rattle.office_types.specs.declared.block.BlockForm.TheVariants.{Pgn}
 use Rattle.office_types.specs.declared.command.TakeIdent.{TakeIdent}
 use Rattle.office_types.specs.declared.command.TakePgn.{TakePgn}
-use Rattle.office_types.specs.declared.state.Net.{Net}
-use Rattle.office_rules.specs.Facts.{blocks_of, group_of, is_held, is_live, is_wanted, number_in, taken_groups}
-use Rattle.office_rules.specs.Facts.{taken_numbers}
-use Rattle.office_facts.specs.By.{AgreeInside, AreGroupFacts, AreIdentFacts}
+use Rattle.office_rules.specs.Facts.{is_held, is_live, taken_groups, taken_numbers}
+use Rattle.office_facts.specs.By.{AreGroupFacts, AreIdentFacts}
 use Rattle.office_facts.specs.FactsOf.{numbers_in}
-use Rattle.office_facts.specs.declared.excerpt.NumberExcerpt.{NumberExcerpt}
 use Rattle.store_net.specs.Excerpts.{HasNameAndRoom}
 use Rattle.store_net.specs.Numbers.{idents_between, idents_inside, live_idents}
 use Rattle.store_net.proofs.Inside.{groups_inside, numbers_inside}

@@ -1,29 +1,18 @@
 -- The release of a number, among the rows of all releases.
-use Rattle.std.proofs.Common.{◌≡◌, ◌==◌, ℕ, pos, List, [], ◌∷◌, Option, Some, None, Bool, true, false, cond, slice_get}
-use Rattle.std.proofs.Common.{refl, sym, ap, subst, ◌∙◌, arith}
-use Rattle.std.specs.Prelude.{filter, find}
-use Rattle.std.specs.Option.{option_map}
-use Rattle.std.specs.Ordering.{is_eq, nat_cmp}
-use Rattle.std.proofs.lemmas.Bool.Decides.{nat_tests}
-use Rattle.sqlite.specs.declared.types.Value.TheVariants.{Int, Blob}
-use Rattle.sqlite.specs.Order.{Row, column, value_cmp}
+use Rattle.store_net.proofs.Common.{◌≡◌, ℕ, pos, List, [], ◌∷◌, Option, Some, None, Bool, true, false, cond, slice_get}
+use Rattle.store_net.proofs.Common.{refl, sym, ap, subst, ◌∙◌, arith, find, option_map, is_eq, nat_cmp, nat_tests, Int}
+use Rattle.store_net.proofs.Common.{Blob, Row, column, value_cmp, Sheet, Net, Tables, IsSelected, frozen_row}
+use Rattle.store_net.proofs.Common.{has_net_and_number, is_of_net, AreListed, AreShown, IsNetAt, RestRows, IsFrozenRow}
+use Rattle.store_net.proofs.Common.{IsRowOf, numbered, int_test, releases_total, kept_listed, none_listed, both_tests}
+use Rattle.store_net.proofs.Common.{selected_shown, none_first, some_first}
+use Rattle.std.proofs.Common.{◌==◌}
+use Rattle.std.specs.Prelude.{filter}
 use Rattle.dbc_grammar.specs.Reads.{Reads}
-use Rattle.dbc_sheet.specs.declared.sheet.Sheet.{Sheet}
-use Rattle.office_types.specs.declared.state.Net.{Net}
-use Rattle.store_tables.specs.Tables.{Tables}
-use Rattle.store_tables.specs.Selected.{IsSelected, has_number}
-use Rattle.store_statements.specs.Rows.{frozen_row, has_net_and_number, is_of_net}
+use Rattle.store_tables.specs.Selected.{has_number}
 use Rattle.store_statements.specs.Shown.{release_order, release_shown, releases_order}
-use Rattle.store_rows.specs.Listed.{AreListed, AreShown}
-use Rattle.store_rows.specs.NetIn.{IsNetAt, RestRows}
-use Rattle.store_rows.specs.Rows.{IsFrozenRow, IsRowOf, numbered}
-use Rattle.store_rows.proofs.Keys.{int_test, releases_total}
-use Rattle.store_rows.proofs.Listing.{kept_listed, none_listed}
-use Rattle.store_rows.proofs.Reading.{both_tests, selected_shown}
 use Rattle.store_rows.proofs.Values.{one_blob}
 use Rattle.store_net.specs.Parts.{HasReleases, releases_in}
 use Rattle.store_net.specs.Texts.{release_at}
-use Rattle.store_rows.proofs.First.{none_first, some_first}
 
 -- what the row of a release shows
 abbrev ShowsBody : ℕ × Sheet → Row → Type 0

@@ -1,14 +1,10 @@
 -- Worked examples, computed from the definitions.
-use Rattle.std.proofs.Common.{◌≡◌, [], ◌∷◌, Some, None, codes, refl}
+use Rattle.store_net.proofs.Common.{◌≡◌, [], ◌∷◌, Some, None, refl, canonical_text, Message, Sheet, Head, Net}
+use Rattle.std.proofs.Common.{codes}
 use Rattle.std.specs.Fmt.{digits}
 use Rattle.bitlayout.specs.First.{first_answer}
 use Rattle.can_id.specs.declared.ident.Ident.TheVariants.{Std}
-use Rattle.dbc_grammar.specs.Canon.{canonical_text}
 use Rattle.dbc_sheet.specs.Sheet.{empty_sheet}
-use Rattle.dbc_sheet.specs.declared.message.Message.{Message}
-use Rattle.dbc_sheet.specs.declared.sheet.Sheet.{Sheet}
-use Rattle.office_types.specs.declared.state.Head.{Head}
-use Rattle.office_types.specs.declared.state.Net.{Net}
 use Rattle.store_net.specs.Parts.{heads}
 use Rattle.store_net.specs.Texts.{IsTextOf, live_chart, live_table, live_text, release_at}
 

@@ -1,23 +1,8 @@
 -- A network that is read part by part is the one that the tables have.
-use Rattle.std.proofs.Common.{◌≡◌, ℕ, List, [], length, Option, Some, None, refl, sym, ap, subst, ◌∙◌}
-use Rattle.std.specs.Option.{option_map}
-use Rattle.sqlite.specs.Effect.{Database}
-use Rattle.sqlite.specs.State.{State, Survives}
-use Rattle.sqlite.proofs.StateLemmas.{survives_then}
-use Rattle.can_id.specs.declared.ident.Ident.{Ident}
-use Rattle.dbc_sheet.specs.declared.sheet.Sheet.{Sheet}
-use Rattle.office_types.specs.declared.state.GrantedBlock.{GrantedBlock}
-use Rattle.office_types.specs.declared.state.Head.{Head}
-use Rattle.office_types.specs.declared.state.LiveMessage.{LiveMessage}
-use Rattle.office_types.specs.declared.state.Net.{Net}
-use Rattle.office_law.specs.Released.{with_releases}
-use Rattle.store_tables.specs.Tables.{Tables, tables_of}
-use Rattle.store_statements.specs.Rows.{net_row}
-use Rattle.store_statements.specs.Shown.{net_order}
-use Rattle.store_rows.specs.Listed.{AreListed}
-use Rattle.store_rows.specs.NetIn.{HasRows, IsNetAt, RestRows}
-use Rattle.store_rows.specs.Rows.{IsNetRow, IsRowOf}
-use Rattle.store_rows.proofs.Listing.{none_listed}
+use Rattle.store_net.proofs.Common.{◌≡◌, ℕ, List, [], length, Option, Some, None, refl, sym, ap, subst, ◌∙◌, option_map}
+use Rattle.store_net.proofs.Common.{Database, Ident, Sheet, GrantedBlock, Head, LiveMessage, Net, with_releases, Tables}
+use Rattle.store_net.proofs.Common.{tables_of, net_row, net_order, AreListed, HasRows, IsNetAt, RestRows, IsNetRow}
+use Rattle.store_net.proofs.Common.{IsRowOf, none_listed}
 use Rattle.store_net.specs.Counted.{HasAsMany}
 use Rattle.store_net.specs.NetParts.{outline}
 use Rattle.store_net.specs.Parts.{HasApprovals, HasBlocks, HasHead, HasHeld, HasReleases}

@@ -1,9 +1,7 @@
 -- All networks of the tables.
-use Rattle.std.specs.Prelude.{◌≡◌, ℕ, List, find}
+use Rattle.std.specs.Prelude.{ℕ, List, find}
 use Rattle.std.specs.List.Sorted.{IsStrictlySortedBy}
 use Rattle.std.specs.Str.{bytes_eq}
-use Rattle.sqlite.specs.Order.{Row, column}
-use Rattle.sqlite.specs.declared.types.Value.TheVariants.{Text}
 use Rattle.office_types.specs.State.{by_name}
 use Rattle.office_types.specs.declared.state.Net.{Net}
 use Rattle.store_tables.specs.Tables.{Tables}

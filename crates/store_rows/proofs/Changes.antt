@@ -1,43 +1,26 @@
 -- What each change makes of rows, and what it does at its network and in the book, agree.
-use Rattle.std.proofs.Common.{◌≡◌, ℕ, ◌+◌, ◌≤◌, ◌<◌, pos, true, false, not, ◌&&◌, List, [], ◌∷◌, ◌++◌, length, Option}
-use Rattle.std.proofs.Common.{Some, None, refl, sym, ap, subst, ◌∙◌, arith}
+use Rattle.store_rows.proofs.Common.{◌≡◌, ℕ, ◌+◌, ◌<◌, pos, true, false, not, ◌&&◌, List, [], ◌∷◌, ◌++◌, length, Option}
+use Rattle.store_rows.proofs.Common.{Some, None, refl, sym, ap, subst, ◌∙◌, arith, AllByRecursion, bytes_eq, is_eq}
+use Rattle.store_rows.proofs.Common.{nat_cmp, ordering_then, tied_itself, Less, Equal, Int, Text, Row, column}
+use Rattle.store_rows.proofs.Common.{value_cmp, value_cmp_total, put, text_cmp, IsIdentifier, dbc_number, Ident, Sheet}
+use Rattle.store_rows.proofs.Common.{form_number, is_spn, Spn, SpnBlock, SpnBook, GrantedBlock, Head, Net, NetAndBook}
+use Rattle.store_rows.proofs.Common.{Tables, has_text, has_number, net_row, block_row, held_row, spn_row, approval_row}
+use Rattle.store_rows.proofs.Common.{frozen_row, is_of_net, is_of_form, has_net_and_number, net_order, blocks_order}
+use Rattle.store_rows.proofs.Common.{blocks_of_form_order, held_order, spns_order, approvals_order, releases_order}
+use Rattle.std.proofs.Common.{◌≤◌}
 use Rattle.std.specs.Prelude.{filter}
-use Rattle.std.specs.List.{AllByRecursion}
-use Rattle.std.specs.Str.{bytes_eq}
-use Rattle.std.specs.Ordering.{is_eq, nat_cmp, ordering_then}
-use Rattle.std.specs.Cmp.{tied_itself}
-use Rattle.std.specs.declared.cmp.Ordering.TheVariants.{Less, Equal}
-use Rattle.sqlite.specs.declared.types.Value.TheVariants.{Int, Text}
-use Rattle.sqlite.specs.Order.{Row, column, value_cmp}
-use Rattle.sqlite_value.proofs.OrderLemmas.{value_cmp_total}
-use Rattle.base.specs.Keyed.{put, text_cmp}
-use Rattle.can_id.specs.Ident.{IsIdentifier, dbc_number}
-use Rattle.can_id.specs.declared.ident.Ident.{Ident}
-use Rattle.dbc_sheet.specs.declared.sheet.Sheet.{Sheet}
-use Rattle.office_types.specs.Block.{form_number, is_spn}
 use Rattle.office_types.specs.Book.{by_net}
 use Rattle.office_types.specs.State.{by_first, by_ident}
-use Rattle.office_types.specs.declared.block.BlockForm.TheVariants.{Spn}
-use Rattle.office_types.specs.declared.book.SpnBlock.{SpnBlock}
-use Rattle.office_types.specs.declared.book.SpnBook.{SpnBook}
 use Rattle.office_types.specs.declared.change.Change.{Change}
 use Rattle.office_types.specs.declared.change.Change.TheVariants.{SetHead, SetMessage, RemoveMessage, AddSignal}
 use Rattle.office_types.specs.declared.change.Change.TheVariants.{RemoveSignal, SetSpn, SetValues, SetBlock}
 use Rattle.office_types.specs.declared.change.Change.TheVariants.{SetSpnBlock, Hold, EnterSpn, SetApproval}
 use Rattle.office_types.specs.declared.change.Change.TheVariants.{ClearApprovals, AddRelease}
-use Rattle.office_types.specs.declared.state.GrantedBlock.{GrantedBlock}
-use Rattle.office_types.specs.declared.state.Head.{Head}
-use Rattle.office_types.specs.declared.state.Net.{Net}
-use Rattle.office_rules.specs.Change.{NetAndBook, applied, all_applied, changed_net, headed, IsHeadFirst}
+use Rattle.office_rules.specs.Change.{applied, all_applied, changed_net, headed, IsHeadFirst}
 use Rattle.office_rules.specs.Opening.{with_block}
 use Rattle.office_rules.specs.Retiring.{with_held}
 use Rattle.office_rules.specs.Reviewing.{with_approval, with_release}
-use Rattle.store_tables.specs.Tables.{Tables}
-use Rattle.store_tables.specs.Selected.{has_text, has_number}
-use Rattle.store_statements.specs.Rows.{net_row, block_row, held_row, spn_row, approval_row, frozen_row, is_of_net}
-use Rattle.store_statements.specs.Rows.{is_of_form, has_net_and_number, is_block, has_two_texts, is_number}
-use Rattle.store_statements.specs.Shown.{net_order, blocks_order, blocks_of_form_order, held_order, spns_order}
-use Rattle.store_statements.specs.Shown.{approvals_order, releases_order}
+use Rattle.store_statements.specs.Rows.{is_block, has_two_texts, is_number}
 use Rattle.store_statements.specs.declared.row.NetRow.{NetRow}
 use Rattle.store_statements.specs.declared.row.BlockRow.{BlockRow}
 use Rattle.store_statements.specs.declared.row.FrozenRow.{FrozenRow}

@@ -1,10 +1,8 @@
 -- The text of a decimal reads as the decimal again, its sign apart.
-use Rattle.std.proofs.Common.{◌≡◌, ◌∙◌, ℕ, Bool, true, false, List, [], ◌∷◌, ◌++◌, Ok, Err, Result, refl, sym, subst}
-use Rattle.std.proofs.Common.{inl, inr}
-use Rattle.std.specs.Prelude.{◌==◌, if◌then◌else◌, unsigned_abs}
+use Rattle.store_rows.proofs.Common.{◌≡◌, ◌∙◌, ℕ, Bool, true, false, List, [], ◌∷◌, ◌++◌, Ok, Err, Result, refl, sym}
+use Rattle.store_rows.proofs.Common.{subst, inl, inr, ◌==◌, cases_Bool, eqb-true, IsDecimal, Number}
+use Rattle.std.specs.Prelude.{if◌then◌else◌, unsigned_abs}
 use Rattle.std.specs.Int.{is_negative}
-use Rattle.std.proofs.lemmas.Bool.{cases_Bool, eqb-true}
-use Rattle.decimal.specs.Number.{IsDecimal, Number}
 use Rattle.decimal.specs.Printing.{text_of, unsigned_text}
 use Rattle.decimal.specs.Cutting.{cut}
 use Rattle.decimal.specs.Reading.{ReadsNumber, reading}

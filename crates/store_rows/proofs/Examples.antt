@@ -1,12 +1,10 @@
 -- Worked examples, computed from the definitions.
-use Rattle.std.proofs.Common.{◌≡◌, [], ◌∷◌, pos, codes, refl}
-use Rattle.sqlite.specs.declared.types.Value.TheVariants.{Int, Text}
+use Rattle.store_rows.proofs.Common.{◌≡◌, [], ◌∷◌, pos, codes, refl, Int, Text, Tables, no_rows, approval_row, held_row}
+use Rattle.store_rows.proofs.Common.{spn_row}
 use Rattle.sqlite_value.specs.Order.{value_cmp}
 use lib.Ieee
 use Rattle.office_types.specs.declared.state.Phase.TheVariants.{Draft, Review}
 use Rattle.dbc_sheet.specs.Sheet.{empty_sheet}
-use Rattle.store_tables.specs.Tables.{Tables, no_rows}
-use Rattle.store_statements.specs.Rows.{approval_row, held_row, spn_row}
 use Rattle.store_rows.specs.NetIn.{no_rest, rest_of}
 use Rattle.store_rows.specs.Rows.{numbered, submitter_text}
 use Rattle.store_rows.specs.Written.{with_approval_row, with_held_row, with_spn_row, without_approval_rows}

@@ -1,5 +1,5 @@
 -- The first row of those that show a list, and the first of the list.
-use Rattle.std.proofs.Common.{◌≡◌, List, [], ◌∷◌, Some, None, slice_get, refl, sym, subst}
+use Rattle.store_rows.proofs.Common.{◌≡◌, List, [], ◌∷◌, Some, None, slice_get, refl, sym, subst}
 use Rattle.store_rows.specs.Listed.{AreShown}
 
 pub none_first : {A X : Type 0} (R : A → X → Type 0) (items : List A) (rows : List X) → AreShown R items rows

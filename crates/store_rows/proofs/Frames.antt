@@ -1,15 +1,11 @@
 -- Frames of several statements: what each of two keeps, both keep.
-use Rattle.std.proofs.Common.{◌∙◌, Ok, Err, Result, inl, refl, arith}
+use Rattle.store_rows.proofs.Common.{◌∙◌, Ok, Err, Result, inl, refl, arith, state, State, HasCleanDisk, Transaction}
+use Rattle.store_rows.proofs.Common.{keeps_then, Ghosts, StaysIn, Tables}
 use Rattle.std.proofs.lemmas.Result.{on_ok_weaker}
-use Rattle.sqlite.specs.Held.{state}
-use Rattle.sqlite.specs.State.{State, HasCleanDisk, Survives}
+use Rattle.sqlite.specs.State.{Survives}
 use Rattle.sqlite.specs.declared.error.Error.{Error}
-use Rattle.sqlite.specs.declared.transaction.Transaction.{Transaction}
-use Rattle.sqlite.proofs.InsideLemmas.{keeps_then}
 use Rattle.sqlite.proofs.StateLemmas.{survives_then}
-use Rattle.sqlite_trees.specs.declared.store.Store.{Ghosts}
-use Rattle.store_tables.specs.Frames.{Edits, OnlyWrites, StaysIn, WritesAndEndsIn, WritesAndStaysIn}
-use Rattle.store_tables.specs.Tables.{Tables}
+use Rattle.store_tables.specs.Frames.{Edits, OnlyWrites, WritesAndEndsIn, WritesAndStaysIn}
 
 -- of two calls that leave nothing for a crash to find
 pub nothing_left : (a b c : State) → Survives a b (λ _. ⊥) → Survives b c (λ _. ⊥) → Survives a c (λ _. ⊥)

@@ -1,6 +1,5 @@
 -- Tables with no row have no network, and an empty book.
-use Rattle.std.proofs.Common.{ℕ, List, [], None, refl}
-use Rattle.store_tables.specs.Tables.{no_rows}
+use Rattle.store_rows.proofs.Common.{ℕ, List, [], None, refl, no_rows}
 use Rattle.office_rules.specs.Step.{opening}
 use Rattle.store_rows.specs.Live.{AreLiveRows, live_rows}
 use Rattle.store_rows.specs.NetIn.{IsNetAt}

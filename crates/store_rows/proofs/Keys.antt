@@ -1,33 +1,23 @@
 -- Columns as keys: texts and numbers are in the order that the office's lists have, and a value is one text or one
 -- number.
-use Rattle.std.proofs.Common.{◌≡◌, ℕ, ◌<◌, pos, Bool, true, false, ◌&&◌, not, List, refl, sym, ap, subst, ◌∙◌, arith}
-use Rattle.std.proofs.lemmas.Int.{ints}
-use Rattle.std.proofs.lemmas.Bool.Decides.{nat_tests}
-use Rattle.std.proofs.lemmas.Bool.{false≢true}
+use Rattle.store_rows.proofs.Common.{◌≡◌, ℕ, ◌<◌, pos, Bool, true, false, ◌&&◌, not, List, refl, sym, ap, subst, ◌∙◌}
+use Rattle.store_rows.proofs.Common.{arith, ints, nat_tests, false≢true, bytes_eq, is_eq, nat_cmp, ordering_then}
+use Rattle.store_rows.proofs.Common.{IsTotalOrder, on_total, then_total, tied_itself, Ordering, Less, Equal, Greater}
+use Rattle.store_rows.proofs.Common.{Value, Int, Text, Row, column, value_cmp, value_cmp_total, text_cmp, IsIdentifier}
+use Rattle.store_rows.proofs.Common.{dbc_number, Ident, form_number, is_spn, Spn, by_column, is_of_net, net_order}
+use Rattle.store_rows.proofs.Common.{messages_order, blocks_order, blocks_of_form_order, held_order, spns_order}
+use Rattle.store_rows.proofs.Common.{approvals_order, releases_order}
 use Rattle.std.proofs.lemmas.Slice.Eq.{bytes_eq-Decides}
-use Rattle.std.specs.Str.{bytes_eq}
-use Rattle.std.specs.Ordering.{is_eq, nat_cmp, int_cmp, ordering_then}
-use Rattle.std.specs.Cmp.{IsTotalOrder, on_total, then_total, Equal-is, tied_itself}
+use Rattle.std.specs.Ordering.{int_cmp}
+use Rattle.std.specs.Cmp.{Equal-is}
 use Rattle.std.specs.Cmp.Lexicographic.{texts_ties}
-use Rattle.std.specs.declared.cmp.Ordering.{Ordering}
-use Rattle.std.specs.declared.cmp.Ordering.TheVariants.{Less, Equal, Greater}
-use Rattle.sqlite.specs.declared.types.Value.{Value}
-use Rattle.sqlite.specs.declared.types.Value.TheVariants.{Int, Text}
-use Rattle.sqlite.specs.Order.{Row, column, value_cmp}
-use Rattle.sqlite_value.proofs.OrderLemmas.{value_cmp_total, value_cmp-Int, value_cmp-Text}
-use Rattle.base.specs.Keyed.{text_cmp}
-use Rattle.can_id.specs.Ident.{IsIdentifier, dbc_number}
-use Rattle.can_id.specs.declared.ident.Ident.{Ident}
+use Rattle.sqlite_value.proofs.OrderLemmas.{value_cmp-Int, value_cmp-Text}
 use Rattle.can_id.specs.declared.ident.Ident.TheVariants as id
 use Rattle.dbc_words.proofs.Naming.{bytes_eq-flip}
-use Rattle.office_types.specs.Block.{form_number, is_spn}
 use Rattle.office_types.specs.declared.block.BlockForm.{BlockForm}
-use Rattle.office_types.specs.declared.block.BlockForm.TheVariants.{Std, Ext, Pgn, Spn}
+use Rattle.office_types.specs.declared.block.BlockForm.TheVariants.{Std, Ext, Pgn}
 use Rattle.office_rules.specs.Facts.{same_ident}
-use Rattle.store_tables.specs.Selected.{by_column}
-use Rattle.store_statements.specs.Rows.{is_of_net}
-use Rattle.store_statements.specs.Shown.{net_order, messages_order, blocks_order, blocks_of_form_order, held_order}
-use Rattle.store_statements.specs.Shown.{spns_order, approvals_order, releases_order, parts_order}
+use Rattle.store_statements.specs.Shown.{parts_order}
 
 -- ---- tests
 

@@ -1,24 +1,15 @@
 -- The row that a query for the last place of a message's signals shows: none has a greater place.
-use Rattle.std.proofs.Common.{◌≡◌, ◌∙◌, ℕ, ◌+◌, ◌<◌, suc, pos, false, List, [], ◌∷◌, length, get_or, map, take}
-use Rattle.std.proofs.Common.{slice_get, Option, Some, None, refl, sym, ap, subst, arith}
-use Rattle.std.specs.Prelude.{IsPermutation, IsSorted, filter}
-use Rattle.std.specs.Cmp.{IsTotalOrder}
-use Rattle.std.specs.List.{AllByRecursion}
-use Rattle.std.specs.Ordering.{is_lt, nat_cmp, ordering_reverse}
-use Rattle.std.specs.declared.cmp.Ordering.{Ordering}
-use Rattle.std.specs.declared.cmp.Ordering.TheVariants.{Less, Equal, Greater}
-use Rattle.std.proofs.lemmas.Bool.{false≢true}
-use Rattle.std.proofs.lemmas.Bool.Decides.{nat_tests}
+use Rattle.store_rows.proofs.Common.{◌≡◌, ◌∙◌, ℕ, ◌+◌, ◌<◌, suc, pos, false, List, [], ◌∷◌, length, get_or, map, take}
+use Rattle.store_rows.proofs.Common.{slice_get, Option, Some, None, refl, sym, ap, subst, arith, IsPermutation}
+use Rattle.store_rows.proofs.Common.{IsSorted, IsTotalOrder, AllByRecursion, is_lt, nat_cmp, ordering_reverse, Ordering}
+use Rattle.store_rows.proofs.Common.{Less, Equal, Greater, false≢true, nat_tests, All-from_recursion}
+use Rattle.store_rows.proofs.Common.{recursion_from_All, All-permutation, IsPermutation-sym, IsPermutation-trans, Int}
+use Rattle.store_rows.proofs.Common.{Row, column, value_cmp, Signal, Tables, has_net_and_number, sigs_order}
+use Rattle.std.specs.Prelude.{filter}
 use Rattle.std.proofs.lemmas.Cmp.{back_total}
-use Rattle.std.proofs.lemmas.List.Elements.{All-from_recursion, recursion_from_All}
-use Rattle.std.proofs.lemmas.List.Sorted.{All-permutation, IsPermutation-sym, IsPermutation-trans, length_permutation}
-use Rattle.sqlite.specs.declared.types.Value.TheVariants.{Int}
-use Rattle.sqlite.specs.Order.{Row, column, value_cmp}
-use Rattle.dbc_sheet.specs.declared.signal.Signal.{Signal}
+use Rattle.std.proofs.lemmas.List.Sorted.{length_permutation}
 use Rattle.store_tables.specs.Selected.{IsFirstSelected}
-use Rattle.store_tables.specs.Tables.{Tables}
-use Rattle.store_statements.specs.Rows.{has_net_and_number}
-use Rattle.store_statements.specs.Shown.{last_place_order, last_place_shown, sigs_order}
+use Rattle.store_statements.specs.Shown.{last_place_order, last_place_shown}
 use Rattle.store_rows.specs.Listed.{AreListed, AreShown}
 use Rattle.store_rows.specs.Live.{AreSignalsOf, IsSigRow, live_rows}
 use Rattle.store_rows.specs.LiveWritten.{IsAfter}

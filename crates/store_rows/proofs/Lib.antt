@@ -1,3 +1,4 @@
+pub mod Common
 pub mod Listing
 pub mod Keys
 pub mod Setting

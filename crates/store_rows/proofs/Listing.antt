@@ -1,26 +1,22 @@
 -- Rows that stand for the items of a list, in the order of a key: a row that is set is an item that is put, a row that
 -- is removed an item that is left out, and rows in order show the items.
-use Rattle.std.proofs.Common.{◌≡◌, inl, inr, ◌+◌, List, [], ◌∷◌, ◌++◌, get_or, Bool, true, false, cond, not, ◌&&◌, refl}
-use Rattle.std.proofs.Common.{sym, ap, subst, ◌∙◌, arith}
-use Rattle.std.specs.Prelude.{IsPermutation, IsSorted, filter}
-use Rattle.std.specs.List.{AllByRecursion}
+use Rattle.store_rows.proofs.Common.{◌≡◌, inl, inr, ◌+◌, List, [], ◌∷◌, ◌++◌, get_or, Bool, true, false, cond, not}
+use Rattle.store_rows.proofs.Common.{◌&&◌, refl, sym, ap, subst, ◌∙◌, arith, IsPermutation, IsSorted, AllByRecursion}
+use Rattle.store_rows.proofs.Common.{is_eq, is_lt, ordering_reverse, IsTotalOrder, Ordering, Less, Equal, Greater}
+use Rattle.store_rows.proofs.Common.{false≢true, All-permutation, IsPermutation-sym, IsPermutation-refl}
+use Rattle.store_rows.proofs.Common.{IsPermutation-trans, IsPermutation-cons, IsPermutation-to_front}
+use Rattle.store_rows.proofs.Common.{IsPermutation-append, All-from_recursion, recursion_from_All, IsPermutation-filter}
+use Rattle.store_rows.proofs.Common.{are_above, put, put_cases}
+use Rattle.std.specs.Prelude.{filter}
 use Rattle.std.specs.List.Sorted.{IsStrictlySortedBy}
-use Rattle.std.specs.Ordering.{is_eq, is_lt, ordering_reverse, eq_by_cmp}
-use Rattle.std.specs.Cmp.{IsTotalOrder}
-use Rattle.std.specs.declared.cmp.Ordering.{Ordering}
-use Rattle.std.specs.declared.cmp.Ordering.TheVariants.{Less, Equal, Greater}
-use Rattle.std.proofs.lemmas.Bool.{false≢true}
-use Rattle.std.proofs.lemmas.List.Sorted.{All-permutation, IsPermutation-sym, IsPermutation-refl, IsPermutation-trans}
-use Rattle.std.proofs.lemmas.List.Sorted.{IsPermutation-cons, IsPermutation-to_front, IsPermutation-append}
+use Rattle.std.specs.Ordering.{eq_by_cmp}
 use Rattle.std.proofs.lemmas.List.Sorted.{IsPermutation-middle}
-use Rattle.std.proofs.lemmas.List.Elements.{All-from_recursion, recursion_from_All}
 use Rattle.std.proofs.lemmas.List.Kept.{IsStrictlySortedBy-filter}
 use Rattle.std.proofs.lemmas.Map.Keys.{IsDistinct-from_sorted, IsDistinct-IsPermutation, apart_from_distinct}
 use Rattle.std.proofs.lemmas.Map.Keys.{sorted_from_all_adjacent}
 use Rattle.sqlite_rules.specs.Lists.{Has}
-use Rattle.sqlite_trees.proofs.ListLemmas.{IsPermutation-filter}
-use Rattle.base.specs.Keyed.{are_above, put, put_by_order}
-use Rattle.base.proofs.PutKeeps.{IsStrictlySortedBy-put, put_cases}
+use Rattle.base.specs.Keyed.{put_by_order}
+use Rattle.base.proofs.PutKeeps.{IsStrictlySortedBy-put}
 use Rattle.store_rows.specs.Listed.{AreShown, AreListed}
 
 -- ---- members

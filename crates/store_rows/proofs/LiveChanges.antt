@@ -1,28 +1,14 @@
 -- The rows of a live message in place of those of its number: the message is put among the live ones.
-use Rattle.std.proofs.Common.{◌≡◌, ◌∙◌, ℕ, pos, Bool, true, false, cond, not, ◌&&◌, List, [], ◌∷◌, ◌++◌, append-nil}
-use Rattle.std.proofs.Common.{map, filter, find, Option, None, Some, refl, sym, ap, subst, arith}
-use Rattle.std.specs.Prelude.{◌==◌}
-use Rattle.std.specs.List.{AllByRecursion}
+use Rattle.store_rows.proofs.Common.{◌≡◌, ◌∙◌, ℕ, pos, Bool, true, false, cond, not, ◌&&◌, List, [], ◌∷◌, ◌++◌}
+use Rattle.store_rows.proofs.Common.{append-nil, map, filter, find, Option, None, Some, refl, sym, ap, subst, arith}
+use Rattle.store_rows.proofs.Common.{◌==◌, AllByRecursion, is_eq, is_lt, nat_cmp, Ordering, Less, Equal, Greater}
+use Rattle.store_rows.proofs.Common.{eq-eqb, eqb-true, false≢true, nat_tests, filter-append, IsPermutation-refl, Int}
+use Rattle.store_rows.proofs.Common.{Row, column, value_cmp, all-filter, are_above, put, put_cases, dbc_number, Signal}
+use Rattle.store_rows.proofs.Common.{by_number, LiveMessage, has_number, msgs_order, receivers_order, sigs_order}
+use Rattle.store_rows.proofs.Common.{sigvalues_order}
 use Rattle.std.specs.List.Sorted.{IsStrictlySortedBy}
-use Rattle.std.specs.Ordering.{is_eq, is_lt, nat_cmp, on}
-use Rattle.std.specs.declared.cmp.Ordering.{Ordering}
-use Rattle.std.specs.declared.cmp.Ordering.TheVariants.{Less, Equal, Greater}
-use Rattle.std.proofs.lemmas.Bool.{eq-eqb, eqb-true, false≢true}
-use Rattle.std.proofs.lemmas.Bool.Decides.{nat_tests}
-use Rattle.std.proofs.lemmas.List.Elements.{filter-append}
-use Rattle.std.proofs.lemmas.List.Sorted.{IsPermutation-refl}
-use Rattle.sqlite.specs.declared.types.Value.TheVariants.{Int}
-use Rattle.sqlite.specs.Order.{Row, column, value_cmp}
-use Rattle.sqlite_trees.proofs.ListLemmas.{all-filter}
-use Rattle.base.specs.Keyed.{are_above, put}
-use Rattle.base.proofs.PutKeeps.{put_cases}
+use Rattle.std.specs.Ordering.{on}
 use Rattle.base.proofs.AscendingLists.{find_without}
-use Rattle.can_id.specs.Ident.{dbc_number}
-use Rattle.dbc_sheet.specs.declared.signal.Signal.{Signal}
-use Rattle.office_types.specs.State.{by_number}
-use Rattle.office_types.specs.declared.state.LiveMessage.{LiveMessage}
-use Rattle.store_tables.specs.Selected.{has_number}
-use Rattle.store_statements.specs.Shown.{msgs_order, receivers_order, sigs_order, sigvalues_order}
 use Rattle.store_rows.specs.Listed.{AreListed, AreShown}
 use Rattle.store_rows.specs.Live.{AreLiveRows, AreSignalsOf, HasNumber, IsMsgRow, IsReceiverRow, IsSigRow}
 use Rattle.store_rows.specs.Live.{IsSigValueRow, LiveRows, msg_values, numbered_rows, parts_of, signals_numbered}

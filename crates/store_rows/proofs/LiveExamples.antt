@@ -1,27 +1,19 @@
 -- A worked example: rows of one live message with two signals. The place between theirs is free, as after a removal.
-use Rattle.std.proofs.Common.{◌≡◌, ◌∙◌, ℕ, pos, negsuc, Bool, true, false, cond, List, [], ◌∷◌, Some, None, codes, refl}
-use Rattle.std.proofs.Common.{sym, subst, arith}
-use Rattle.std.specs.Prelude.{◌==◌}
+use Rattle.store_rows.proofs.Common.{◌≡◌, ◌∙◌, ℕ, pos, Bool, true, false, cond, List, [], ◌∷◌, Some, None, codes, refl}
+use Rattle.store_rows.proofs.Common.{sym, subst, arith, ◌==◌, eq-eqb, eqb-true, false≢true, ints, IsPermutation-refl}
+use Rattle.store_rows.proofs.Common.{Int, Text, Blob, Row, Signal, IsDecimal, Number, LiveMessage, Tables, no_rows}
+use Rattle.store_rows.proofs.Common.{receivers_order, sigs_order, sigvalues_order}
+use Rattle.std.proofs.Common.{negsuc}
 use Rattle.std.specs.Fmt.{digits}
 use Rattle.std.specs.List.Sorted.{IsStrictlySortedBy}
-use Rattle.std.proofs.lemmas.Bool.{eq-eqb, eqb-true, false≢true}
-use Rattle.std.proofs.lemmas.Int.{ints}
-use Rattle.std.proofs.lemmas.List.Sorted.{IsPermutation-refl}
 use lib.Ieee
-use Rattle.sqlite.specs.declared.types.Value.TheVariants.{Int, Text, Blob}
-use Rattle.sqlite.specs.Order.{Row}
 use Rattle.sqlite_value.specs.Order.{value_cmp}
 use Rattle.bitlayout.specs.declared.layout.Order.TheVariants.{Intel, Motorola}
 use Rattle.bitlayout.specs.declared.place.Mux.TheVariants.{Always, Under}
 use Rattle.can_id.specs.declared.ident.Ident.TheVariants.{Std}
 use Rattle.dbc_words.specs.declared.value_type.ValueType.TheVariants.{Integer}
-use Rattle.dbc_sheet.specs.declared.signal.Signal.{Signal}
-use Rattle.decimal.specs.Number.{IsDecimal, Number}
 use Rattle.decimal.specs.Printing.{unsigned_text}
 use Rattle.decimal.proofs.Readings.{zero_decimal}
-use Rattle.office_types.specs.declared.state.LiveMessage.{LiveMessage}
-use Rattle.store_tables.specs.Tables.{Tables, no_rows}
-use Rattle.store_statements.specs.Shown.{receivers_order, sigs_order, sigvalues_order}
 use Rattle.store_rows.specs.Listed.{AreListed}
 use Rattle.store_rows.specs.Live.{AreLiveRows, AreSignalsOf, IsReceiverRow, IsSigRow, IsSigValueRow, LiveRows}
 use Rattle.store_rows.specs.Live.{live_rows, signals_numbered}

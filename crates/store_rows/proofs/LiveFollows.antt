@@ -1,30 +1,12 @@
 -- What each change of live messages makes of rows, and what it does at its network, agree.
-use Rattle.std.proofs.Common.{◌≡◌, ◌∙◌, ℕ, Bool, true, false, cond, not, List, [], ◌∷◌, ◌++◌, append-nil, filter, find}
-use Rattle.std.proofs.Common.{Option, None, Some, refl, sym, ap, subst}
-use Rattle.std.specs.Prelude.{◌==◌}
-use Rattle.std.specs.Ordering.{is_eq}
-use Rattle.std.specs.Str.{bytes_eq}
-use Rattle.std.proofs.lemmas.Bool.{eq-eqb, eqb-true, false≢true}
-use Rattle.std.proofs.lemmas.List.Elements.{filter-append}
-use Rattle.sqlite.specs.Order.{Row, column}
-use Rattle.base.specs.Keyed.{put}
-use Rattle.can_id.specs.Ident.{IsIdentifier, dbc_number}
-use Rattle.can_id.specs.declared.ident.Ident.{Ident}
-use Rattle.dbc_sheet.specs.Signals.{without_signal}
-use Rattle.dbc_sheet.specs.declared.signal.Signal.{Signal}
-use Rattle.office_types.specs.State.{by_number}
-use Rattle.office_types.specs.declared.book.SpnBook.{SpnBook}
-use Rattle.office_types.specs.declared.command.SignalPath.{SignalPath}
-use Rattle.office_types.specs.declared.state.LiveMessage.{LiveMessage}
-use Rattle.office_types.specs.declared.state.Net.{Net}
-use Rattle.office_rules.specs.Change.{NetAndBook, at_message}
-use Rattle.office_rules.specs.Facts.{has_ident, live_named}
-use Rattle.office_rules.specs.Numbers.{with_message}
+use Rattle.store_rows.proofs.Common.{◌≡◌, ◌∙◌, ℕ, Bool, true, false, cond, not, List, [], ◌∷◌, ◌++◌, append-nil, filter}
+use Rattle.store_rows.proofs.Common.{find, Option, None, Some, refl, sym, ap, subst, ◌==◌, is_eq, bytes_eq, eq-eqb}
+use Rattle.store_rows.proofs.Common.{eqb-true, false≢true, filter-append, Row, column, put, IsIdentifier, dbc_number}
+use Rattle.store_rows.proofs.Common.{Ident, without_signal, Signal, by_number, SpnBook, SignalPath, LiveMessage, Net}
+use Rattle.store_rows.proofs.Common.{NetAndBook, at_message, live_named, with_message, Tables, is_of_net, msgs_order}
+use Rattle.office_rules.specs.Facts.{has_ident}
 use Rattle.office_rules.specs.Retiring.{without_message}
 use Rattle.office_rules.specs.Signals.{with_last_signal, with_signal_out}
-use Rattle.store_tables.specs.Tables.{Tables}
-use Rattle.store_statements.specs.Rows.{is_of_net}
-use Rattle.store_statements.specs.Shown.{msgs_order}
 use Rattle.store_rows.specs.Listed.{AreListed, AreShown}
 use Rattle.store_rows.specs.Live.{AreLiveRows, AreSignalsOf, IsMsgRow, IsReceiverRow, IsSigValueRow, live_rows}
 use Rattle.store_rows.specs.Live.{parts_of, signals_numbered}

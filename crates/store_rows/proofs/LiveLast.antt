@@ -1,19 +1,8 @@
 -- A live message has one signal more, the last: by the rows of that signal alone.
-use Rattle.std.proofs.Common.{◌≡◌, ◌∙◌, ℕ, ◌<◌, Bool, true, false, cond, List, [], ◌∷◌, ◌++◌, append-nil, filter, find}
-use Rattle.std.proofs.Common.{Option, None, Some, refl, sym, ap, subst}
-use Rattle.std.specs.Prelude.{◌==◌}
-use Rattle.std.specs.List.{AllByRecursion}
-use Rattle.std.proofs.lemmas.Bool.{eq-eqb, eqb-true, false≢true}
-use Rattle.std.proofs.lemmas.List.Elements.{filter-append}
-use Rattle.sqlite.specs.Order.{Row, column}
-use Rattle.sqlite_trees.proofs.ListLemmas.{all-filter}
-use Rattle.base.specs.Keyed.{put}
-use Rattle.can_id.specs.Ident.{dbc_number}
-use Rattle.dbc_sheet.specs.declared.signal.Signal.{Signal}
-use Rattle.office_types.specs.State.{by_number}
-use Rattle.office_types.specs.declared.state.LiveMessage.{LiveMessage}
-use Rattle.store_tables.specs.Tables.{Tables}
-use Rattle.store_statements.specs.Rows.{is_of_net}
+use Rattle.store_rows.proofs.Common.{◌≡◌, ◌∙◌, ℕ, ◌<◌, Bool, true, false, cond, List, [], ◌∷◌, ◌++◌, append-nil, filter}
+use Rattle.store_rows.proofs.Common.{find, Option, None, Some, refl, sym, ap, subst, ◌==◌, AllByRecursion, eq-eqb}
+use Rattle.store_rows.proofs.Common.{eqb-true, false≢true, filter-append, Row, column, all-filter, put, dbc_number}
+use Rattle.store_rows.proofs.Common.{Signal, by_number, LiveMessage, Tables, is_of_net}
 use Rattle.store_rows.specs.Live.{AreLiveRows, AreSignalsOf, HasNumber, HaveNumbers, IsReceiverRow, IsSigValueRow}
 use Rattle.store_rows.specs.Live.{live_rows, numbered_rows, parts_of, signals_numbered}
 use Rattle.store_rows.specs.LiveWritten.{IsSignal, placed_from, with_signal}

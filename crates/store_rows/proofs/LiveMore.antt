@@ -1,20 +1,9 @@
 -- Signals added to a message that is there, at places above those of its signals: its other rows stay.
-use Rattle.std.proofs.Common.{◌≡◌, ◌∙◌, ℕ, ◌+◌, ◌<◌, pos, List, [], ◌∷◌, ◌++◌, append_assoc, map, filter, refl, sym, ap}
-use Rattle.std.proofs.Common.{subst}
-use Rattle.std.specs.List.{AllByRecursion}
+use Rattle.store_rows.proofs.Common.{◌≡◌, ◌∙◌, ℕ, ◌+◌, ◌<◌, pos, List, [], ◌∷◌, ◌++◌, append_assoc, map, filter, refl}
+use Rattle.store_rows.proofs.Common.{sym, ap, subst, AllByRecursion, ordering_then, Ordering, Less, filter-append}
+use Rattle.store_rows.proofs.Common.{IsPermutation-append, IsPermutation-refl, Int, Row, column, value_cmp, Signal}
+use Rattle.store_rows.proofs.Common.{ValueText, Tables, is_of_net, receivers_order, sigs_order, sigvalues_order}
 use Rattle.std.specs.List.Sorted.{IsStrictlySortedBy}
-use Rattle.std.specs.Ordering.{ordering_then}
-use Rattle.std.specs.declared.cmp.Ordering.{Ordering}
-use Rattle.std.specs.declared.cmp.Ordering.TheVariants.{Less}
-use Rattle.std.proofs.lemmas.List.Elements.{filter-append}
-use Rattle.std.proofs.lemmas.List.Sorted.{IsPermutation-append, IsPermutation-refl}
-use Rattle.sqlite.specs.declared.types.Value.TheVariants.{Int}
-use Rattle.sqlite.specs.Order.{Row, column, value_cmp}
-use Rattle.dbc_sheet.specs.declared.signal.Signal.{Signal}
-use Rattle.dbc_sheet.specs.declared.value_texts.ValueText.{ValueText}
-use Rattle.store_tables.specs.Tables.{Tables}
-use Rattle.store_statements.specs.Rows.{is_of_net}
-use Rattle.store_statements.specs.Shown.{receivers_order, sigs_order, sigvalues_order}
 use Rattle.store_rows.specs.Listed.{AreListed, AreShown}
 use Rattle.store_rows.specs.Live.{AreSignalsOf, IsReceiverRow, IsSigRow, IsSigValueRow, live_rows, numbered_rows}
 use Rattle.store_rows.specs.Live.{parts_of}

@@ -1,30 +1,16 @@
 -- The rows of a message's signals of a name, in place of those that they had: its other signals stay, and all other
 -- rows.
-use Rattle.std.proofs.Common.{◌≡◌, ◌∙◌, ℕ, ◌+◌, ◌<◌, pos, Bool, true, false, cond, not, ◌&&◌, ◌||◌, List, [], ◌∷◌, ◌++◌}
-use Rattle.std.proofs.Common.{append-nil, append_assoc, flat_map, map, filter, refl, sym, ap, subst, arith}
-use Rattle.std.specs.Prelude.{◌==◌, IsPermutation}
-use Rattle.std.specs.List.{AllByRecursion, list_any}
+use Rattle.store_rows.proofs.Common.{◌≡◌, ◌∙◌, ℕ, ◌+◌, ◌<◌, pos, Bool, true, false, cond, not, ◌&&◌, ◌||◌, List, []}
+use Rattle.store_rows.proofs.Common.{◌∷◌, ◌++◌, append-nil, append_assoc, map, filter, refl, sym, ap, subst, arith}
+use Rattle.store_rows.proofs.Common.{◌==◌, IsPermutation, AllByRecursion, list_any, is_eq, ordering_then, bytes_eq}
+use Rattle.store_rows.proofs.Common.{Ordering, Less, eq-eqb, nat_tests, filter-append, IsPermutation-refl, Int, Text}
+use Rattle.store_rows.proofs.Common.{Row, column, value_cmp, IsPermutation-filter, all-filter, at_signal, Signal}
+use Rattle.store_rows.proofs.Common.{ValueText, IsDecimal, has_number, Tables, is_of_net, receivers_order, sigs_order}
+use Rattle.store_rows.proofs.Common.{sigvalues_order}
+use Rattle.std.proofs.Common.{flat_map}
 use Rattle.std.specs.List.Sorted.{IsStrictlySortedBy}
-use Rattle.std.specs.Ordering.{is_eq, ordering_then}
-use Rattle.std.specs.Str.{bytes_eq}
-use Rattle.std.specs.declared.cmp.Ordering.{Ordering}
-use Rattle.std.specs.declared.cmp.Ordering.TheVariants.{Less}
-use Rattle.std.proofs.lemmas.Bool.{eq-eqb}
-use Rattle.std.proofs.lemmas.Bool.Decides.{nat_tests}
-use Rattle.std.proofs.lemmas.List.Elements.{filter-append}
 use Rattle.std.proofs.lemmas.List.Sorted.{IsPermutation-append_comm, IsPermutation-append_left}
-use Rattle.std.proofs.lemmas.List.Sorted.{IsPermutation-append_right, IsPermutation-refl}
-use Rattle.sqlite.specs.declared.types.Value.TheVariants.{Int, Text}
-use Rattle.sqlite.specs.Order.{Row, column, value_cmp}
-use Rattle.sqlite_trees.proofs.ListLemmas.{IsPermutation-filter, all-filter}
-use Rattle.dbc_sheet.specs.Signals.{at_signal}
-use Rattle.dbc_sheet.specs.declared.signal.Signal.{Signal}
-use Rattle.dbc_sheet.specs.declared.value_texts.ValueText.{ValueText}
-use Rattle.decimal.specs.Number.{IsDecimal}
-use Rattle.store_tables.specs.Selected.{has_number}
-use Rattle.store_tables.specs.Tables.{Tables}
-use Rattle.store_statements.specs.Rows.{is_of_net}
-use Rattle.store_statements.specs.Shown.{receivers_order, sigs_order, sigvalues_order}
+use Rattle.std.proofs.lemmas.List.Sorted.{IsPermutation-append_right}
 use Rattle.store_rows.specs.Listed.{AreListed, AreShown}
 use Rattle.store_rows.specs.Live.{AreSignalsOf, HasDecimals, HasNumber, HaveNumbers, IsReceiverRow, IsSigRow}
 use Rattle.store_rows.specs.Live.{IsSigValueRow, live_rows, numbered_rows, parts_of, sig_values}

@@ -1,21 +1,10 @@
 -- The rows of a signal removed by its place: its message has the other signals, and all other rows stay.
-use Rattle.std.proofs.Common.{◌≡◌, ◌∙◌, ℕ, pos, Bool, true, false, cond, not, ◌&&◌, ◌||◌, List, [], ◌∷◌, ◌++◌, map}
-use Rattle.std.proofs.Common.{filter, refl, sym, ap, subst, arith}
-use Rattle.std.specs.Prelude.{◌==◌}
-use Rattle.std.specs.List.{AllByRecursion, list_any}
-use Rattle.std.specs.Ordering.{is_eq, nat_cmp}
-use Rattle.std.specs.Str.{bytes_eq}
-use Rattle.std.proofs.lemmas.Bool.Decides.{nat_tests}
-use Rattle.std.proofs.lemmas.List.Elements.{filter-append}
-use Rattle.sqlite.specs.declared.types.Value.TheVariants.{Int}
-use Rattle.sqlite.specs.Order.{Row, column, value_cmp}
-use Rattle.sqlite_trees.proofs.ListLemmas.{all-filter}
-use Rattle.dbc_sheet.specs.Signals.{without_signal}
-use Rattle.dbc_sheet.specs.declared.signal.Signal.{Signal}
-use Rattle.store_tables.specs.Selected.{has_number}
-use Rattle.store_tables.specs.Tables.{Tables}
-use Rattle.store_statements.specs.Rows.{has_place_of, is_of_net}
-use Rattle.store_statements.specs.Shown.{receivers_order, sigs_order, sigvalues_order}
+use Rattle.store_rows.proofs.Common.{◌≡◌, ◌∙◌, ℕ, pos, Bool, true, false, cond, not, ◌&&◌, ◌||◌, List, [], ◌∷◌, ◌++◌}
+use Rattle.store_rows.proofs.Common.{map, filter, refl, sym, ap, subst, arith, ◌==◌, AllByRecursion, list_any, is_eq}
+use Rattle.store_rows.proofs.Common.{nat_cmp, bytes_eq, nat_tests, filter-append, Int, Row, column, value_cmp}
+use Rattle.store_rows.proofs.Common.{all-filter, without_signal, Signal, has_number, Tables, is_of_net, receivers_order}
+use Rattle.store_rows.proofs.Common.{sigs_order, sigvalues_order}
+use Rattle.store_statements.specs.Rows.{has_place_of}
 use Rattle.store_rows.specs.Listed.{AreListed}
 use Rattle.store_rows.specs.Live.{AreSignalsOf, HasNumber, HaveNumbers, IsReceiverRow, IsSigRow, IsSigValueRow}
 use Rattle.store_rows.specs.Live.{live_rows, numbered_rows, parts_of}

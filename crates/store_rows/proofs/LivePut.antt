@@ -1,19 +1,9 @@
 -- A live message that is put in place of one of its number, with the same head: the rows of `msg` stay as they are.
-use Rattle.std.proofs.Common.{◌≡◌, ◌∙◌, ℕ, Bool, true, false, cond, List, [], ◌∷◌, find, Option, None, Some, refl, sym}
-use Rattle.std.proofs.Common.{ap, subst, arith, inl, inr}
-use Rattle.std.specs.Prelude.{◌==◌}
-use Rattle.std.specs.List.{AllByRecursion}
+use Rattle.store_rows.proofs.Common.{◌≡◌, ◌∙◌, ℕ, Bool, true, false, cond, List, [], ◌∷◌, find, Option, None, Some}
+use Rattle.store_rows.proofs.Common.{refl, sym, ap, subst, arith, inl, inr, ◌==◌, AllByRecursion, is_lt, nat_cmp, Less}
+use Rattle.store_rows.proofs.Common.{Equal, Greater, cases_Bool, eqb-true, false≢true, nat_tests, Row, are_above, put}
+use Rattle.store_rows.proofs.Common.{put_cases, dbc_number, by_number, LiveMessage}
 use Rattle.std.specs.List.Sorted.{IsStrictlySortedBy}
-use Rattle.std.specs.Ordering.{is_lt, nat_cmp}
-use Rattle.std.specs.declared.cmp.Ordering.TheVariants.{Less, Equal, Greater}
-use Rattle.std.proofs.lemmas.Bool.{cases_Bool, eqb-true, false≢true}
-use Rattle.std.proofs.lemmas.Bool.Decides.{nat_tests}
-use Rattle.sqlite.specs.Order.{Row}
-use Rattle.base.specs.Keyed.{are_above, put}
-use Rattle.base.proofs.PutKeeps.{put_cases}
-use Rattle.can_id.specs.Ident.{dbc_number}
-use Rattle.office_types.specs.State.{by_number}
-use Rattle.office_types.specs.declared.state.LiveMessage.{LiveMessage}
 use Rattle.store_rows.specs.Listed.{AreShown}
 use Rattle.store_rows.specs.Live.{IsMsgRow}
 use Rattle.store_rows.proofs.Keys.{and_left, and_right}

@@ -1,28 +1,15 @@
 -- What the queries on the rows of live messages show.
-use Rattle.std.proofs.Common.{◌≡◌, ◌∙◌, ℕ, ◌<◌, pos, Bool, false, cond, ◌&&◌, List, [], ◌∷◌, map, filter, find, Option}
-use Rattle.std.proofs.Common.{None, Some, refl, sym, ap, subst, arith, inl, inr}
-use Rattle.std.specs.Prelude.{◌==◌, slice_get}
-use Rattle.std.specs.List.{AllByRecursion}
+use Rattle.store_rows.proofs.Common.{◌≡◌, ◌∙◌, ℕ, ◌<◌, pos, Bool, false, cond, ◌&&◌, List, [], ◌∷◌, map, filter, find}
+use Rattle.store_rows.proofs.Common.{Option, None, Some, refl, sym, ap, subst, arith, inl, inr, ◌==◌, AllByRecursion}
+use Rattle.store_rows.proofs.Common.{bytes_eq, nat_cmp, IsTotalOrder, on_total, then_total, Less, cases_Bool, eq-eqb}
+use Rattle.store_rows.proofs.Common.{eqb-true, nat_tests, Int, Row, column, value_cmp, value_cmp_total, dbc_number}
+use Rattle.store_rows.proofs.Common.{Signal, ValueText, LiveMessage, live_named, IsSelected, by_column, has_number}
+use Rattle.store_rows.proofs.Common.{has_text, Tables, has_net_and_name, has_net_and_number, is_of_net, msg_named_order}
+use Rattle.store_rows.proofs.Common.{msg_named_shown, msgs_order, receivers_order, sigs_order, sigvalues_order}
+use Rattle.std.specs.Prelude.{slice_get}
 use Rattle.std.specs.List.Sorted.{IsStrictlySortedBy}
-use Rattle.std.specs.Str.{bytes_eq}
-use Rattle.std.specs.Ordering.{nat_cmp}
-use Rattle.std.specs.Cmp.{IsTotalOrder, on_total, then_total}
-use Rattle.std.specs.declared.cmp.Ordering.TheVariants.{Less}
-use Rattle.std.proofs.lemmas.Bool.{cases_Bool, eq-eqb, eqb-true}
-use Rattle.std.proofs.lemmas.Bool.Decides.{nat_tests}
-use Rattle.sqlite.specs.declared.types.Value.TheVariants.{Int}
-use Rattle.sqlite.specs.Order.{Row, column, value_cmp}
-use Rattle.sqlite_value.proofs.OrderLemmas.{value_cmp_total}
-use Rattle.can_id.specs.Ident.{dbc_number}
-use Rattle.dbc_sheet.specs.declared.signal.Signal.{Signal}
-use Rattle.dbc_sheet.specs.declared.value_texts.ValueText.{ValueText}
-use Rattle.office_types.specs.declared.state.LiveMessage.{LiveMessage}
-use Rattle.office_rules.specs.Facts.{live_named}
-use Rattle.store_tables.specs.Selected.{IsSelected, by_column, has_number, has_text}
-use Rattle.store_tables.specs.Tables.{Tables}
-use Rattle.store_statements.specs.Rows.{has_name_of, has_net_and_name, has_net_and_number, is_of_net}
-use Rattle.store_statements.specs.Shown.{msg_named_order, msg_named_shown, msgs_order, msgs_shown, receivers_order}
-use Rattle.store_statements.specs.Shown.{receivers_shown, sigs_order, sigs_shown, sigvalues_order, sigvalues_shown}
+use Rattle.store_statements.specs.Rows.{has_name_of}
+use Rattle.store_statements.specs.Shown.{msgs_shown, receivers_shown, sigs_shown, sigvalues_shown}
 use Rattle.store_rows.specs.Listed.{AreListed, AreShown}
 use Rattle.store_rows.specs.Live.{AreLiveRows, AreSignalsOf, IsMsgRow, IsReceiverRow, IsSigRow, IsSigValueRow}
 use Rattle.store_rows.specs.Live.{live_rows, numbered_rows, parts_of}

@@ -1,25 +1,11 @@
 -- A message's rows as they are written: the message is put among the live ones, and other networks keep theirs.
-use Rattle.std.proofs.Common.{◌≡◌, ◌∙◌, ℕ, ◌+◌, ◌<◌, Bool, true, false, cond, not, ◌&&◌, List, [], ◌∷◌, ◌++◌}
-use Rattle.std.proofs.Common.{append-nil, append_assoc, map, filter, refl, sym, ap, subst, arith}
-use Rattle.std.specs.List.{AllByRecursion}
+use Rattle.store_rows.proofs.Common.{◌≡◌, ◌∙◌, ℕ, ◌+◌, ◌<◌, Bool, true, false, cond, not, ◌&&◌, List, [], ◌∷◌, ◌++◌}
+use Rattle.store_rows.proofs.Common.{append-nil, append_assoc, map, filter, refl, sym, ap, subst, arith, AllByRecursion}
+use Rattle.store_rows.proofs.Common.{bytes_eq, is_eq, Less, filter-append, Text, Row, column, value_cmp, put}
+use Rattle.store_rows.proofs.Common.{dbc_number, Signal, ValueText, IsDecimal, by_number, LiveMessage, has_number}
+use Rattle.store_rows.proofs.Common.{Tables, has_net_and_number, is_of_net, receivers_order, sigs_order}
+use Rattle.store_rows.proofs.Common.{sigvalues_order}
 use Rattle.std.specs.List.Sorted.{IsStrictlySortedBy}
-use Rattle.std.specs.Str.{bytes_eq}
-use Rattle.std.specs.Ordering.{is_eq}
-use Rattle.std.specs.declared.cmp.Ordering.TheVariants.{Less}
-use Rattle.std.proofs.lemmas.List.Elements.{filter-append}
-use Rattle.sqlite.specs.declared.types.Value.TheVariants.{Text}
-use Rattle.sqlite.specs.Order.{Row, column, value_cmp}
-use Rattle.base.specs.Keyed.{put}
-use Rattle.can_id.specs.Ident.{dbc_number}
-use Rattle.dbc_sheet.specs.declared.signal.Signal.{Signal}
-use Rattle.dbc_sheet.specs.declared.value_texts.ValueText.{ValueText}
-use Rattle.decimal.specs.Number.{IsDecimal}
-use Rattle.office_types.specs.State.{by_number}
-use Rattle.office_types.specs.declared.state.LiveMessage.{LiveMessage}
-use Rattle.store_tables.specs.Selected.{has_number}
-use Rattle.store_tables.specs.Tables.{Tables}
-use Rattle.store_statements.specs.Rows.{has_net_and_number, is_of_net}
-use Rattle.store_statements.specs.Shown.{receivers_order, sigs_order, sigvalues_order}
 use Rattle.store_rows.specs.Listed.{AreShown}
 use Rattle.store_rows.specs.Live.{AreLiveRows, IsReceiverRow, IsSigRow, IsSigValueRow, LiveRows, live_rows, msg_values}
 use Rattle.store_rows.specs.Live.{parts_of, receiver_values, sig_values, sigvalue_values}

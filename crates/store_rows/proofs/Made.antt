@@ -1,16 +1,12 @@
 -- What several statements make of an office's tables, one after the other, and what several queries leave.
-use Rattle.std.proofs.Common.{◌≡◌, ◌∙◌, ap, subst, sym, arith, Ok, Err, Result}
+use Rattle.store_rows.proofs.Common.{◌≡◌, ◌∙◌, ap, subst, sym, arith, Ok, Err, Result, state, State, HasCleanDisk}
+use Rattle.store_rows.proofs.Common.{Transaction, keeps_then, Ghosts, StaysIn, Tables}
 use Rattle.std.specs.Prelude.{IsTrue, OnOk}
 use Rattle.sqlite.specs.Effect.{Database}
-use Rattle.sqlite.specs.Held.{state}
-use Rattle.sqlite.specs.State.{State, HasCleanDisk}
-use Rattle.sqlite.specs.declared.transaction.Transaction.{Transaction}
 use Rattle.sqlite.proofs.Callers.{unchanged_then}
-use Rattle.sqlite.proofs.InsideLemmas.{keeps_then}
-use Rattle.sqlite_trees.specs.declared.store.Store.{Ghosts}
-use Rattle.store_tables.specs.Frames.{ReadsOnly, ReadsWhileOpen, StaysIn}
+use Rattle.store_tables.specs.Frames.{ReadsOnly, ReadsWhileOpen}
 use Rattle.store_tables.specs.Statements.{Makes, statistics_of}
-use Rattle.store_tables.specs.Tables.{IsOffice, Tables, tables_of}
+use Rattle.store_tables.specs.Tables.{IsOffice, tables_of}
 use Rattle.store_rows.proofs.Frames.{going, nothing_left}
 
 -- a statement after another

@@ -1,25 +1,9 @@
 -- What a change of the signals of a name makes of rows, and what it does at its network, agree.
-use Rattle.std.proofs.Common.{◌≡◌, ◌∙◌, ℕ, Bool, true, false, cond, List, [], find, Option, None, Some, refl, sym, ap}
-use Rattle.std.proofs.Common.{subst}
-use Rattle.std.specs.Prelude.{◌==◌}
-use Rattle.std.specs.Str.{bytes_eq}
-use Rattle.std.proofs.lemmas.Bool.{eq-eqb, eqb-true, false≢true}
-use Rattle.sqlite.specs.Order.{Row}
-use Rattle.base.specs.Keyed.{put}
-use Rattle.can_id.specs.Ident.{dbc_number}
-use Rattle.dbc_sheet.specs.Signals.{at_signal}
-use Rattle.dbc_sheet.specs.declared.signal.Signal.{Signal}
-use Rattle.dbc_sheet.specs.declared.value_texts.ValueText.{ValueText}
-use Rattle.office_types.specs.State.{by_number}
-use Rattle.office_types.specs.declared.book.SpnBook.{SpnBook}
-use Rattle.office_types.specs.declared.command.SignalPath.{SignalPath}
-use Rattle.office_types.specs.declared.state.LiveMessage.{LiveMessage}
-use Rattle.office_types.specs.declared.state.Net.{Net}
-use Rattle.office_rules.specs.Change.{at_message}
-use Rattle.office_rules.specs.Facts.{live_named}
-use Rattle.office_rules.specs.Numbers.{with_message}
+use Rattle.store_rows.proofs.Common.{◌≡◌, ◌∙◌, ℕ, Bool, true, false, cond, List, [], find, Option, None, Some, refl}
+use Rattle.store_rows.proofs.Common.{sym, ap, subst, ◌==◌, bytes_eq, eq-eqb, eqb-true, false≢true, Row, put, dbc_number}
+use Rattle.store_rows.proofs.Common.{at_signal, Signal, ValueText, by_number, SpnBook, SignalPath, LiveMessage, Net}
+use Rattle.store_rows.proofs.Common.{at_message, live_named, with_message, Tables}
 use Rattle.office_rules.specs.Signals.{with_signals, with_spn, with_values}
-use Rattle.store_tables.specs.Tables.{Tables}
 use Rattle.store_rows.specs.Follows.{Follows}
 use Rattle.store_rows.specs.Live.{AreLiveRows, AreSignalsOf, HaveNumbers, live_rows, signals_numbered}
 use Rattle.store_rows.specs.LiveWritten.{AreTextsSet, HasSpn, HasTexts, IsSpnSet, placed_named, with_spns, with_texts}

@@ -1,7 +1,5 @@
 -- Networks in tables, with live messages in one form or another.
-use Rattle.std.proofs.Common.{◌≡◌, ℕ, List, Option, sym, subst}
-use Rattle.office_types.specs.declared.state.Net.{Net}
-use Rattle.store_tables.specs.Tables.{Tables}
+use Rattle.store_rows.proofs.Common.{◌≡◌, ℕ, List, Option, sym, subst, Net, Tables}
 use Rattle.store_rows.specs.NetIn.{IsNetIn, IsRestAt, LiveForm, live_in, rest_of}
 
 -- The rest of the rows are the same, and the live messages are there in the other form.

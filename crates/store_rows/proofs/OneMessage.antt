@@ -1,18 +1,9 @@
 -- The message that a query on its name shows first is the live one.
-use Rattle.std.proofs.Common.{◌≡◌, ◌∙◌, ℕ, pos, List, filter, None, Some, sym, ap, subst}
+use Rattle.store_rows.proofs.Common.{◌≡◌, ◌∙◌, ℕ, pos, List, filter, None, Some, sym, ap, subst, bytes_eq, Row, column}
+use Rattle.store_rows.proofs.Common.{Int, dbc_number, Signal, LiveMessage, live_named, IsSelected, Tables}
+use Rattle.store_rows.proofs.Common.{has_net_and_name, msg_named_order, msg_named_shown}
 use Rattle.std.specs.Option.{option_map}
 use Rattle.std.specs.Prelude.{slice_get}
-use Rattle.std.specs.Str.{bytes_eq}
-use Rattle.sqlite.specs.Order.{Row, column}
-use Rattle.sqlite.specs.declared.types.Value.TheVariants.{Int}
-use Rattle.can_id.specs.Ident.{dbc_number}
-use Rattle.dbc_sheet.specs.declared.signal.Signal.{Signal}
-use Rattle.office_types.specs.declared.state.LiveMessage.{LiveMessage}
-use Rattle.office_rules.specs.Facts.{live_named}
-use Rattle.store_tables.specs.Selected.{IsSelected}
-use Rattle.store_tables.specs.Tables.{Tables}
-use Rattle.store_statements.specs.Rows.{has_net_and_name}
-use Rattle.store_statements.specs.Shown.{msg_named_order, msg_named_shown}
 use Rattle.store_rows.specs.Listed.{AreShown}
 use Rattle.store_rows.specs.Live.{AreLiveRows, AreSignalsOf, live_rows}
 use Rattle.store_rows.specs.SignalShowing.{ShowsLive}

@@ -1,7 +1,5 @@
 -- A row shows a signal with any receivers and value texts: it has neither.
-use Rattle.std.proofs.Common.{◌≡◌, ℕ, sym, subst}
-use Rattle.sqlite.specs.Order.{Row}
-use Rattle.dbc_sheet.specs.declared.signal.Signal.{Signal}
+use Rattle.store_rows.proofs.Common.{◌≡◌, ℕ, sym, subst, Row, Signal}
 use Rattle.store_rows.specs.SignalShowing.{ShowsPlaced}
 
 abbrev pub Part : Type 0

@@ -1,13 +1,8 @@
 -- Rows of signals' parts, put together with the rows of the signals.
-use Rattle.std.proofs.Common.{◌≡◌, ◌∙◌, ℕ, suc, ◌+◌, ◌<◌, Bool, true, false, cond, List, [], ◌∷◌, ◌++◌, map, take, drop}
-use Rattle.std.proofs.Common.{pos, refl, sym, ap, subst, arith, append_assoc, append-nil, inl, inr}
-use Rattle.std.specs.Prelude.{◌==◌}
-use Rattle.std.specs.List.{AllByRecursion, prefix_len}
-use Rattle.std.proofs.lemmas.Bool.{cases_Bool, eq-eqb, eqb-true}
-use Rattle.sqlite.specs.declared.types.Value.TheVariants.{Int}
-use Rattle.sqlite.specs.Order.{Row, column}
-use Rattle.dbc_sheet.specs.declared.signal.Signal.{Signal}
-use Rattle.dbc_sheet.specs.declared.value_texts.ValueText.{ValueText}
+use Rattle.store_rows.proofs.Common.{◌≡◌, ◌∙◌, ℕ, suc, ◌+◌, ◌<◌, Bool, true, false, cond, List, [], ◌∷◌, ◌++◌, map}
+use Rattle.store_rows.proofs.Common.{take, drop, pos, refl, sym, ap, subst, arith, append_assoc, append-nil, inl, inr}
+use Rattle.store_rows.proofs.Common.{◌==◌, AllByRecursion, prefix_len, cases_Bool, eq-eqb, eqb-true, Int, Row, column}
+use Rattle.store_rows.proofs.Common.{Signal, ValueText}
 use Rattle.store_rows.specs.Listed.{AreShown}
 use Rattle.store_rows.specs.Live.{parts_of}
 use Rattle.store_rows.specs.SignalShowing.{PlacesAscend, ShowsPart, ShowsPlaced, ShowsReceiver, ShowsSignal}

@@ -1,39 +1,26 @@
 -- What the rows of queries show.
-use Rattle.std.proofs.Common.{◌≡◌, ℕ, ◌+◌, List, [], ◌∷◌, ◌++◌, map, Bool, true, false, cond, not, ◌&&◌, refl, sym, ap}
-use Rattle.std.proofs.Common.{subst, ◌∙◌, ◌==◌, pos, arith}
-use Rattle.std.specs.Prelude.{filter, IsPermutation, IsSorted}
-use Rattle.std.specs.Ordering.{is_eq, is_lt, nat_cmp}
-use Rattle.std.proofs.lemmas.Bool.Decides.{nat_tests}
-use Rattle.std.proofs.lemmas.List.Elements.{filter-append}
-use Rattle.sqlite.specs.declared.types.Value.TheVariants.{Int}
+use Rattle.store_rows.proofs.Common.{◌≡◌, ℕ, ◌+◌, List, [], ◌∷◌, ◌++◌, map, Bool, true, false, cond, not, ◌&&◌, refl}
+use Rattle.store_rows.proofs.Common.{sym, ap, subst, ◌∙◌, pos, arith, IsPermutation, IsSorted, is_eq, is_lt, nat_cmp}
+use Rattle.store_rows.proofs.Common.{nat_tests, filter-append, Int, IsPermutation-filter, GrantedBlock, IsTotalOrder}
+use Rattle.store_rows.proofs.Common.{Ordering, Row, column, value_cmp, Ident, Sheet, SpnBlock, Head, LiveMessage, Spn}
+use Rattle.store_rows.proofs.Common.{form_number, IsSelected, net_row, block_row, frozen_row, is_of_net, is_of_form}
+use Rattle.store_rows.proofs.Common.{net_order, messages_order, blocks_order, blocks_of_form_order, held_order}
+use Rattle.store_rows.proofs.Common.{spns_order, approvals_order, releases_order}
+use Rattle.std.proofs.Common.{◌==◌}
+use Rattle.std.specs.Prelude.{filter}
 use Rattle.store_rows.proofs.Keys.{int_test, net_total, messages_total, blocks_total, blocks_of_form_total, held_total}
+use Rattle.store_rows.proofs.Keys.{spns_total, approvals_total, releases_total}
 use Rattle.std.proofs.lemmas.List.Kept.{IsSortedBy-filter}
 use Rattle.std.proofs.lemmas.List.Sorted.{ranks_by}
-use Rattle.sqlite_trees.proofs.ListLemmas.{IsPermutation-filter}
-use Rattle.office_types.specs.declared.state.GrantedBlock.{GrantedBlock}
-use Rattle.std.specs.Cmp.{IsTotalOrder}
-use Rattle.std.specs.declared.cmp.Ordering.{Ordering}
-use Rattle.sqlite.specs.Order.{Row, column, value_cmp}
-use Rattle.can_id.specs.declared.ident.Ident.{Ident}
-use Rattle.dbc_sheet.specs.declared.sheet.Sheet.{Sheet}
-use Rattle.office_types.specs.declared.book.SpnBlock.{SpnBlock}
-use Rattle.office_types.specs.declared.state.Head.{Head}
-use Rattle.office_types.specs.declared.state.LiveMessage.{LiveMessage}
-use Rattle.office_types.specs.declared.block.BlockForm.TheVariants.{Spn}
-use Rattle.office_types.specs.Block.{form_number}
-use Rattle.store_tables.specs.Selected.{IsSelected}
-use Rattle.store_statements.specs.Rows.{net_row, message_row, block_row, frozen_row, is_of_net, is_of_form, is_any}
-use Rattle.store_statements.specs.Shown.{net_shown, net_order, messages_shown, messages_order, blocks_shown}
-use Rattle.store_statements.specs.Shown.{blocks_order, blocks_of_form_shown, blocks_of_form_order, held_shown}
-use Rattle.store_statements.specs.Shown.{held_order, spns_shown, spns_order, approvals_shown, approvals_order}
-use Rattle.store_statements.specs.Shown.{releases_shown, releases_order}
+use Rattle.store_statements.specs.Rows.{message_row, is_any}
+use Rattle.store_statements.specs.Shown.{net_shown, messages_shown, blocks_shown, blocks_of_form_shown, held_shown}
+use Rattle.store_statements.specs.Shown.{spns_shown, approvals_shown, releases_shown}
 use Rattle.store_rows.specs.Listed.{AreShown, AreListed}
 use Rattle.store_rows.specs.Rows.{IsRowOf, IsNetRow, IsMessageRow, IsBlockRow, IsSpnBlockRow, IsHeldRow, IsApprovalRow}
 use Rattle.store_rows.specs.Rows.{IsSpnRow, IsFrozenRow, is_granted, numbered}
 use Rattle.store_rows.specs.Showing.{ShowsHead, ShowsMessage, ShowsBlock, ShowsSpnBlock, ShowsIdent, ShowsTeam}
 use Rattle.store_rows.specs.Showing.{ShowsNumber, ShowsRelease, is_own}
 use Rattle.store_rows.proofs.Listing.{found_listed}
-use Rattle.store_rows.proofs.Keys.{spns_total, approvals_total, releases_total}
 
 shown_map : {A X Y : Type 0} (R : A → X → Type 0) (S : A → Y → Type 0) (f : X → Y)
     → ((a : A) (x : X) → R a x → S a (f x)) → (items : List A) (xs : List X) → AreShown R items xs

@@ -1,16 +1,9 @@
 -- Rows of signals' parts as they are written: places as the signals have them, seats from 0. They ascend.
-use Rattle.std.proofs.Common.{◌≡◌, ◌∙◌, ℕ, ◌+◌, ◌<◌, pos, List, [], ◌∷◌, ◌++◌, map, ap, arith}
-use Rattle.std.specs.List.{AllByRecursion}
+use Rattle.store_rows.proofs.Common.{◌≡◌, ◌∙◌, ℕ, ◌+◌, ◌<◌, pos, List, [], ◌∷◌, ◌++◌, map, ap, arith, AllByRecursion}
+use Rattle.store_rows.proofs.Common.{ordering_then, Ordering, Less, tied_itself, Int, Row, column, value_cmp}
+use Rattle.store_rows.proofs.Common.{value_cmp_total, Signal, by_column}
 use Rattle.std.specs.List.Sorted.{IsStrictlySortedBy}
-use Rattle.std.specs.Ordering.{ordering_then, then_cmp}
-use Rattle.std.specs.declared.cmp.Ordering.{Ordering}
-use Rattle.std.specs.declared.cmp.Ordering.TheVariants.{Less}
-use Rattle.std.specs.Cmp.{tied_itself}
-use Rattle.sqlite.specs.declared.types.Value.TheVariants.{Int}
-use Rattle.sqlite.specs.Order.{Row, column, value_cmp}
-use Rattle.sqlite_value.proofs.OrderLemmas.{value_cmp_total}
-use Rattle.dbc_sheet.specs.declared.signal.Signal.{Signal}
-use Rattle.store_tables.specs.Selected.{by_column}
+use Rattle.std.specs.Ordering.{then_cmp}
 use Rattle.store_rows.specs.Listed.{AreShown}
 use Rattle.store_rows.specs.Live.{parts_of}
 use Rattle.store_rows.specs.SignalShowing.{PlacesAscend}

@@ -1,20 +1,11 @@
 -- What a DELETE and an INSERT leave of the rows that pass a test.
-use Rattle.std.proofs.Common.{◌≡◌, List, [], ◌∷◌, ◌++◌, Bool, true, false, cond, not, refl, sym, ap, subst, ◌∙◌}
-use Rattle.std.proofs.Common.{append-nil}
-use Rattle.std.specs.Prelude.{IsPermutation, filter}
-use Rattle.std.specs.List.{AllByRecursion}
-use Rattle.std.specs.Ordering.{is_eq}
-use Rattle.std.specs.Cmp.{IsTotalOrder}
-use Rattle.std.specs.declared.cmp.Ordering.{Ordering}
-use Rattle.std.specs.declared.cmp.Ordering.TheVariants.{Less, Equal, Greater}
-use Rattle.std.proofs.lemmas.Bool.{false≢true}
-use Rattle.std.proofs.lemmas.List.Elements.{filter-append}
-use Rattle.std.proofs.lemmas.List.Sorted.{IsPermutation-sym, IsPermutation-refl, IsPermutation-cons}
-use Rattle.std.proofs.lemmas.List.Sorted.{IsPermutation-to_front}
-use Rattle.sqlite.specs.Order.{Row, value_cmp}
+use Rattle.store_rows.proofs.Common.{◌≡◌, List, [], ◌∷◌, ◌++◌, Bool, true, false, cond, not, refl, sym, ap, subst, ◌∙◌}
+use Rattle.store_rows.proofs.Common.{append-nil, IsPermutation, AllByRecursion, is_eq, IsTotalOrder, Ordering, Less}
+use Rattle.store_rows.proofs.Common.{Equal, Greater, false≢true, filter-append, IsPermutation-sym, IsPermutation-refl}
+use Rattle.store_rows.proofs.Common.{IsPermutation-cons, IsPermutation-to_front, Row, value_cmp, put}
+use Rattle.std.specs.Prelude.{filter}
 use Rattle.sqlite.specs.Tree.{put_row}
 use Rattle.sqlite_trees.specs.Tree.{rowid}
-use Rattle.base.specs.Keyed.{put}
 use Rattle.store_rows.specs.Listed.{AreListed}
 use Rattle.store_rows.proofs.Listing.{set_listed, moved_listed}
 

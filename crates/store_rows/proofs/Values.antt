@@ -1,12 +1,8 @@
 -- One value in a column, and what was read part by part.
-use Rattle.std.proofs.Common.{◌≡◌, ℕ, pos, List, Some, sym, ap, ◌∙◌}
-use Rattle.sqlite.specs.declared.types.Value.{Value}
-use Rattle.sqlite.specs.declared.types.Value.TheVariants.{Int, Text, Blob}
+use Rattle.store_rows.proofs.Common.{◌≡◌, ℕ, pos, List, Some, sym, ap, ◌∙◌, Value, Int, Text, Blob, Sheet, Head}
+use Rattle.store_rows.proofs.Common.{LiveMessage}
 use Rattle.dbc_sheet.specs.declared.message.Message.{Message}
-use Rattle.dbc_sheet.specs.declared.sheet.Sheet.{Sheet}
 use Rattle.office_types.specs.declared.command.NetKind.{NetKind}
-use Rattle.office_types.specs.declared.state.Head.{Head}
-use Rattle.office_types.specs.declared.state.LiveMessage.{LiveMessage}
 use Rattle.office_types.specs.declared.state.Phase.{Phase}
 
 pub one_text : (v : Value) (a b : List ℕ) → v ≡ Text a → v ≡ Text b → a ≡ b

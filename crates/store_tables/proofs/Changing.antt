@@ -1,41 +1,21 @@
 -- What a statement on one table makes of all tables: that one's rows change, the others stay.
-use Rattle.std.proofs.Common.{◌≡◌, ◌≢◌, ℕ, ℤ, zero, suc, List, [], ◌∷◌, ◌++◌, map, set, slice_get, length, Bool, false}
-use Rattle.std.proofs.Common.{true, not, ◌==◌, Option, None, Some, Ok, Err, Result, refl, sym, ap, subst, ◌∙◌, arith}
-use Rattle.std.proofs.Common.{inl, inr}
-use Rattle.std.specs.Prelude.{◌&&◌, ◌/◌, ◌-◌, ◌^◌, nat_le, if◌then◌else◌, unwrap_or, IfOk, OnOk, IsTrue, IsPermutation}
-use Rattle.std.specs.Prelude.{filter}
-use Rattle.std.specs.List.{AllByRecursion, list_all}
+use Rattle.store_tables.proofs.Common.{◌≡◌, ℕ, ℤ, zero, suc, List, [], ◌∷◌, ◌++◌, map, slice_get, length, Bool, false}
+use Rattle.store_tables.proofs.Common.{true, not, Option, None, Some, Ok, Err, Result, refl, sym, ap, subst, ◌∙◌, arith}
+use Rattle.store_tables.proofs.Common.{inl, inr, ◌&&◌, ◌/◌, unwrap_or, IfOk, OnOk, IsTrue, IsPermutation, filter}
+use Rattle.store_tables.proofs.Common.{AllByRecursion, list_all, Less, Ordering, cases_Bool, map-append, length-map}
+use Rattle.store_tables.proofs.Common.{length_permutation, Error, SqliteFailure, TransactionState, Null, Int, Row}
+use Rattle.store_tables.proofs.Common.{column, value_cmp, Term, col, next_tree, Schema, Table, Trees, put_row, rowid}
+use Rattle.store_tables.proofs.Common.{overlay, Values, Insert, Delete, edit_of, id_in, without_all, next_rowid, Chosen}
+use Rattle.store_tables.proofs.Common.{value_rows, stamped, ids_of, IsShaped, understood, State, Executes}
+use Rattle.store_tables.proofs.Common.{ExecutesInside, IsSound, IsPlain, command_of, runs_as}
+use Rattle.std.proofs.Common.{◌≢◌, set, ◌==◌}
+use Rattle.std.specs.Prelude.{◌-◌, ◌^◌, nat_le, if◌then◌else◌}
 use Rattle.std.specs.Ordering.{match_ordering}
-use Rattle.std.specs.declared.cmp.Ordering.TheVariants.{Less, Equal, Greater}
-use Rattle.std.specs.declared.cmp.Ordering.{Ordering}
-use Rattle.std.proofs.lemmas.Bool.{and_parts, eqb-true, eqb-false, not-true, cases_Bool}
-use Rattle.std.proofs.lemmas.List.{map-append, length-map}
-use Rattle.std.proofs.lemmas.List.Sorted.{length_permutation}
-use Rattle.sqlite.specs.declared.error.Error.{Error}
-use Rattle.sqlite.specs.declared.error.Error.TheVariants.{SqliteFailure}
-use Rattle.sqlite.specs.declared.error.ErrorCode.TheVariants.{TransactionState}
-use Rattle.sqlite.specs.declared.types.Value.TheVariants.{Null, Int}
-use Rattle.sqlite.specs.Order.{Row, column, value_cmp}
-use Rattle.sqlite.specs.Term.{Term, col}
-use Rattle.sqlite.specs.Change.{next_tree}
-use Rattle.sqlite.specs.Schema.{Schema}
-use Rattle.sqlite.specs.Table.{Table}
-use Rattle.sqlite.specs.Tree.{Trees, put_row, rowid}
-use Rattle.sqlite.specs.Program.{overlay}
-use Rattle.sqlite.specs.Source.TheVariants.{Values}
-use Rattle.sqlite.specs.Command.TheVariants.{Insert, Delete}
-use Rattle.sqlite.specs.Edit.{edit_of, edited, id_in, without_all, next_rowid}
-use Rattle.sqlite.specs.Rowids.TheVariants.{Chosen}
-use Rattle.sqlite.specs.Effect.{value_rows}
-use Rattle.sqlite.specs.Rows.{stamped}
-use Rattle.sqlite_rules.specs.Calls.{ids_of}
-use Rattle.sqlite_trees.specs.View.{IsShaped}
+use Rattle.std.specs.declared.cmp.Ordering.TheVariants.{Equal, Greater}
+use Rattle.std.proofs.lemmas.Bool.{and_parts, eqb-true, eqb-false, not-true}
+use Rattle.sqlite.specs.Edit.{edited}
 use Rattle.sqlite_trees.specs.declared.store.Shape.TheVariants as shape
 use Rattle.sqlite_trees.proofs.TreeLemmas.{IsShaped-put_row, IsShaped-filter}
-use Rattle.sqlite.specs.Listing.{understood}
-use Rattle.sqlite.specs.State.{State, Executes, ExecutesInside}
-use Rattle.sqlite_catalog.specs.Listing.{IsSound}
-use Rattle.sqlite.proofs.Callers.{IsPlain, command_of, runs_as}
 use Rattle.store_tables.specs.Schema.{IsCurrentSchema, analyzed_schema, office_schema, statistics}
 use Rattle.store_tables.specs.Tables.{AreNumbered, Tables, tables_of, named, row_by, values, keyed_values, IsOffice}
 use Rattle.store_tables.specs.Statements.{Makes, rows_in, statistics_in, statistics_of}

@@ -1,15 +1,10 @@
 -- Columns of a row without its rowid, and values that a column takes as they are.
-use Rattle.std.proofs.Common.{◌≡◌, ℕ, ℤ, suc, pos, List, [], ◌∷◌, cond, Bool, true, false, refl, sym, ap, ◌∙◌}
-use Rattle.std.specs.Ordering.{is_eq}
-use Rattle.sqlite.specs.declared.types.Value.{Value}
-use Rattle.sqlite.specs.declared.types.Value.TheVariants.{Null, Int, Text}
-use Rattle.sqlite.specs.Order.{Row, column, value_cmp}
-use Rattle.sqlite.specs.Ops.{unary, binary, is_true}
+use Rattle.store_tables.proofs.Common.{◌≡◌, ℕ, ℤ, suc, pos, List, [], ◌∷◌, cond, Bool, true, false, refl, sym, ap, ◌∙◌}
+use Rattle.store_tables.proofs.Common.{is_eq, Value, Null, Int, Text, Row, column, value_cmp, is_true, Compare, Eq}
+use Rattle.store_tables.proofs.Common.{Binary}
+use Rattle.sqlite.specs.Ops.{unary, binary}
 use Rattle.sqlite.specs.Cast.{cast}
 use Rattle.sqlite.specs.Kind.TheVariants.{Integer}
-use Rattle.sqlite_sql.specs.declared.ops.BinaryOp.TheVariants.{Compare}
-use Rattle.sqlite_sql.specs.declared.ops.CompareOp.TheVariants.{Eq}
-use Rattle.sqlite.specs.Collation.TheVariants.{Binary}
 use Rattle.store_tables.specs.Tables.{values, keyed_values}
 use Rattle.store_tables.specs.Selected.{has_text, has_number}
 use Rattle.store_tables.proofs.Selecting.{holds_text, holds_int}

@@ -1,28 +1,16 @@
 -- What a count of one table's rows answers, and a SELECT of the first of them.
-use Rattle.std.proofs.Common.{◌≡◌, ◌∙◌, inl, inr, ℕ, zero, suc, pos, negsuc, List, [], ◌∷◌, map, length, Bool, cond}
-use Rattle.std.proofs.Common.{Some, None, refl, sym, ap, subst, arith}
-use Rattle.std.specs.Prelude.{filter, flat_map, min, take, IsPermutation, All, IfOk, Result, Ok, Err, codes, false}
-use Rattle.std.specs.List.{AllZip, list_all}
-use Rattle.std.proofs.lemmas.Bool.{cases_Bool}
-use Rattle.std.proofs.lemmas.List.{length-map}
-use Rattle.std.proofs.lemmas.List.Sorted.{All-permutation, length_permutation}
-use Rattle.sqlite.specs.declared.types.Value.TheVariants.{Null, Int}
-use Rattle.sqlite.specs.Order.{Row}
-use Rattle.sqlite.specs.Tree.{Trees}
-use Rattle.sqlite.specs.Term.{Term, lit, col, holds}
-use Rattle.sqlite.specs.Collation.TheVariants.{Binary}
+use Rattle.store_tables.proofs.Common.{◌≡◌, ◌∙◌, inl, inr, ℕ, zero, suc, pos, negsuc, List, [], ◌∷◌, map, length, Bool}
+use Rattle.store_tables.proofs.Common.{cond, Some, None, refl, sym, ap, subst, arith, filter, flat_map, IsPermutation}
+use Rattle.store_tables.proofs.Common.{IfOk, AllZip, list_all, cases_Bool, length-map, length_permutation, Null, Int}
+use Rattle.store_tables.proofs.Common.{Row, Trees, Term, lit, col, holds, Binary, Query, inner, end, IsAnswer, output}
+use Rattle.store_tables.proofs.Common.{Output, Error, Select, understood, reads_listing, overlay, State, Shown, IsPlain}
+use Rattle.store_tables.proofs.Common.{command_of, reads_as, Schema}
+use Rattle.std.specs.Prelude.{min, take, All, Result, Ok, Err, codes, false}
+use Rattle.std.proofs.lemmas.List.Sorted.{All-permutation}
 use Rattle.sqlite_sql.specs.Aggregate.{count}
 use Rattle.sqlite_sql.specs.Group.{Aggregate, Grouping, IsSummary, value_over}
 use Rattle.sqlite_sql.specs.Term.{Env}
 use Rattle.sqlite_sql.specs.declared.aggregate.AggregateOp.TheVariants.{CountRows}
-use Rattle.sqlite.specs.Query.{Query, inner, end, IsAnswer, output, Output}
-use Rattle.sqlite.specs.declared.error.Error.{Error}
-use Rattle.sqlite.specs.Command.TheVariants.{Select}
-use Rattle.sqlite.specs.Listing.{understood, reads_listing}
-use Rattle.sqlite.specs.Program.{overlay}
-use Rattle.sqlite.specs.State.{State, Shown}
-use Rattle.sqlite.proofs.Callers.{IsPlain, command_of, reads_as}
-use Rattle.sqlite.specs.Schema.{Schema}
 use Rattle.store_tables.specs.Schema.{IsCurrentSchema}
 use Rattle.store_tables.specs.Tables.{values}
 use Rattle.store_tables.proofs.Current.{InEach, in_each}

@@ -1,6 +1,5 @@
 -- What holds under each schema that all tables of an office have: without statistics, and with them.
-use Rattle.std.proofs.Common.{inl, inr, sym, subst}
-use Rattle.sqlite.specs.Schema.{Schema}
+use Rattle.store_tables.proofs.Common.{inl, inr, sym, subst, Schema}
 use Rattle.store_tables.specs.Schema.{IsCurrentSchema, analyzed_schema, office_schema}
 
 pub record InEach (P : Schema → Type 0) : Type 0 where

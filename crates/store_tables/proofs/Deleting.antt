@@ -1,35 +1,24 @@
 -- What a DELETE makes of a table whose rowids ascend.
-use Rattle.std.proofs.Common.{◌≡◌, inl, inr, ℕ, ℤ, List, [], ◌∷◌, slice_get, Bool, false, true, not, Option, Some, None}
-use Rattle.std.proofs.Common.{Ok, refl, sym, ap, subst, ◌∙◌}
-use Rattle.std.specs.Prelude.{filter, length, unwrap_or, IsTrue, IsPermutation, ◌||◌}
-use Rattle.std.specs.List.{list_any, AllByRecursion}
-use Rattle.std.specs.Ordering.{is_eq, ordering_reverse}
+use Rattle.store_tables.proofs.Common.{◌≡◌, inl, inr, ℕ, ℤ, List, [], ◌∷◌, slice_get, Bool, false, true, not, Option}
+use Rattle.store_tables.proofs.Common.{Some, None, Ok, refl, sym, ap, subst, ◌∙◌, filter, unwrap_or, IsTrue}
+use Rattle.store_tables.proofs.Common.{IsPermutation, AllByRecursion, is_eq, Less, cases_Bool, length-map, Row}
+use Rattle.store_tables.proofs.Common.{value_cmp, Trees, rowid, id_in, without_all, edit_of, Applies, taken_by, ids_of}
+use Rattle.store_tables.proofs.Common.{IsShaped, is_int, value_cmp_total, Table, Schema, Delete, Keys, Enforced}
+use Rattle.store_tables.proofs.Common.{Database, Does, Written, Task, understood, State, mode_of, Executes, IsPlain}
+use Rattle.store_tables.proofs.Common.{command_of, statement_of, runs_as, one_step}
+use Rattle.std.specs.Prelude.{length, ◌||◌}
+use Rattle.std.specs.List.{list_any}
+use Rattle.std.specs.Ordering.{ordering_reverse}
 use Rattle.std.specs.Cmp.{tied_itself}
-use Rattle.std.specs.declared.cmp.Ordering.TheVariants.{Less}
-use Rattle.std.proofs.lemmas.Bool.{cases_Bool}
-use Rattle.std.proofs.lemmas.List.{length-map}
 use Rattle.std.proofs.lemmas.List.Sorted.{list_any-IsPermutation}
-use Rattle.sqlite.specs.Order.{Row, value_cmp}
-use Rattle.sqlite.specs.Tree.{Trees, rowid, has_rowid, without_rowid}
-use Rattle.sqlite.specs.Edit.{id_in, without_all, edit_of, Applies, taken_by, row_at}
+use Rattle.sqlite.specs.Tree.{has_rowid, without_rowid}
+use Rattle.sqlite.specs.Edit.{row_at}
 use Rattle.sqlite_rules.specs.Lists.{Has}
-use Rattle.sqlite_rules.specs.Calls.{ids_of}
-use Rattle.sqlite_trees.specs.View.{IsShaped, is_int}
 use Rattle.sqlite_trees.specs.declared.store.Shape.TheVariants as shape
-use Rattle.sqlite_value.proofs.OrderLemmas.{value_cmp_total}
-use Rattle.sqlite.specs.Table.{Table}
-use Rattle.sqlite.specs.Schema.{Schema}
-use Rattle.sqlite.specs.Command.TheVariants.{Delete}
 use Rattle.sqlite.specs.Rowids.TheVariants.{Given}
 use Rattle.sqlite_schema.specs.declared.program.Program.{Program}
-use Rattle.sqlite_schema.specs.declared.schema.Keys.{Keys}
-use Rattle.sqlite_schema.specs.declared.schema.Keys.TheVariants.{Enforced}
-use Rattle.sqlite.specs.Effect.{Database, Answers}
-use Rattle.sqlite.specs.Does.{Does}
-use Rattle.sqlite.specs.Rows.{Written, Task, Deletes}
-use Rattle.sqlite.specs.Listing.{understood}
-use Rattle.sqlite.specs.State.{State, mode_of, Executes}
-use Rattle.sqlite.proofs.Callers.{IsPlain, command_of, statement_of, runs_as, one_step}
+use Rattle.sqlite.specs.Effect.{Answers}
+use Rattle.sqlite.specs.Rows.{Deletes}
 use Rattle.store_tables.proofs.Numbering.{int_is}
 use Rattle.store_tables.proofs.Inserting.{went, same_value, RefersToNone, concluded, tallied}
 

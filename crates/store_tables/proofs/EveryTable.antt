@@ -1,5 +1,5 @@
 -- The tables and the indexes of an office are those that are compared.
-use Rattle.std.proofs.Common.{◌≡◌, map, refl}
+use Rattle.store_tables.proofs.Common.{◌≡◌, map, refl}
 use Rattle.std.specs.Fmt.{digits}
 use Rattle.store_tables.specs.Comparing.{every_index, every_table, index_of, table_of}
 use Rattle.store_tables.specs.Schema.{analyzed_schema}

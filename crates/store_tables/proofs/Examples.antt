@@ -1,12 +1,8 @@
 -- Worked examples, computed from the definitions.
-use Rattle.std.proofs.Common.{◌≡◌, ℕ, List, [], ◌∷◌, pos, map, codes, false, true, slice_index_or, Err, Ok, Result}
-use Rattle.std.proofs.Common.{refl, ap}
+use Rattle.store_tables.proofs.Common.{◌≡◌, ℕ, List, [], ◌∷◌, pos, map, codes, false, true, slice_index_or, Err, Ok}
+use Rattle.store_tables.proofs.Common.{Result, refl, ap, Null, Int, Text, Binary, table_defined_by, Table, Trees}
 use Rattle.std.specs.Prelude.{◌≢◌}
-use Rattle.sqlite.specs.declared.types.Value.TheVariants.{Null, Int, Text}
-use Rattle.sqlite.specs.Collation.TheVariants.{Binary, NoCase}
-use Rattle.sqlite.specs.Compile.{table_defined_by}
-use Rattle.sqlite.specs.Table.{Table}
-use Rattle.sqlite.specs.Tree.{Trees}
+use Rattle.sqlite.specs.Collation.TheVariants.{NoCase}
 use Rattle.sqlite_schema.specs.declared.schema.Column.{Column}
 use Rattle.sqlite_tied.specs.Compute.{everything}
 use Rattle.store_tables.specs.Comparing.{IsBegun}

@@ -1,20 +1,7 @@
 -- What a SELECT from one table of the office shows, whatever its condition.
-use Rattle.std.proofs.Common.{◌≡◌, ℕ, List, [], map, Bool, false, Ok, Err, Result, refl, subst}
-use Rattle.std.specs.Prelude.{IfOk}
-use Rattle.std.specs.declared.cmp.Ordering.{Ordering}
-use Rattle.sqlite.specs.declared.error.Error.{Error}
-use Rattle.sqlite.specs.declared.types.Value.TheVariants.{Null}
-use Rattle.sqlite.specs.Order.{Row}
-use Rattle.sqlite.specs.Term.{Term}
-use Rattle.sqlite.specs.Query.{key_cmp}
-use Rattle.sqlite_value.specs.declared.keys.Key.{Key}
-use Rattle.sqlite.specs.Collation.TheVariants.{Binary}
-use Rattle.sqlite.specs.Program.{overlay}
-use Rattle.sqlite.specs.Command.TheVariants.{Select}
-use Rattle.sqlite.specs.Listing.{understood, reads_listing}
-use Rattle.sqlite.specs.State.{State, Shown}
-use Rattle.sqlite.proofs.Callers.{IsPlain, command_of, reads_as}
-use Rattle.sqlite.specs.Schema.{Schema}
+use Rattle.store_tables.proofs.Common.{◌≡◌, ℕ, List, [], map, Bool, false, Ok, Err, Result, refl, subst, IfOk, Ordering}
+use Rattle.store_tables.proofs.Common.{Error, Null, Row, Term, key_cmp, Key, Binary, overlay, Select, understood}
+use Rattle.store_tables.proofs.Common.{reads_listing, State, Shown, IsPlain, command_of, reads_as, Schema}
 use Rattle.store_tables.specs.Schema.{IsCurrentSchema}
 use Rattle.store_tables.specs.Selected.{IsSelected}
 use Rattle.store_tables.proofs.Current.{InEach, in_each}

@@ -1,7 +1,8 @@
 -- Lists that are compared, element by element, with what stands for another list.
-use Rattle.std.proofs.Common.{arith, ◌≡◌, ◌∙◌, ◌↔◌, ℕ, ◌+◌, ◌<◌, ◌≤◌, Bool, true, false, length, map, take, List}
-use Rattle.std.proofs.Common.{slice_index_or, sym, ap}
-use Rattle.std.proofs.lemmas.List.{get_or-map, length-map, take_more_same}
+use Rattle.store_tables.proofs.Common.{arith, ◌≡◌, ◌∙◌, ℕ, ◌+◌, ◌<◌, Bool, true, false, length, map, take, List}
+use Rattle.store_tables.proofs.Common.{slice_index_or, sym, ap, length-map}
+use Rattle.std.proofs.Common.{◌↔◌, ◌≤◌}
+use Rattle.std.proofs.lemmas.List.{get_or-map, take_more_same}
 
 -- one more element is what stands for that of the other list
 pub one_more : {X Y : Type 0} (f : Y → X) (xs : List X) (ys : List Y) (at : ℕ) (x d : X) (e : Y) (is : Bool)

@@ -1,17 +1,8 @@
 -- Tables that are made beside others: no row changes.
-use Rattle.std.proofs.Common.{◌≡◌, ◌∙◌, ℕ, List, [], ◌∷◌, ◌++◌, map, Ok, Err, Result, false, refl, ap}
-use Rattle.std.specs.Prelude.{IsTrue, OnOk}
-use Rattle.std.proofs.lemmas.List.{map-append}
+use Rattle.store_tables.proofs.Common.{◌≡◌, ◌∙◌, ℕ, List, [], ◌∷◌, ◌++◌, map, Ok, Err, Result, false, refl, ap, IsTrue}
+use Rattle.store_tables.proofs.Common.{OnOk, map-append, Error, SqliteFailure, TransactionState, KeepsRows, created}
+use Rattle.store_tables.proofs.Common.{next_tree, Schema, Table, Trees, Database, State, ExecutesInside}
 use Rattle.std.proofs.lemmas.Result.{on_ok_weaker}
-use Rattle.sqlite.specs.declared.error.Error.{Error}
-use Rattle.sqlite.specs.declared.error.Error.TheVariants.{SqliteFailure}
-use Rattle.sqlite.specs.declared.error.ErrorCode.TheVariants.{TransactionState}
-use Rattle.sqlite.specs.Change.{KeepsRows, created, next_tree}
-use Rattle.sqlite.specs.Schema.{Schema}
-use Rattle.sqlite.specs.Table.{Table}
-use Rattle.sqlite.specs.Tree.{Trees}
-use Rattle.sqlite.specs.Effect.{Database}
-use Rattle.sqlite.specs.State.{State, ExecutesInside}
 use Rattle.store_tables.specs.Schema.{schema_9, schema_10, schema_11, schema_12, schema_13, office_schema, msg, sig}
 use Rattle.store_tables.specs.Schema.{receiver, sigvalue, part}
 use Rattle.store_tables.specs.Tables.{named, row_by}

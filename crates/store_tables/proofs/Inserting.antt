@@ -1,27 +1,15 @@
 -- What an INSERT of one row makes of a database with no foreign key.
-use Rattle.std.proofs.Common.{◌≡◌, ◌⊎◌, inl, inr, ℕ, List, [], length, slice_get, false, Option, Some, None, Ok, Err}
-use Rattle.std.proofs.Common.{Result, sym, ap, subst, ◌∙◌}
-use Rattle.std.specs.Prelude.{◌/◌, unwrap_or}
-use Rattle.sqlite.specs.Order.{Row}
-use Rattle.sqlite.specs.Term.{Term}
-use Rattle.sqlite.specs.Table.{Table}
-use Rattle.sqlite.specs.Tree.{Trees}
-use Rattle.sqlite.specs.Schema.{Schema}
+use Rattle.store_tables.proofs.Common.{◌≡◌, ◌⊎◌, inl, inr, ℕ, List, [], length, slice_get, false, Option, Some, None}
+use Rattle.store_tables.proofs.Common.{Ok, Err, Result, sym, ap, subst, ◌∙◌, ◌/◌, unwrap_or, Row, Term, Table, Trees}
+use Rattle.store_tables.proofs.Common.{Schema, Values, Insert, edit_of, Applies, taken_by, Chosen, Keys, Database}
+use Rattle.store_tables.proofs.Common.{value_rows, Tally, Does, Written, stamped, Task, Enforced, understood, State}
+use Rattle.store_tables.proofs.Common.{mode_of, Executes, IsPlain, command_of, statement_of, runs_as, one_step}
 use Rattle.sqlite.specs.Source.{Source}
-use Rattle.sqlite.specs.Source.TheVariants.{Values}
-use Rattle.sqlite.specs.Command.TheVariants.{Insert}
-use Rattle.sqlite.specs.Edit.{edit_of, Applies, taken_by}
-use Rattle.sqlite.specs.Rowids.TheVariants.{Chosen}
-use Rattle.sqlite_schema.specs.declared.schema.Keys.{Keys}
 use Rattle.sqlite_rules.specs.Action.{works}
-use Rattle.sqlite.specs.Effect.{Database, value_rows, IsSource}
-use Rattle.sqlite.specs.Does.{Tally, Does, Concludes}
-use Rattle.sqlite.specs.Rows.{Written, stamped, Task, Inserts}
+use Rattle.sqlite.specs.Effect.{IsSource}
+use Rattle.sqlite.specs.Does.{Concludes}
+use Rattle.sqlite.specs.Rows.{Inserts}
 use Rattle.sqlite.specs.declared.run.Mode.{Mode}
-use Rattle.sqlite_schema.specs.declared.schema.Keys.TheVariants.{Enforced}
-use Rattle.sqlite.specs.Listing.{understood}
-use Rattle.sqlite.specs.State.{State, mode_of, Executes}
-use Rattle.sqlite.proofs.Callers.{IsPlain, command_of, statement_of, runs_as, one_step}
 
 -- a part that gave a value did not stop on the way
 pub went : {B E R : Type 0} {b : B} {Stops : E → Type 0} → ((stop : E) × Stops stop × (Ok b ≡ Err stop)) ⊎ R → R

@@ -1,22 +1,17 @@
 -- What a query leaves of a connection, and what follows for the last commit.
-use Rattle.std.proofs.Common.{◌≡◌, ◌⊎◌, inl, inr, ℕ, List, false, Option, None, Some, Result, Ok, Err, refl, sym, subst}
-use Rattle.std.specs.Prelude.{IfErr, IsTrue, OnOk, IfOk}
-use Rattle.std.proofs.lemmas.Bool.{cases_Bool}
-use Rattle.sqlite.specs.declared.error.Error.{Error}
-use Rattle.sqlite.specs.Order.{Row}
+use Rattle.store_tables.proofs.Common.{◌≡◌, ◌⊎◌, inl, inr, ℕ, List, false, Option, None, Some, Result, Ok, Err, refl}
+use Rattle.store_tables.proofs.Common.{sym, subst, IsTrue, OnOk, IfOk, cases_Bool, Error, Row, understood, State}
+use Rattle.store_tables.proofs.Common.{ExecutesInside, state, Schema, IsPlain}
+use Rattle.std.specs.Prelude.{IfErr}
 use Rattle.sqlite.specs.Clock.{timed}
-use Rattle.sqlite.specs.Listing.{understood}
-use Rattle.sqlite.specs.State.{State, HasCleanDisk, IsUnchanged, IsRolledBack, KeepsCommit, Fails, IsNotRun}
-use Rattle.sqlite.specs.State.{ExecutesInside, FailsToQuery, FailsToShow, RunsCommand, Shown, ShowsRows, IsTooLate}
-use Rattle.sqlite.specs.State.{Survives, CommitsShowing}
-use Rattle.sqlite.specs.Held.{state}
-use Rattle.sqlite.specs.Schema.{Schema}
+use Rattle.sqlite.specs.State.{HasCleanDisk, IsUnchanged, IsRolledBack, KeepsCommit, Fails, IsNotRun, FailsToQuery}
+use Rattle.sqlite.specs.State.{FailsToShow, RunsCommand, Shown, ShowsRows, IsTooLate, Survives, CommitsShowing}
 use Rattle.sqlite.specs.declared.transaction.Transaction.{Transaction}
 use Rattle.sqlite_trees.specs.declared.store.Store.{Ghosts}
 use Rattle.store_tables.specs.Frames.{ReadsOnly}
 use Rattle.store_tables.specs.Schema.{IsCurrentSchema}
 use Rattle.store_tables.specs.Statements.{ChangesNothing, LeavesNothing}
-use Rattle.sqlite.proofs.Callers.{IsPlain, never_commits}
+use Rattle.sqlite.proofs.Callers.{never_commits}
 use Rattle.sqlite_resolve.specs.declared.compiled.Compiled.{Compiled}
 use Rattle.sqlite_schema.specs.declared.command.Returning.{Returning}
 

@@ -1,3 +1,4 @@
+pub mod Common
 pub mod Numbering
 pub mod Inserting
 pub mod Deleting

@@ -1,30 +1,18 @@
 -- What the text that makes a table makes of a database.
-use Rattle.std.proofs.Common.{◌≡◌, ℕ, List, [], ◌∷◌, ◌++◌, codes, false, None, Ok, Err, Result, refl, sym, ap, subst}
-use Rattle.std.proofs.Common.{◌∙◌, inl, inr}
-use Rattle.std.specs.Prelude.{IsTrue, OnOk, IfOk, unwrap_or}
-use Rattle.std.specs.List.{AllByRecursion}
-use Rattle.std.proofs.lemmas.Bool.{cases_Bool}
-use Rattle.sqlite.specs.declared.error.Error.{Error}
-use Rattle.sqlite.specs.declared.error.Error.TheVariants.{SqliteFailure}
-use Rattle.sqlite.specs.declared.error.ErrorCode.TheVariants.{TransactionState}
-use Rattle.sqlite.specs.Table.{Table}
-use Rattle.sqlite.specs.Tree.{Trees}
-use Rattle.sqlite.specs.Schema.{Schema}
+use Rattle.store_tables.proofs.Common.{◌≡◌, ℕ, List, [], ◌∷◌, ◌++◌, codes, false, None, Ok, Err, Result, refl, sym, ap}
+use Rattle.store_tables.proofs.Common.{subst, ◌∙◌, inl, inr, IsTrue, OnOk, IfOk, unwrap_or, AllByRecursion, cases_Bool}
+use Rattle.store_tables.proofs.Common.{Error, SqliteFailure, TransactionState, Table, Trees, Schema, table_defined_by}
+use Rattle.store_tables.proofs.Common.{created, next_tree, KeepsRows, Database, Tally, State, Executes, ExecutesInside}
+use Rattle.store_tables.proofs.Common.{IsSound, IsPlain, command_of, statement_of, runs_as, IsShaped}
 use Rattle.sqlite.specs.Command.TheVariants.{CreateTable}
-use Rattle.sqlite.specs.Compile.{table_defined_by}
-use Rattle.sqlite.specs.Change.{created, next_tree, KeepsRows}
-use Rattle.sqlite.specs.Effect.{Database}
-use Rattle.sqlite.specs.Does.{Tally, lacks_sequence}
+use Rattle.sqlite.specs.Does.{lacks_sequence}
 use Rattle.sqlite.specs.Listing.{understood}
-use Rattle.sqlite.specs.State.{State, Runs, Executes, ExecutesInside}
+use Rattle.sqlite.specs.State.{Runs}
 use Rattle.sqlite_tied.specs.Compute.{everything}
-use Rattle.sqlite_catalog.specs.Listing.{IsSound}
-use Rattle.sqlite.proofs.Callers.{IsPlain, command_of, statement_of, runs_as}
 use Rattle.store_tables.specs.Schema.{no_schema, schema_1, schema_2, schema_3, schema_4, schema_5, schema_6, schema_7}
 use Rattle.store_tables.specs.Schema.{schema_8, schema_9, schema_10, schema_11, schema_12, schema_13, office_schema}
 use Rattle.store_tables.specs.Schema.{profile, net, message, block, held, spn, approval, frozen, reply, msg, sig}
 use Rattle.store_tables.specs.Schema.{receiver, sigvalue, part}
-use Rattle.sqlite_trees.specs.View.{IsShaped}
 use Rattle.sqlite_trees.specs.declared.store.Shape.TheVariants as shape
 use Rattle.store_tables.specs.Tables.{AreNumbered, IsEmptyWith}
 use Rattle.store_tables.specs.Statements.{AreMade, IsTableAdded, IsAt, IsEmptyOffice}

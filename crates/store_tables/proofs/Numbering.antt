@@ -1,19 +1,14 @@
 -- A table whose rowids ascend: the row with the next one goes to its end.
-use Rattle.std.proofs.Common.{◌≡◌, ℤ, pos, List, [], ◌∷◌, ◌++◌, fold, refl, sym, arith}
+use Rattle.store_tables.proofs.Common.{◌≡◌, ℤ, pos, List, [], ◌∷◌, ◌++◌, refl, sym, arith, IsTrue, AllByRecursion, Less}
+use Rattle.store_tables.proofs.Common.{Value, Int, Row, value_cmp, rowid, put_row, id_in, next_rowid, IsShaped, is_int}
+use Rattle.store_tables.proofs.Common.{value_cmp_total}
+use Rattle.std.proofs.Common.{fold}
 use Rattle.std.proofs.lemmas.Int.{ints}
-use Rattle.std.specs.Prelude.{◌+ℤ◌, IsTrue}
-use Rattle.std.specs.List.{AllByRecursion}
+use Rattle.std.specs.Prelude.{◌+ℤ◌}
 use Rattle.std.specs.Ordering.{int_cmp}
 use Rattle.std.specs.Cmp.{int_cmp_is}
-use Rattle.std.specs.declared.cmp.Ordering.TheVariants.{Less}
-use Rattle.sqlite.specs.declared.types.Value.{Value}
-use Rattle.sqlite.specs.declared.types.Value.TheVariants.{Int}
-use Rattle.sqlite.specs.Order.{Row, value_cmp}
-use Rattle.sqlite.specs.Tree.{rowid, put_row}
-use Rattle.sqlite.specs.Edit.{id_in, next_rowid}
-use Rattle.sqlite_trees.specs.View.{IsShaped, is_int}
 use Rattle.sqlite_trees.specs.declared.store.Shape.TheVariants as shape
-use Rattle.sqlite_value.proofs.OrderLemmas.{value_cmp_total, value_cmp-Int}
+use Rattle.sqlite_value.proofs.OrderLemmas.{value_cmp-Int}
 
 put_last : (new : Row) (rows : List Row) → AllByRecursion (λ r. value_cmp (rowid r) (rowid new) ≡ Less) rows
     → put_row new rows ≡ rows ++ new ∷ []

@@ -1,8 +1,8 @@
 -- The trees determine the schema: no two are sound over the same list of objects.
-use Rattle.std.proofs.Common.{◌≡◌, inl, inr, ℕ, ◌+◌, List, [], ◌∷◌, Bool, true, false, Option, Some, None, codes, pos}
-use Rattle.std.proofs.Common.{filter, refl, sym, ap, subst, ◌∙◌, arith}
+use Rattle.store_tables.proofs.Common.{◌≡◌, inl, inr, ℕ, ◌+◌, List, [], ◌∷◌, Bool, true, false, Option, Some, None}
+use Rattle.store_tables.proofs.Common.{codes, pos, refl, sym, ap, subst, ◌∙◌, arith, AllZip, IsSound}
+use Rattle.std.proofs.Common.{filter}
 use Rattle.std.specs.Prelude.{MatchBool, bytes_eq}
-use Rattle.std.specs.List.{AllZip}
 use Rattle.sqlite_value.specs.declared.value.Value.{Value}
 use Rattle.sqlite_value.specs.declared.value.Value.TheVariants.{Null, Int, Text}
 use Rattle.sqlite_value.specs.Order.{Row, column}
@@ -13,7 +13,7 @@ use Rattle.sqlite_schema.specs.declared.schema.View.{View as Stored}
 use Rattle.sqlite_schema.specs.declared.schema.Index.{Index}
 use Rattle.sqlite_schema.specs.declared.schema.Schema.{Schema}
 use Rattle.sqlite_catalog.specs.Listing.{IsTableRow, IsIndexRow, IsViewRow, IsDefined, IsAside, IsForeign, IsReadable}
-use Rattle.sqlite_catalog.specs.Listing.{automatic, AreListed, IsSound, is_table_row, is_index_row, is_view_row}
+use Rattle.sqlite_catalog.specs.Listing.{automatic, AreListed, is_table_row, is_index_row, is_view_row}
 use Rattle.sqlite_catalog.proofs.StepLemmas.{same_itself, named_once}
 use Rattle.sqlite_catalog.proofs.AlterLemmas.{numbers_differ}
 

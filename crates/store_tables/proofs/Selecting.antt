@@ -1,28 +1,22 @@
 -- What a SELECT from one table answers.
-use Rattle.std.proofs.Common.{◌≡◌, inl, inr, ℕ, ◌+◌, ◌<◌, ℤ, pos, negsuc, List, [], ◌∷◌, map, length, get_or, Bool}
-use Rattle.std.proofs.Common.{false, true, cond, Some, None, refl, sym, ap, subst, ◌∙◌, arith}
-use Rattle.std.specs.Prelude.{filter, IsPermutation, IsSorted, flat_map, ◌&&◌}
-use Rattle.std.specs.List.{list_all, swap}
+use Rattle.store_tables.proofs.Common.{◌≡◌, inl, inr, ℕ, ◌+◌, ◌<◌, ℤ, pos, negsuc, List, [], ◌∷◌, map, length, Bool}
+use Rattle.store_tables.proofs.Common.{false, true, cond, Some, None, refl, sym, ap, subst, ◌∙◌, arith, filter}
+use Rattle.store_tables.proofs.Common.{IsPermutation, flat_map, ◌&&◌, list_all, length-map, is_eq, cases_Bool, Value}
+use Rattle.store_tables.proofs.Common.{Null, Int, Text, Key, Row, value_cmp, Trees, Term, lit, holds, is_true, Compare}
+use Rattle.store_tables.proofs.Common.{Eq, Binary, Ordering, Query, inner, end, IsAnswer, output, Output, key_cmp}
+use Rattle.std.proofs.Common.{get_or}
+use Rattle.std.specs.Prelude.{IsSorted}
+use Rattle.std.specs.List.{swap}
 use Rattle.std.specs.List.Sorted.{IsSortedBy, apply_swaps, SwapsInRange}
 use Rattle.std.proofs.Math.ListN.{get_or-map, set}
-use Rattle.std.proofs.lemmas.List.{map-set, length-map, get_or-map as map_at}
-use Rattle.std.specs.Ordering.{is_lt, is_eq}
-use Rattle.std.proofs.lemmas.Bool.{cases_Bool}
+use Rattle.std.proofs.lemmas.List.{map-set, get_or-map as map_at}
+use Rattle.std.specs.Ordering.{is_lt}
 use Rattle.std.proofs.lemmas.List.Sorted.{IsPermutation-map}
-use Rattle.sqlite.specs.declared.types.Value.{Value}
-use Rattle.sqlite.specs.declared.types.Value.TheVariants.{Null, Int, Text}
-use Rattle.sqlite_value.specs.declared.keys.Key.{Key}
-use Rattle.sqlite.specs.Order.{Row, value_cmp}
-use Rattle.sqlite.specs.Tree.{Trees}
-use Rattle.sqlite.specs.Term.{Term, lit, eval_all, holds}
-use Rattle.sqlite.specs.Ops.{binary, is_true, from_truth}
-use Rattle.sqlite_sql.specs.declared.ops.BinaryOp.TheVariants.{Compare}
-use Rattle.sqlite_sql.specs.declared.ops.CompareOp.TheVariants.{Eq}
-use Rattle.sqlite.specs.Collation.TheVariants.{Binary}
+use Rattle.sqlite.specs.Term.{eval_all}
+use Rattle.sqlite.specs.Ops.{binary, from_truth}
 use Rattle.sqlite_value.proofs.OrderLemmas.{value_cmp-Null}
-use Rattle.std.specs.declared.cmp.Ordering.{Ordering}
 use Rattle.store_tables.specs.Selected.{IsSelected}
-use Rattle.sqlite.specs.Query.{Query, inner, end, IsAnswer, output, Output, key_cmp, output_cmp}
+use Rattle.sqlite.specs.Query.{output_cmp}
 
 swap_map : {X Y : Type 0} (f : X → Y) (l : List X) (i j : ℕ) → swap (map f l) i j ≡ map f (swap l i j)
 swap_map f [] i j = refl

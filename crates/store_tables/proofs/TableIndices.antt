@@ -1,6 +1,5 @@
 -- The index of each table in the schema, and its tree.
-use Rattle.std.proofs.Common.{◌≡◌, slice_get, true, Some, refl}
-use Rattle.sqlite.specs.Table.{Table}
+use Rattle.store_tables.proofs.Common.{◌≡◌, slice_get, true, Some, refl, Table}
 use Rattle.store_tables.specs.Schema as tables
 use Rattle.store_tables.specs.Schema.{analyzed_schema, office_schema}
 use Rattle.store_tables.proofs.Changing.{is_only}

@@ -1,21 +1,8 @@
 -- What a SELECT with LIMIT 1 shows of one table of the office: the first row of what it would show without.
-use Rattle.std.proofs.Common.{◌≡◌, ℕ, List, [], map, Bool, true, false, pos, Ok, Err, Result, refl, subst}
-use Rattle.std.specs.Prelude.{IfOk}
-use Rattle.std.specs.declared.cmp.Ordering.{Ordering}
-use Rattle.sqlite.specs.declared.error.Error.{Error}
-use Rattle.sqlite.specs.declared.types.Value.TheVariants.{Int, Null}
-use Rattle.sqlite.specs.Order.{Row}
-use Rattle.sqlite.specs.Tree.{Trees}
-use Rattle.sqlite.specs.Term.{Term, lit}
-use Rattle.sqlite.specs.Query.{Query, IsAnswer, Output}
-use Rattle.sqlite_value.specs.declared.keys.Key.{Key}
-use Rattle.sqlite.specs.Collation.TheVariants.{Binary}
-use Rattle.sqlite.specs.Program.{overlay}
-use Rattle.sqlite.specs.Command.TheVariants.{Select}
-use Rattle.sqlite.specs.Listing.{understood, reads_listing}
-use Rattle.sqlite.specs.State.{State, Shown}
-use Rattle.sqlite.proofs.Callers.{IsPlain, command_of, reads_as}
-use Rattle.sqlite.specs.Schema.{Schema}
+use Rattle.store_tables.proofs.Common.{◌≡◌, ℕ, List, [], map, Bool, true, false, pos, Ok, Err, Result, refl, subst}
+use Rattle.store_tables.proofs.Common.{IfOk, Ordering, Error, Int, Null, Row, Trees, Term, lit, Query, IsAnswer, Output}
+use Rattle.store_tables.proofs.Common.{Key, Binary, overlay, Select, understood, reads_listing, State, Shown, IsPlain}
+use Rattle.store_tables.proofs.Common.{command_of, reads_as, Schema}
 use Rattle.store_tables.specs.Schema.{IsCurrentSchema}
 use Rattle.store_tables.specs.Selected.{IsFirstSelected}
 use Rattle.store_tables.proofs.Current.{InEach, in_each}

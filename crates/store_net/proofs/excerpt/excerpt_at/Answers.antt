@@ -1,8 +1,5 @@
-use Rattle.std.proofs.Common.{ap, sym, subst}
-use Rattle.std.proofs.lemmas.Result.{IfOk-weaker}
-use Rattle.sqlite.specs.Held.{state}
+use Rattle.store_net.proofs.Common.{ap, sym, subst, IfOk-weaker, state, tables_of}
 use Rattle.office_facts.specs.Scope.{scope_as}
-use Rattle.store_tables.specs.Tables.{tables_of}
 use Rattle.store_net.specs.Excerpts.{IsExcerptIn}
 use Rattle.store_net.proofs.Excerpts.{by_parts}
 use Rattle.store_net.proofs.excerpt.excerpt_at.Goals as goal

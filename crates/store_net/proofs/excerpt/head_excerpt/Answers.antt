@@ -1,9 +1,5 @@
-use Rattle.std.proofs.Common.{◌∙◌, sym}
-use Rattle.sqlite.specs.Held.{state}
-use Rattle.office_facts.specs.Excerpt.{AreFacts}
-use Rattle.office_facts.specs.FactsOf.{facts_in}
+use Rattle.store_net.proofs.Common.{◌∙◌, sym, state, AreFacts, facts_in, tables_of}
 use Rattle.office_facts.specs.Scope as scope
-use Rattle.store_tables.specs.Tables.{tables_of}
 use Rattle.store_net.proofs.Excerpts.{none_there, one_there}
 use Rattle.store_net.proofs.excerpt.head_excerpt.Goals as goal
 

@@ -1,14 +1,6 @@
-use Rattle.std.proofs.Common.{◌≡◌, ◌∙◌, List, sym, subst, arith}
-use Rattle.sqlite.specs.Effect.{Database}
-use Rattle.sqlite.specs.Held.{state}
-use Rattle.sqlite.specs.State.{HasCleanDisk}
-use Rattle.office_facts.specs.Excerpt.{AreFacts}
-use Rattle.office_facts.specs.FactsOf.{facts_in}
+use Rattle.store_net.proofs.Common.{◌≡◌, ◌∙◌, List, sym, subst, arith, Database, state, HasCleanDisk, AreFacts}
+use Rattle.store_net.proofs.Common.{facts_in, LiveMessage, live_named, IsOffice, tables_of, AreLiveRows, live_rows}
 use Rattle.office_facts.specs.Scope as scope
-use Rattle.office_types.specs.declared.state.LiveMessage.{LiveMessage}
-use Rattle.office_rules.specs.Facts.{live_named}
-use Rattle.store_tables.specs.Tables.{IsOffice, tables_of}
-use Rattle.store_rows.specs.Live.{AreLiveRows, live_rows}
 use Rattle.store_net.proofs.Excerpts.{facts_read, none_there, one_there}
 use Rattle.store_net.proofs.excerpt.message_excerpt.Goals as goal
 

@@ -1,10 +1,6 @@
-use Rattle.std.proofs.Common.{◌≡◌, ◌∙◌, sym, subst, arith}
-use Rattle.sqlite.specs.Held.{state}
-use Rattle.sqlite.specs.State.{HasCleanDisk}
-use Rattle.office_facts.specs.Excerpt.{AreFacts}
-use Rattle.office_facts.specs.FactsOf.{facts_in}
+use Rattle.store_net.proofs.Common.{◌≡◌, ◌∙◌, sym, subst, arith, state, HasCleanDisk, AreFacts, facts_in, IsOffice}
+use Rattle.store_net.proofs.Common.{tables_of}
 use Rattle.office_facts.specs.Scope as scope
-use Rattle.store_tables.specs.Tables.{IsOffice, tables_of}
 use Rattle.store_net.specs.Parts.{HasBlocks}
 use Rattle.store_net.proofs.Excerpts.{none_there, one_there}
 use Rattle.store_net.proofs.Whole.{read_before}

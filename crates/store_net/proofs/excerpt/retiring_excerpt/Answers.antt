@@ -1,17 +1,7 @@
-use Rattle.std.proofs.Common.{◌≡◌, ◌∙◌, List, Option, None, Some, sym, subst, arith}
-use Rattle.std.specs.Prelude.{IfSome}
-use Rattle.sqlite.specs.Effect.{Database}
-use Rattle.sqlite.specs.Held.{state}
-use Rattle.sqlite.specs.State.{HasCleanDisk}
-use Rattle.office_facts.specs.Excerpt.{AreFacts}
-use Rattle.office_facts.specs.FactsOf.{facts_in}
+use Rattle.store_net.proofs.Common.{◌≡◌, ◌∙◌, List, Option, None, Some, sym, subst, arith, IfSome, Database, state}
+use Rattle.store_net.proofs.Common.{HasCleanDisk, AreFacts, facts_in, LiveMessage, Net, in_last, live_named}
+use Rattle.store_net.proofs.Common.{was_released, IsOffice, tables_of, AreLiveRows, live_rows, IsNetAt}
 use Rattle.office_facts.specs.Scope as scope
-use Rattle.office_types.specs.declared.state.LiveMessage.{LiveMessage}
-use Rattle.office_types.specs.declared.state.Net.{Net}
-use Rattle.office_rules.specs.Facts.{in_last, live_named, was_released}
-use Rattle.store_tables.specs.Tables.{IsOffice, tables_of}
-use Rattle.store_rows.specs.Live.{AreLiveRows, live_rows}
-use Rattle.store_rows.specs.NetIn.{IsNetAt}
 use Rattle.store_net.proofs.Excerpts.{facts_read, last_of_net, none_there, one_there, rows_are_read, whole_there}
 use Rattle.store_net.proofs.excerpt.retiring_excerpt.Goals as goal
 

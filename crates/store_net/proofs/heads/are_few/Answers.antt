@@ -1,11 +1,5 @@
-use Rattle.std.proofs.Common.{◌≡◌, ◌∙◌, filter, length, sym, subst, arith}
-use Rattle.std.specs.Prelude.{min}
-use Rattle.std.proofs.lemmas.Bool.{false≢true}
-use Rattle.sqlite.specs.Effect.{Database}
-use Rattle.sqlite.specs.Held.{state}
-use Rattle.sqlite.specs.State.{HasCleanDisk}
-use Rattle.store_tables.specs.Tables.{IsOffice}
-use Rattle.store_statements.specs.Rows.{has_rowid_below, msg_entries}
+use Rattle.store_net.proofs.Common.{◌≡◌, ◌∙◌, filter, length, sym, subst, arith, min, false≢true, Database, state}
+use Rattle.store_net.proofs.Common.{HasCleanDisk, IsOffice, has_rowid_below, msg_entries}
 use Rattle.store_net.proofs.FewRows.{few_msgs, none_there}
 use Rattle.store_net.proofs.heads.are_few.Goals as goal
 use Rattle.store_net.proofs.heads.are_few.Goals.{then-is_empty, else-is_empty}

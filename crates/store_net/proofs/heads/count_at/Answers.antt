@@ -1,8 +1,4 @@
-use Rattle.std.proofs.Common.{◌≡◌, ◌∙◌, filter, length}
-use Rattle.std.proofs.lemmas.Result.{IfOk-weaker}
-use Rattle.sqlite.specs.Held.{state}
-use Rattle.store_tables.specs.Tables.{tables_of}
-use Rattle.store_statements.specs.Rows.{is_of_net}
+use Rattle.store_net.proofs.Common.{◌≡◌, ◌∙◌, filter, length, IfOk-weaker, state, tables_of, is_of_net}
 use Rattle.store_net.proofs.HeadsShown.{rows_counted}
 use Rattle.store_net.proofs.heads.count_at.Goals as goal
 

@@ -1,10 +1,5 @@
-use Rattle.std.proofs.Common.{◌≡◌, ◌<◌, length, sym, false, arith}
-use Rattle.std.specs.Prelude.{nat_le}
-use Rattle.std.proofs.lemmas.Bool.Decides.{nat_tests}
-use Rattle.sqlite.specs.Held.{state}
-use Rattle.dbc_words.specs.Limits.{message_limit}
-use Rattle.store_tables.specs.Tables.{tables_of}
-use Rattle.store_statements.specs.Rows.{is_of_net}
+use Rattle.store_net.proofs.Common.{◌≡◌, ◌<◌, length, sym, false, arith, nat_le, nat_tests, state, message_limit}
+use Rattle.store_net.proofs.Common.{tables_of, is_of_net}
 use Rattle.store_net.proofs.HeadsShown.{filter_shorter, rows_counted}
 use Rattle.store_net.proofs.heads.is_full_at.Goals as goal
 

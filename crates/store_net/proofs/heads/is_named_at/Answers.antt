@@ -1,6 +1,5 @@
-use Rattle.std.proofs.Common.{◌∙◌, ◌==◌, ap, not}
-use Rattle.sqlite.specs.Held.{state}
-use Rattle.store_tables.specs.Tables.{tables_of}
+use Rattle.store_net.proofs.Common.{◌∙◌, ap, not, state, tables_of}
+use Rattle.std.proofs.Common.{◌==◌}
 use Rattle.store_net.proofs.HeadsShown.{named_by_rows}
 use Rattle.store_net.proofs.heads.is_named_at.Goals as goal
 

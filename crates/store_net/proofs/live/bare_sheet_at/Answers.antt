@@ -1,10 +1,5 @@
-use Rattle.std.proofs.Common.{◌≡◌, List, map, sym, subst, ◌∙◌, arith}
-use Rattle.sqlite.specs.Effect.{Database}
-use Rattle.sqlite.specs.Held.{state}
-use Rattle.sqlite.specs.State.{HasCleanDisk}
-use Rattle.store_tables.specs.Tables.{IsOffice, tables_of}
-use Rattle.office_types.specs.declared.state.LiveMessage.{LiveMessage}
-use Rattle.store_rows.specs.NetIn.{HasRows}
+use Rattle.store_net.proofs.Common.{◌≡◌, List, map, sym, subst, ◌∙◌, arith, Database, state, HasCleanDisk, IsOffice}
+use Rattle.store_net.proofs.Common.{tables_of, LiveMessage, HasRows}
 use Rattle.store_net.specs.SignalParts.{live_in}
 use Rattle.store_net.specs.declared.signal_parts.SignalParts.TheVariants.{RowOnly}
 use Rattle.store_net.proofs.Bare.{bare_table, no_table}

@@ -1,9 +1,4 @@
-use Rattle.std.proofs.Common.{Some, sym, ap, ◌∙◌}
-use Rattle.std.specs.Option.{option_map}
-use Rattle.sqlite.specs.Held.{state}
-use Rattle.office_views.specs.Message.{message_chart}
-use Rattle.office_types.specs.declared.state.LiveMessage.{LiveMessage}
-use Rattle.store_tables.specs.Tables.{tables_of}
+use Rattle.store_net.proofs.Common.{Some, sym, ap, ◌∙◌, option_map, state, message_chart, LiveMessage, tables_of}
 use Rattle.store_net.proofs.LiveSheet.{charted}
 use Rattle.store_net.proofs.live.live_chart.Goals as goal
 

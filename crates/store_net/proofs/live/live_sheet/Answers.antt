@@ -1,11 +1,6 @@
-use Rattle.std.proofs.Common.{◌≡◌, ◌+◌, ◌++◌, [], List, IsPermutation, append-nil, drop, sym, ap, subst, ◌∙◌}
+use Rattle.store_net.proofs.Common.{◌≡◌, ◌+◌, ◌++◌, [], List, IsPermutation, append-nil, drop, sym, ap, subst, ◌∙◌, put}
+use Rattle.store_net.proofs.Common.{by_number, Message, Sheet, live_messages, LiveMessage}
 use Rattle.std.proofs.Math.ListN.{drop_of_length-le}
-use Rattle.base.specs.Keyed.{put}
-use Rattle.dbc_sheet.specs.Messages.{by_number}
-use Rattle.dbc_sheet.specs.declared.message.Message.{Message}
-use Rattle.dbc_sheet.specs.declared.sheet.Sheet.{Sheet}
-use Rattle.office_types.specs.State.{live_messages}
-use Rattle.office_types.specs.declared.state.LiveMessage.{LiveMessage}
 use Rattle.store_net.proofs.LiveSheet.{next_put, sheet_is}
 use Rattle.store_net.proofs.live.live_sheet.Goals as goal
 

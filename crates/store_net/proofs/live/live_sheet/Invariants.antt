@@ -1,5 +1,4 @@
-use Rattle.std.proofs.Common.{◌≡◌, ◌++◌, drop, IsPermutation}
-use Rattle.office_types.specs.State.{live_messages}
+use Rattle.store_net.proofs.Common.{◌≡◌, ◌++◌, drop, IsPermutation, live_messages}
 use Rattle.store_net.proofs.live.live_sheet.Given as goal
 
 abbrev pub invariant-loop-one : goal.invariant-loop-one

@@ -1,6 +1,4 @@
-use Rattle.std.proofs.Common.{Some, ap, sym, ◌∙◌}
-use Rattle.std.specs.Option.{option_map}
-use Rattle.office_views.specs.Table.{table_of}
+use Rattle.store_net.proofs.Common.{Some, ap, sym, ◌∙◌, option_map, table_of}
 use Rattle.store_net.proofs.live.live_table.Goals as goal
 
 pub returns-in_default-clause-found : goal.returns-in_default-clause-found

@@ -1,5 +1,4 @@
-use Rattle.std.proofs.Common.{sym, ◌∙◌}
-use Rattle.dbc_grammar.specs.Canon.{canonical_text}
+use Rattle.store_net.proofs.Common.{sym, ◌∙◌, canonical_text}
 use Rattle.store_net.proofs.LiveSheet.{nothing_reported, reported}
 use Rattle.store_net.proofs.live.live_text.Goals as goal
 

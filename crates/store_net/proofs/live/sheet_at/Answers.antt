@@ -1,8 +1,4 @@
-use Rattle.std.proofs.Common.{◌≡◌, sym, subst, ◌∙◌, arith}
-use Rattle.sqlite.specs.Held.{state}
-use Rattle.sqlite.specs.State.{HasCleanDisk}
-use Rattle.store_tables.specs.Tables.{IsOffice, tables_of}
-use Rattle.store_rows.specs.NetIn.{HasRows}
+use Rattle.store_net.proofs.Common.{◌≡◌, sym, subst, ◌∙◌, arith, state, HasCleanDisk, IsOffice, tables_of, HasRows}
 use Rattle.store_net.proofs.LiveSheet.{no_sheet, whole_sheet}
 use Rattle.store_net.proofs.Whole.{head_in, its_head, read_before}
 use Rattle.store_net.proofs.live.sheet_at.Goals as goal

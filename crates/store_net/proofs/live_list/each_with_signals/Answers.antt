@@ -1,20 +1,10 @@
-use Rattle.std.proofs.Common.{◌≡◌, ◌∷◌, ◌++◌, [], ◌≤◌, ◌+◌, List, length, map, take, sym, ap, subst, ◌∙◌, arith}
-use Rattle.std.proofs.Common.{add-one, take_all}
+use Rattle.store_net.proofs.Common.{◌≡◌, ◌∷◌, ◌++◌, [], ◌≤◌, ◌+◌, List, length, map, take, sym, ap, subst, ◌∙◌, arith}
+use Rattle.store_net.proofs.Common.{add-one, take_all, dbc_number, Database, state, HasCleanDisk, unchanged_then}
+use Rattle.store_net.proofs.Common.{keeps_then, LiveMessage, IsOffice, tables_of, AreSignalsOf, live_rows, ShowsLive}
+use Rattle.store_net.proofs.Common.{nothing_left, on_any}
 use Rattle.std.proofs.lemmas.List.{map-append}
-use Rattle.can_id.specs.Ident.{dbc_number}
-use Rattle.sqlite.specs.Effect.{Database}
-use Rattle.sqlite.specs.Held.{state}
-use Rattle.sqlite.specs.State.{HasCleanDisk}
-use Rattle.sqlite.proofs.Callers.{unchanged_then}
-use Rattle.sqlite.proofs.InsideLemmas.{keeps_then}
-use Rattle.office_types.specs.declared.state.LiveMessage.{LiveMessage}
-use Rattle.store_tables.specs.Tables.{IsOffice, tables_of}
-use Rattle.store_rows.specs.Live.{AreSignalsOf, live_rows}
-use Rattle.store_rows.specs.SignalShowing.{ShowsLive}
 use Rattle.store_net.specs.SignalParts.{live_in}
 use Rattle.store_net.proofs.EachMessage.{count_shown, shown_next}
-use Rattle.store_rows.proofs.Frames.{nothing_left}
-use Rattle.store_rows.proofs.Made.{on_any}
 use Rattle.store_net.proofs.live_list.each_with_signals.Goals as goal
 
 pub loop-row-preserved : goal.loop-row-preserved

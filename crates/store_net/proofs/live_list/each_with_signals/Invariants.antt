@@ -1,14 +1,6 @@
-use Rattle.std.proofs.Common.{◌≡◌, List, map, take}
-use Rattle.std.specs.Prelude.{IsTrue}
-use Rattle.std.specs.List.{AllByRecursion}
-use Rattle.can_id.specs.Ident.{dbc_number}
-use Rattle.sqlite.specs.Held.{state}
-use Rattle.sqlite.specs.State.{HasCleanDisk, IsUnchanged, KeepsCommit, Survives}
-use Rattle.office_types.specs.declared.state.LiveMessage.{LiveMessage}
-use Rattle.store_tables.specs.Tables.{IsOffice, tables_of}
-use Rattle.store_rows.specs.Listed.{AreShown}
-use Rattle.store_rows.specs.Live.{AreSignalsOf, live_rows}
-use Rattle.store_rows.specs.SignalShowing.{ShowsLive}
+use Rattle.store_net.proofs.Common.{◌≡◌, List, map, take, IsTrue, AllByRecursion, dbc_number, state, HasCleanDisk}
+use Rattle.store_net.proofs.Common.{IsUnchanged, KeepsCommit, Survives, LiveMessage, IsOffice, tables_of, AreShown}
+use Rattle.store_net.proofs.Common.{AreSignalsOf, live_rows, ShowsLive}
 use Rattle.store_net.specs.SignalParts.{live_in}
 use Rattle.store_net.proofs.live_list.each_with_signals.Given as goal
 

@@ -1,6 +1,4 @@
-use Rattle.std.proofs.Common.{◌∙◌, arith}
-use Rattle.sqlite.specs.Held.{state}
-use Rattle.sqlite.specs.State.{HasCleanDisk}
+use Rattle.store_net.proofs.Common.{◌∙◌, arith, state, HasCleanDisk}
 use Rattle.store_net.proofs.Bare.{whole_live}
 use Rattle.store_net.proofs.live_list.live_messages.Goals as goal
 

@@ -1,10 +1,5 @@
-use Rattle.std.proofs.Common.{◌≡◌, ◌∙◌, sym, subst, arith, rules}
-use Rattle.sqlite.specs.Effect.{Database}
-use Rattle.sqlite.specs.Held.{state}
-use Rattle.sqlite.specs.State.{HasCleanDisk}
-use Rattle.sqlite.proofs.Callers.{unchanged_then}
-use Rattle.store_tables.specs.Tables.{IsOffice, tables_of}
-use Rattle.store_rows.specs.Live.{AreLiveRows, live_rows}
+use Rattle.store_net.proofs.Common.{◌≡◌, ◌∙◌, sym, subst, arith, rules, Database, state, HasCleanDisk, unchanged_then}
+use Rattle.store_net.proofs.Common.{IsOffice, tables_of, AreLiveRows, live_rows}
 use Rattle.store_rows.proofs.LiveChanges.{each_signals}
 use Rattle.store_rows.proofs.LiveRows.{heads_are_shown}
 use Rattle.store_net.proofs.live_list.messages_with.Goals as goal

@@ -1,11 +1,5 @@
-use Rattle.std.proofs.Common.{◌≡◌, subst}
-use Rattle.std.proofs.lemmas.Result.{IfOk-weaker}
-use Rattle.sqlite.specs.Held.{state}
-use Rattle.can_id.specs.Ident.{dbc_number}
-use Rattle.store_tables.specs.Tables.{tables_of}
-use Rattle.sqlite.specs.Order.{column}
-use Rattle.store_rows.specs.Live.{AreSignalsOf, live_rows}
-use Rattle.store_rows.proofs.Values.{one_number}
+use Rattle.store_net.proofs.Common.{◌≡◌, subst, IfOk-weaker, state, dbc_number, tables_of, column, AreSignalsOf}
+use Rattle.store_net.proofs.Common.{live_rows, one_number}
 use Rattle.store_net.specs.SignalParts.{live_in}
 use Rattle.store_net.proofs.Bare.{live_shown}
 use Rattle.store_net.proofs.live_list.with_signals.Goals as goal

@@ -1,13 +1,7 @@
-use Rattle.std.proofs.Common.{◌∙◌, [], map, refl, sym, subst, ap}
-use Rattle.std.proofs.lemmas.Result.{IfOk-weaker}
-use Rattle.sqlite.specs.Held.{state}
-use Rattle.store_tables.specs.Tables.{tables_of}
-use Rattle.store_rows.specs.Listed.{AreShown}
-use Rattle.store_rows.specs.SignalShowing.{ShowsPart, ShowsReceiver, ShowsValueText}
-use Rattle.store_rows.proofs.LiveRows.{places_ascend, sigs_are_shown}
-use Rattle.store_rows.specs.Live.{bare_signal}
+use Rattle.store_net.proofs.Common.{◌∙◌, [], map, refl, sym, subst, ap, IfOk-weaker, state, tables_of, AreShown}
+use Rattle.store_net.proofs.Common.{ShowsPart, ShowsReceiver, ShowsValueText, places_ascend, sigs_are_shown}
+use Rattle.store_net.proofs.Common.{bare_signal, placed_part}
 use Rattle.store_net.proofs.Bare.{no_parts, part_signals, parts_ascend, parts_shown}
-use Rattle.store_rows.proofs.PartShown.{placed_part}
 use Rattle.store_net.proofs.message.bare_signals_at.Goals as goal
 
 pub returns-clause-found : goal.returns-clause-found

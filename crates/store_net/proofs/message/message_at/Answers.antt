@@ -1,10 +1,5 @@
-use Rattle.std.proofs.Common.{◌≡◌, ◌∙◌, List, ap, sym, subst, arith, slice_get}
-use Rattle.sqlite.specs.Effect.{Database}
-use Rattle.sqlite.specs.Held.{state}
-use Rattle.sqlite.specs.State.{HasCleanDisk}
-use Rattle.dbc_sheet.specs.declared.signal.Signal.{Signal}
-use Rattle.store_tables.specs.Tables.{IsOffice, tables_of}
-use Rattle.store_rows.specs.Live.{AreSignalsOf, live_rows}
+use Rattle.store_net.proofs.Common.{◌≡◌, ◌∙◌, List, ap, sym, subst, arith, slice_get, Database, state, HasCleanDisk}
+use Rattle.store_net.proofs.Common.{Signal, IsOffice, tables_of, AreSignalsOf, live_rows}
 use Rattle.store_rows.proofs.OneMessage.{none_named, one_message}
 use Rattle.store_net.proofs.message.message_at.Goals as goal
 

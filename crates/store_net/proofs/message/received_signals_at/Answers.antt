@@ -1,18 +1,9 @@
-use Rattle.std.proofs.Common.{◌≡◌, ◌∙◌, [], map, refl, sym, subst, ap, arith}
-use Rattle.std.proofs.lemmas.Result.{IfOk-weaker}
-use Rattle.sqlite.specs.Effect.{Database}
-use Rattle.sqlite.specs.Held.{state}
-use Rattle.sqlite.specs.State.{HasCleanDisk}
-use Rattle.store_tables.specs.Selected.{IsSelected}
-use Rattle.store_tables.specs.Tables.{IsOffice, tables_of}
-use Rattle.store_statements.specs.Rows.{has_net_and_number}
-use Rattle.store_statements.specs.Shown.{receivers_order, receivers_shown}
-use Rattle.store_rows.specs.Listed.{AreShown}
-use Rattle.store_rows.specs.SignalShowing.{ShowsPart, ShowsReceiver, ShowsValueText}
-use Rattle.store_rows.proofs.LiveRows.{places_ascend, sigs_are_shown}
+use Rattle.store_net.proofs.Common.{◌≡◌, ◌∙◌, [], map, refl, sym, subst, ap, arith, IfOk-weaker, Database, state}
+use Rattle.store_net.proofs.Common.{HasCleanDisk, IsSelected, IsOffice, tables_of, has_net_and_number, receivers_order}
+use Rattle.store_net.proofs.Common.{receivers_shown, AreShown, ShowsPart, ShowsReceiver, ShowsValueText, places_ascend}
+use Rattle.store_net.proofs.Common.{sigs_are_shown, placed_part}
 use Rattle.store_net.specs.SignalParts.{received_signal}
 use Rattle.store_net.proofs.Bare.{no_parts, part_signals, parts_ascend, parts_shown, receivers_are_shown, same_parts_of}
-use Rattle.store_rows.proofs.PartShown.{placed_part}
 use Rattle.store_net.proofs.message.received_signals_at.Goals as goal
 
 pub returns-clause-found : goal.returns-clause-found

@@ -1,12 +1,6 @@
-use Rattle.std.proofs.Common.{◌≡◌, ◌∙◌, sym, subst, arith}
-use Rattle.std.proofs.lemmas.Result.{IfOk-weaker}
-use Rattle.sqlite.specs.Effect.{Database}
-use Rattle.sqlite.specs.Held.{state}
-use Rattle.sqlite.specs.State.{HasCleanDisk}
-use Rattle.store_tables.specs.Selected.{IsSelected}
-use Rattle.store_tables.specs.Tables.{IsOffice, tables_of}
-use Rattle.store_statements.specs.Rows.{has_net_and_number}
-use Rattle.store_statements.specs.Shown.{receivers_order, receivers_shown, sigvalues_order, sigvalues_shown}
+use Rattle.store_net.proofs.Common.{◌≡◌, ◌∙◌, sym, subst, arith, IfOk-weaker, Database, state, HasCleanDisk, IsSelected}
+use Rattle.store_net.proofs.Common.{IsOffice, tables_of, has_net_and_number, receivers_order, receivers_shown}
+use Rattle.store_statements.specs.Shown.{sigvalues_order, sigvalues_shown}
 use Rattle.store_rows.proofs.LiveRows.{signals_are_shown}
 use Rattle.store_net.proofs.message.signals_at.Goals as goal
 

@@ -1,5 +1,4 @@
-use Rattle.std.proofs.Common.{◌≡◌, sym, subst}
-use Rattle.std.proofs.lemmas.Result.{IfOk-weaker}
+use Rattle.store_net.proofs.Common.{◌≡◌, sym, subst, IfOk-weaker}
 use Rattle.store_net.specs.SignalParts.{signals_in}
 use Rattle.store_net.proofs.message.signals_for.Goals as goal
 

@@ -1,9 +1,5 @@
-use Rattle.std.proofs.Common.{◌≡◌, Some, sym, subst, ◌∙◌, arith}
-use Rattle.sqlite.specs.Effect.{Database}
-use Rattle.sqlite.specs.Held.{state}
-use Rattle.sqlite.specs.State.{HasCleanDisk}
-use Rattle.store_tables.specs.Tables.{IsOffice, tables_of}
-use Rattle.store_rows.specs.NetIn.{IsNetAt}
+use Rattle.store_net.proofs.Common.{◌≡◌, Some, sym, subst, ◌∙◌, arith, Database, state, HasCleanDisk, IsOffice}
+use Rattle.store_net.proofs.Common.{tables_of, IsNetAt}
 use Rattle.store_net.proofs.Names.{line_is}
 use Rattle.store_net.proofs.nets.line_at.Goals as goal
 

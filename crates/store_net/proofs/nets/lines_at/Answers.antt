@@ -1,14 +1,6 @@
-use Rattle.std.proofs.Common.{◌++◌, ℕ, List, Some, sym, ap, subst, ◌∙◌, arith}
-use Rattle.sqlite.specs.Effect.{Database}
-use Rattle.sqlite.specs.Held.{state}
-use Rattle.sqlite.specs.State.{HasCleanDisk}
-use Rattle.sqlite.proofs.Callers.{unchanged_then}
-use Rattle.sqlite.proofs.InsideLemmas.{keeps_then}
-use Rattle.office_types.specs.declared.state.Net.{Net}
-use Rattle.store_tables.specs.Tables.{IsOffice, tables_of}
-use Rattle.store_rows.specs.NetIn.{IsNetAt}
+use Rattle.store_net.proofs.Common.{◌++◌, ℕ, List, Some, sym, ap, subst, ◌∙◌, arith, Database, state, HasCleanDisk}
+use Rattle.store_net.proofs.Common.{unchanged_then, keeps_then, Net, IsOffice, tables_of, IsNetAt, nothing_left}
 use Rattle.store_net.proofs.Names.{lines_more, lines_whole}
-use Rattle.store_rows.proofs.Frames.{nothing_left}
 use Rattle.store_net.proofs.nets.lines_at.Goals as goal
 
 pub loop-name-preserved : goal.loop-name-preserved

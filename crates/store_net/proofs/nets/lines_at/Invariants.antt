@@ -1,12 +1,5 @@
-use Rattle.std.proofs.Common.{◌≡◌, List, Some, map, take}
-use Rattle.std.specs.Prelude.{IsTrue}
-use Rattle.std.specs.List.{AllByRecursion}
-use Rattle.sqlite.specs.Held.{state}
-use Rattle.sqlite.specs.State.{HasCleanDisk, IsUnchanged, KeepsCommit, Survives}
-use Rattle.office_types.specs.declared.state.Net.{Net}
-use Rattle.store_tables.specs.Tables.{IsOffice, tables_of}
-use Rattle.office_views.specs.NetList.{nets_text}
-use Rattle.store_rows.specs.NetIn.{IsNetAt}
+use Rattle.store_net.proofs.Common.{◌≡◌, List, Some, map, take, IsTrue, AllByRecursion, state, HasCleanDisk}
+use Rattle.store_net.proofs.Common.{IsUnchanged, KeepsCommit, Survives, Net, IsOffice, tables_of, nets_text, IsNetAt}
 use Rattle.store_net.proofs.nets.lines_at.Given as goal
 
 abbrev pub invariant-loop-name : goal.invariant-loop-name

@@ -1,8 +1,6 @@
-use Rattle.std.proofs.Common.{◌≡◌, ◌∷◌, ◌++◌, ◌+◌, ◌<◌, [], length, take, sym, subst}
-use Rattle.std.proofs.lemmas.List.{take_more}
-use Rattle.store_rows.specs.Listed.{AreShown}
+use Rattle.store_net.proofs.Common.{◌≡◌, ◌∷◌, ◌++◌, ◌+◌, ◌<◌, [], length, take, sym, subst, take_more, AreShown}
+use Rattle.store_net.proofs.Common.{IsNamed}
 use Rattle.store_rows.proofs.Listing.{last_shown}
-use Rattle.store_rows.specs.Rows.{IsNamed}
 use Rattle.store_net.proofs.nets.names_in.Goals as goal
 
 pub loop-row-preserved : goal.loop-row-preserved

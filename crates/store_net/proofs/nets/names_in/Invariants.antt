@@ -1,6 +1,4 @@
-use Rattle.std.proofs.Common.{take}
-use Rattle.store_rows.specs.Listed.{AreShown}
-use Rattle.store_rows.specs.Rows.{IsNamed}
+use Rattle.store_net.proofs.Common.{take, AreShown, IsNamed}
 use Rattle.store_net.proofs.nets.names_in.Given as goal
 
 abbrev pub invariant-loop-row : goal.invariant-loop-row

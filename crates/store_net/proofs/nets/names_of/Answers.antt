@@ -1,4 +1,4 @@
-use Rattle.std.proofs.lemmas.Result.{IfOk-weaker}
+use Rattle.store_net.proofs.Common.{IfOk-weaker}
 use Rattle.store_net.proofs.Names.{names_are}
 use Rattle.store_net.proofs.nets.names_of.Goals as goal
 

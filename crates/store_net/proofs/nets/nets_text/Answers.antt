@@ -1,10 +1,5 @@
-use Rattle.std.proofs.Common.{◌≡◌, sym, subst, ◌∙◌, arith, rules}
-use Rattle.std.proofs.lemmas.Result.{IfOk-weaker, on_ok_weaker}
-use Rattle.sqlite.specs.Effect.{Database}
-use Rattle.sqlite.specs.Held.{state}
-use Rattle.sqlite.specs.State.{HasCleanDisk}
-use Rattle.sqlite.proofs.Callers.{unchanged_then}
-use Rattle.store_tables.specs.Tables.{IsOffice, tables_of}
+use Rattle.store_net.proofs.Common.{◌≡◌, sym, subst, ◌∙◌, arith, rules, IfOk-weaker, on_ok_weaker, Database, state}
+use Rattle.store_net.proofs.Common.{HasCleanDisk, unchanged_then, IsOffice, tables_of}
 use Rattle.store_net.specs.Nets.{AreNets}
 use Rattle.store_net.proofs.Names.{each_at, known_nets}
 use Rattle.store_net.proofs.nets.nets_text.Goals as goal

@@ -1,6 +1,4 @@
-use Rattle.std.proofs.Common.{length, ap, ◌∙◌}
-use Rattle.sqlite.specs.Held.{state}
-use Rattle.store_tables.specs.Tables.{tables_of}
+use Rattle.store_net.proofs.Common.{length, ap, ◌∙◌, state, tables_of}
 use Rattle.store_net.proofs.Names.{count_is}
 use Rattle.store_net.proofs.nets.release_count.Goals as goal
 

@@ -1,16 +1,7 @@
-use Rattle.std.proofs.Common.{◌≡◌, ◌∙◌, ◌+◌, ◌++◌, List, Option, refl, ap, sym, subst, arith}
-use Rattle.std.specs.List.{filter_map}
-use Rattle.sqlite.specs.Effect.{Database}
-use Rattle.sqlite.specs.Held.{state}
-use Rattle.sqlite.specs.State.{HasCleanDisk}
-use Rattle.can_id.specs.declared.form.TheConstants.{EXTENDED_FLAG, GREATEST_EXTENDED}
-use Rattle.can_id.specs.declared.ident.Ident.{Ident}
-use Rattle.office_rules.specs.Facts.{group_of}
-use Rattle.office_facts.specs.Excerpt.{AreFacts}
-use Rattle.office_facts.specs.FactsOf.{facts_in}
+use Rattle.store_net.proofs.Common.{◌≡◌, ◌∙◌, ◌+◌, ◌++◌, List, Option, refl, ap, sym, subst, arith, filter_map}
+use Rattle.store_net.proofs.Common.{Database, state, HasCleanDisk, EXTENDED_FLAG, GREATEST_EXTENDED, Ident, group_of}
+use Rattle.store_net.proofs.Common.{AreFacts, facts_in, NumberExcerpt, IsOffice, tables_of}
 use Rattle.office_facts.specs.Scope as scope
-use Rattle.office_facts.specs.declared.excerpt.NumberExcerpt.{NumberExcerpt}
-use Rattle.store_tables.specs.Tables.{IsOffice, tables_of}
 use Rattle.store_net.specs.Excerpts.{HasNameAndRoom, MatchBoth}
 use Rattle.store_net.specs.Numbers.{HasTaken, idents_between, live_idents}
 use Rattle.store_net.specs.declared.ranges.TakenTable.TheVariants.{Live, Held}

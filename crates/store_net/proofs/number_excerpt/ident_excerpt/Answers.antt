@@ -1,18 +1,9 @@
-use Rattle.std.proofs.Common.{◌≡◌, ◌∙◌, ◌++◌, List, Option, refl, ap, sym, subst, arith, rules}
-use Rattle.std.specs.List.{filter_map, list_any}
-use Rattle.sqlite.specs.Effect.{Database}
-use Rattle.sqlite.specs.Held.{state}
-use Rattle.sqlite.specs.State.{HasCleanDisk}
-use Rattle.sqlite.proofs.Callers.{unchanged_then}
-use Rattle.can_id.specs.declared.ident.Ident.{Ident}
+use Rattle.store_net.proofs.Common.{◌≡◌, ◌∙◌, ◌++◌, List, Option, refl, ap, sym, subst, arith, rules, filter_map}
+use Rattle.store_net.proofs.Common.{list_any, Database, state, HasCleanDisk, unchanged_then, Ident, GrantedBlock}
+use Rattle.store_net.proofs.Common.{blocks_of, is_wanted, number_in, same_ident, AreFacts, facts_in, NumberExcerpt}
+use Rattle.store_net.proofs.Common.{IsOffice, tables_of, nothing_left, reads_any, reads_then}
 use Rattle.office_types.specs.declared.block.BlockForm.{BlockForm}
-use Rattle.office_types.specs.declared.state.GrantedBlock.{GrantedBlock}
-use Rattle.office_rules.specs.Facts.{blocks_of, is_wanted, number_in, same_ident}
-use Rattle.office_facts.specs.Excerpt.{AreFacts}
-use Rattle.office_facts.specs.FactsOf.{facts_in}
 use Rattle.office_facts.specs.Scope as scope
-use Rattle.office_facts.specs.declared.excerpt.NumberExcerpt.{NumberExcerpt}
-use Rattle.store_tables.specs.Tables.{IsOffice, tables_of}
 use Rattle.store_net.specs.Excerpts.{HasNameAndRoom, MatchBoth}
 use Rattle.store_net.specs.Numbers.{HasTaken, idents_inside, live_idents}
 use Rattle.store_net.specs.declared.ranges.TakenTable.TheVariants.{Live, Held}
@@ -20,8 +11,6 @@ use Rattle.store_net.proofs.Between.{taken_are_identifiers}
 use Rattle.store_net.proofs.Excerpts.{none_more, one_more}
 use Rattle.store_net.proofs.NumberExcerpts.{of_ident, read_inside}
 use Rattle.store_net.proofs.Inside.{wanted_live}
-use Rattle.store_rows.proofs.Frames.{nothing_left}
-use Rattle.store_rows.proofs.Made.{reads_any, reads_then}
 use Rattle.store_net.proofs.number_excerpt.ident_excerpt.Goals as goal
 
 pub returns-in_default-clause-found : goal.returns-in_default-clause-found

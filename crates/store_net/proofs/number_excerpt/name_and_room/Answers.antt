@@ -1,19 +1,10 @@
-use Rattle.std.proofs.Common.{◌≡◌, ◌∙◌, List, length, refl, sym, subst, arith, rules}
-use Rattle.std.specs.Prelude.{nat_le}
-use Rattle.sqlite.specs.Effect.{Database}
-use Rattle.sqlite.specs.Held.{state}
-use Rattle.sqlite.specs.State.{HasCleanDisk}
-use Rattle.dbc_words.specs.Limits.{message_limit}
-use Rattle.dbc_words.specs.Named.{has_name}
-use Rattle.office_types.specs.declared.state.LiveMessage.{LiveMessage}
-use Rattle.office_rules.specs.Facts.{live_name}
-use Rattle.store_tables.specs.Tables.{IsOffice, tables_of}
-use Rattle.store_rows.specs.Live.{AreLiveRows, live_rows}
+use Rattle.store_net.proofs.Common.{◌≡◌, ◌∙◌, List, length, refl, sym, subst, arith, rules, nat_le, Database, state}
+use Rattle.store_net.proofs.Common.{HasCleanDisk, message_limit, has_name, LiveMessage, live_name, IsOffice, tables_of}
+use Rattle.store_net.proofs.Common.{AreLiveRows, live_rows, nothing_left}
 use Rattle.store_net.specs.Excerpts.{HasNameAndRoom}
 use Rattle.store_net.specs.Parts.{HasBlocks}
 use Rattle.store_net.proofs.Excerpts.{none_there, one_there}
 use Rattle.store_net.proofs.Whole.{read_before}
-use Rattle.store_rows.proofs.Frames.{nothing_left}
 use Rattle.store_net.proofs.number_excerpt.name_and_room.Goals as goal
 
 pub returns-in_default-clause-found : goal.returns-in_default-clause-found

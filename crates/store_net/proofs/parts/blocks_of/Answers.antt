@@ -1,4 +1,4 @@
-use Rattle.std.proofs.lemmas.Result.{IfOk-weaker}
+use Rattle.store_net.proofs.Common.{IfOk-weaker}
 use Rattle.store_rows.proofs.Reading.{granted_are_shown}
 use Rattle.store_net.proofs.parts.blocks_of.Goals as goal
 

@@ -1,4 +1,4 @@
-use Rattle.std.proofs.Common.{ap, ◌∙◌, slice_get}
+use Rattle.store_net.proofs.Common.{ap, ◌∙◌, slice_get}
 use Rattle.store_rows.proofs.Reading.{heads_shown}
 use Rattle.store_net.specs.Parts.{heads}
 use Rattle.store_net.proofs.First.{head_found, no_head}

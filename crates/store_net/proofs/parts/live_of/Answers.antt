@@ -1,4 +1,4 @@
-use Rattle.std.proofs.lemmas.Result.{IfOk-weaker}
+use Rattle.store_net.proofs.Common.{IfOk-weaker}
 use Rattle.store_rows.proofs.Reading.{live_shown}
 use Rattle.store_net.proofs.parts.live_of.Goals as goal
 

@@ -1,4 +1,4 @@
-use Rattle.std.proofs.lemmas.Result.{IfOk-weaker}
+use Rattle.store_net.proofs.Common.{IfOk-weaker}
 use Rattle.store_rows.proofs.Reading.{spn_blocks_are_shown}
 use Rattle.store_net.proofs.parts.spn_blocks_of.Goals as goal
 

@@ -1,4 +1,4 @@
-use Rattle.std.proofs.lemmas.Result.{IfOk-weaker}
+use Rattle.store_net.proofs.Common.{IfOk-weaker}
 use Rattle.store_net.specs.Numbers.{idents_between}
 use Rattle.store_net.proofs.ranges.idents_at.Goals as goal
 

@@ -1,18 +1,8 @@
-use Rattle.std.proofs.Common.{◌≡◌, ◌∷◌, ◌++◌, [], ◌<◌, ◌+◌, ℕ, List, get_or, length, take, sym, ap, subst, ◌∙◌, arith}
-use Rattle.std.proofs.Common.{take_all}
-use Rattle.std.proofs.lemmas.List.{take_more}
-use Rattle.sqlite.specs.Effect.{Database}
-use Rattle.sqlite.specs.Held.{state}
-use Rattle.sqlite.specs.State.{HasCleanDisk}
-use Rattle.sqlite.proofs.Callers.{unchanged_then}
-use Rattle.sqlite.proofs.InsideLemmas.{keeps_then}
-use Rattle.can_id.specs.declared.ident.Ident.{Ident}
-use Rattle.office_types.specs.declared.block.Block.{Block}
-use Rattle.store_tables.specs.Tables.{IsOffice, tables_of}
+use Rattle.store_net.proofs.Common.{◌≡◌, ◌∷◌, ◌++◌, [], ◌<◌, ◌+◌, ℕ, List, get_or, length, take, sym, ap, subst, ◌∙◌}
+use Rattle.store_net.proofs.Common.{arith, take_all, take_more, Database, state, HasCleanDisk, unchanged_then}
+use Rattle.store_net.proofs.Common.{keeps_then, Ident, Block, IsOffice, tables_of, nothing_left, on_any}
 use Rattle.store_net.specs.Numbers.{HasTaken, dbc_of, idents_between, idents_inside}
 use Rattle.store_net.proofs.Inside.{inside_more}
-use Rattle.store_rows.proofs.Frames.{nothing_left}
-use Rattle.store_rows.proofs.Made.{on_any}
 use Rattle.store_net.proofs.ranges.idents_inside_at.Goals as goal
 
 pub loop-block-preserved : goal.loop-block-preserved

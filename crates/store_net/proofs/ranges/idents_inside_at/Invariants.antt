@@ -1,9 +1,5 @@
-use Rattle.std.proofs.Common.{◌≡◌, List, take}
-use Rattle.std.specs.Prelude.{IsTrue}
-use Rattle.sqlite.specs.Held.{state}
-use Rattle.sqlite.specs.State.{HasCleanDisk, IsUnchanged, KeepsCommit, Survives}
-use Rattle.can_id.specs.declared.ident.Ident.{Ident}
-use Rattle.store_tables.specs.Tables.{IsOffice, tables_of}
+use Rattle.store_net.proofs.Common.{◌≡◌, List, take, IsTrue, state, HasCleanDisk, IsUnchanged, KeepsCommit, Survives}
+use Rattle.store_net.proofs.Common.{Ident, IsOffice, tables_of}
 use Rattle.store_net.specs.Numbers.{HasTaken, idents_inside}
 use Rattle.store_net.proofs.ranges.idents_inside_at.Given as goal
 

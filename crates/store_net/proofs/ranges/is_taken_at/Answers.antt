@@ -1,10 +1,4 @@
-use Rattle.std.proofs.Common.{◌∙◌, ℕ, List, ap}
-use Rattle.std.specs.List.{list_any}
-use Rattle.sqlite.specs.Held.{state}
-use Rattle.can_id.specs.Ident.{ident_of}
-use Rattle.can_id.specs.declared.ident.Ident.{Ident}
-use Rattle.office_rules.specs.Facts.{same_ident}
-use Rattle.store_tables.specs.Tables.{tables_of}
+use Rattle.store_net.proofs.Common.{◌∙◌, ℕ, List, ap, list_any, state, ident_of, Ident, same_ident, tables_of}
 use Rattle.store_net.specs.Numbers.{idents_between}
 use Rattle.store_net.proofs.Between.{taken_are_identifiers}
 use Rattle.store_net.proofs.Inside.{wanted_taken}

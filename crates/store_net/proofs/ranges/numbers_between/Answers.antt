@@ -1,7 +1,4 @@
-use Rattle.std.proofs.Common.{subst}
-use Rattle.std.proofs.lemmas.Result.{IfOk-weaker}
-use Rattle.sqlite.specs.Held.{state}
-use Rattle.store_tables.specs.Tables.{tables_of}
+use Rattle.store_net.proofs.Common.{subst, IfOk-weaker, state, tables_of}
 use Rattle.store_net.specs.Numbers.{HasTaken}
 use Rattle.store_net.proofs.Between.{held_shown_between, live_shown_between}
 use Rattle.store_net.proofs.ranges.numbers_between.Goals as goal

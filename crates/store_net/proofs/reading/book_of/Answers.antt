@@ -1,7 +1,4 @@
-use Rattle.std.proofs.Common.{◌≡◌, sym, subst, ◌∙◌, arith}
-use Rattle.sqlite.specs.Held.{state}
-use Rattle.sqlite.specs.State.{HasCleanDisk}
-use Rattle.store_tables.specs.Tables.{IsOffice}
+use Rattle.store_net.proofs.Common.{◌≡◌, sym, subst, ◌∙◌, arith, state, HasCleanDisk, IsOffice}
 use Rattle.store_net.specs.Parts.{HasUsed}
 use Rattle.store_net.proofs.Whole.{read_before}
 use Rattle.store_net.proofs.reading.book_of.Goals as goal

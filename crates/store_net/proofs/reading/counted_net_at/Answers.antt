@@ -1,12 +1,6 @@
-use Rattle.std.proofs.Common.{◌≡◌, ◌∙◌, Some, sym, subst, arith}
-use Rattle.sqlite.specs.Effect.{Database}
-use Rattle.sqlite.specs.Held.{state}
-use Rattle.sqlite.specs.State.{HasCleanDisk}
-use Rattle.store_tables.specs.Tables.{IsOffice, tables_of}
-use Rattle.office_types.specs.declared.state.Net.{Net}
-use Rattle.store_rows.specs.NetIn.{IsNetAt}
+use Rattle.store_net.proofs.Common.{◌≡◌, ◌∙◌, Some, sym, subst, arith, Database, state, HasCleanDisk, IsOffice}
+use Rattle.store_net.proofs.Common.{tables_of, Net, IsNetAt, reads_any, reads_then, while_open}
 use Rattle.store_net.proofs.Whole.{none_counted, with_as_many}
-use Rattle.store_rows.proofs.Made.{reads_any, reads_then, while_open}
 use Rattle.store_net.proofs.reading.counted_net_at.Goals as goal
 
 pub returns-in_default-clause-found : goal.returns-in_default-clause-found

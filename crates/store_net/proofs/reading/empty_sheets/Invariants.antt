@@ -1,4 +1,4 @@
-use Rattle.std.proofs.Common.{◌≡◌, length}
+use Rattle.store_net.proofs.Common.{◌≡◌, length}
 use Rattle.store_net.proofs.reading.empty_sheets.Given as goal
 
 -- as many as were counted

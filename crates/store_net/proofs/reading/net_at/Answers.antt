@@ -1,7 +1,4 @@
-use Rattle.std.proofs.Common.{◌≡◌, ◌∙◌, sym, subst, arith}
-use Rattle.sqlite.specs.Held.{state}
-use Rattle.sqlite.specs.State.{HasCleanDisk}
-use Rattle.store_tables.specs.Tables.{IsOffice, tables_of}
+use Rattle.store_net.proofs.Common.{◌≡◌, ◌∙◌, sym, subst, arith, state, HasCleanDisk, IsOffice, tables_of}
 use Rattle.store_net.specs.Parts.{HasReleases}
 use Rattle.store_net.proofs.Whole.{none_if_unreleased, read_before, with_its_releases}
 use Rattle.store_net.proofs.reading.net_at.Goals as goal

@@ -1,11 +1,7 @@
-use Rattle.std.proofs.Common.{◌≡◌, sym, subst, ◌∙◌, arith, rules}
-use Rattle.sqlite.specs.Held.{state}
-use Rattle.sqlite.specs.State.{HasCleanDisk}
-use Rattle.store_tables.specs.Tables.{IsOffice, tables_of}
+use Rattle.store_net.proofs.Common.{◌≡◌, sym, subst, ◌∙◌, arith, rules, state, HasCleanDisk, IsOffice, tables_of}
+use Rattle.store_net.proofs.Common.{nothing_left, reads_any, reads_then, while_open}
 use Rattle.store_net.specs.Parts.{HasApprovals, HasBlocks, HasHeld}
 use Rattle.store_net.proofs.Whole.{head_in, its_head, none_outlined, outline_is, read_before}
-use Rattle.store_rows.proofs.Frames.{nothing_left}
-use Rattle.store_rows.proofs.Made.{reads_any, reads_then, while_open}
 use Rattle.store_net.proofs.reading.outline_at.Goals as goal
 
 pub returns-in_default-clause-found : goal.returns-in_default-clause-found

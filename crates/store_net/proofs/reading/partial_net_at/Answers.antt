@@ -1,10 +1,5 @@
-use Rattle.std.proofs.Common.{◌≡◌, ◌∙◌, List, map, sym, subst, arith}
-use Rattle.sqlite.specs.Effect.{Database}
-use Rattle.sqlite.specs.Held.{state}
-use Rattle.sqlite.specs.State.{HasCleanDisk}
-use Rattle.office_types.specs.declared.state.LiveMessage.{LiveMessage}
-use Rattle.store_tables.specs.Tables.{IsOffice, tables_of}
-use Rattle.store_rows.specs.NetIn.{HasRows}
+use Rattle.store_net.proofs.Common.{◌≡◌, ◌∙◌, List, map, sym, subst, arith, Database, state, HasCleanDisk, LiveMessage}
+use Rattle.store_net.proofs.Common.{IsOffice, tables_of, HasRows}
 use Rattle.store_net.specs.NetParts.{partial_net}
 use Rattle.store_net.specs.SignalParts.{live_in}
 use Rattle.store_net.proofs.Whole.{none_made, with_its_messages}

@@ -1,9 +1,5 @@
-use Rattle.std.proofs.Common.{◌≡◌, ◌∙◌, [], sym, subst, arith}
-use Rattle.sqlite.specs.Held.{state}
-use Rattle.sqlite.specs.State.{HasCleanDisk}
-use Rattle.office_law.specs.Released.{with_releases}
-use Rattle.store_tables.specs.Tables.{IsOffice, tables_of}
-use Rattle.store_rows.specs.NetIn.{HasRows}
+use Rattle.store_net.proofs.Common.{◌≡◌, ◌∙◌, [], sym, subst, arith, state, HasCleanDisk, with_releases, IsOffice}
+use Rattle.store_net.proofs.Common.{tables_of, HasRows}
 use Rattle.store_net.proofs.Whole.{none_made, read_before, with_its_messages}
 use Rattle.store_net.proofs.reading.unreleased_net_at.Goals as goal
 

@@ -1,8 +1,4 @@
-use Rattle.std.proofs.Common.{◌≡◌, List, Some, sym, ap, ◌∙◌}
-use Rattle.can_id.specs.Ident.{dbc_number}
-use Rattle.dbc_sheet.specs.Messages.{has_number}
-use Rattle.dbc_sheet.specs.declared.message.Message.{Message}
-use Rattle.dbc_sheet.specs.declared.sheet.Sheet.{Sheet}
+use Rattle.store_net.proofs.Common.{◌≡◌, List, Some, sym, ap, ◌∙◌, dbc_number, has_number, Message, Sheet}
 use Rattle.store_net.proofs.release.body_has.Goals as goal
 
 same_sheet : (read sheet : Sheet) → Some read ≡ Some sheet → read ≡ sheet

@@ -1,7 +1,5 @@
-use Rattle.std.proofs.Common.{◌≡◌, Some, sym, ap, subst, ◌∙◌}
-use Rattle.dbc_grammar.specs.Canon.{canonical_text}
+use Rattle.store_net.proofs.Common.{◌≡◌, Some, sym, ap, subst, ◌∙◌, canonical_text, Sheet}
 use Rattle.dbc_grammar.specs.Reads.{ReadsOnlyAs}
-use Rattle.dbc_sheet.specs.declared.sheet.Sheet.{Sheet}
 use Rattle.store_net.proofs.release.canonical_of.Goals as goal
 
 same_sheet : (read sheet : Sheet) → Some read ≡ Some sheet → read ≡ sheet

@@ -1,10 +1,5 @@
-use Rattle.std.proofs.Common.{◌≡◌, Some, rules, sym, subst, ◌∙◌, arith}
-use Rattle.std.proofs.lemmas.Result.{IfOk-weaker}
-use Rattle.sqlite.specs.Effect.{Database}
-use Rattle.sqlite.specs.Held.{state}
-use Rattle.sqlite.specs.State.{HasCleanDisk}
-use Rattle.store_tables.specs.Tables.{IsOffice, tables_of}
-use Rattle.store_rows.specs.NetIn.{IsNetAt}
+use Rattle.store_net.proofs.Common.{◌≡◌, Some, rules, sym, subst, ◌∙◌, arith, IfOk-weaker, Database, state}
+use Rattle.store_net.proofs.Common.{HasCleanDisk, IsOffice, tables_of, IsNetAt}
 use Rattle.store_net.proofs.LastRelease.{has_last}
 use Rattle.store_net.proofs.release.last_has_at.Goals as goal
 

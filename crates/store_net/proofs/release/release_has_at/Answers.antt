@@ -1,8 +1,4 @@
-use Rattle.std.proofs.Common.{Option, sym, ap, ◌∙◌, slice_get}
-use Rattle.std.proofs.lemmas.Result.{IfOk-weaker}
-use Rattle.dbc_sheet.specs.declared.sheet.Sheet.{Sheet}
-use Rattle.sqlite.specs.Held.{state}
-use Rattle.store_tables.specs.Tables.{tables_of}
+use Rattle.store_net.proofs.Common.{Option, sym, ap, ◌∙◌, slice_get, IfOk-weaker, Sheet, state, tables_of}
 use Rattle.store_net.specs.Texts.{release_has}
 use Rattle.store_net.proofs.Released.{its_release, no_release}
 use Rattle.store_net.proofs.release.release_has_at.Goals as goal

@@ -1,9 +1,5 @@
-use Rattle.std.proofs.Common.{Option, None, Some, refl, sym, ap, subst, ◌∙◌, slice_get}
-use Rattle.std.specs.Option.{option_map}
-use Rattle.dbc_grammar.specs.Canon.{canonical_text}
-use Rattle.dbc_sheet.specs.declared.sheet.Sheet.{Sheet}
-use Rattle.sqlite.specs.Held.{state}
-use Rattle.store_tables.specs.Tables.{tables_of}
+use Rattle.store_net.proofs.Common.{Option, None, Some, refl, sym, ap, subst, ◌∙◌, slice_get, option_map}
+use Rattle.store_net.proofs.Common.{canonical_text, Sheet, state, tables_of}
 use Rattle.store_net.specs.Texts.{IsTextOf}
 use Rattle.store_net.proofs.Released.{its_release, no_release}
 use Rattle.store_net.proofs.release.release_text.Goals as goal

@@ -1,14 +1,8 @@
-use Rattle.std.proofs.Common.{◌≡◌, ◌<◌, ◌∙◌, Some, sym, subst, arith, rules}
-use Rattle.sqlite.specs.Effect.{Database}
-use Rattle.sqlite.specs.Held.{state}
-use Rattle.sqlite.specs.State.{HasCleanDisk}
-use Rattle.dbc_sheet.specs.declared.sheet.Sheet.{Sheet}
-use Rattle.store_tables.specs.Tables.{IsOffice, tables_of}
-use Rattle.store_rows.specs.NetIn.{IsNetAt}
+use Rattle.store_net.proofs.Common.{◌≡◌, ◌<◌, ◌∙◌, Some, sym, subst, arith, rules, Database, state, HasCleanDisk, Sheet}
+use Rattle.store_net.proofs.Common.{IsOffice, tables_of, IsNetAt, reads_any, reads_then, while_open}
 use Rattle.store_net.specs.NetParts.{HasLast}
 use Rattle.store_net.specs.Texts.{release_at}
 use Rattle.store_net.proofs.LastRelease.{last_found, none_last}
-use Rattle.store_rows.proofs.Made.{reads_any, reads_then, while_open}
 use Rattle.store_net.proofs.releases.last_sheets_at.Goals as goal
 
 pub returns-then-count-eq0-clause-found : goal.returns-then-count-eq0-clause-found

@@ -1,6 +1,4 @@
-use Rattle.std.proofs.Common.{◌≡◌, Some, sym, ap, ◌∙◌}
-use Rattle.std.specs.Option.{option_map}
-use Rattle.dbc_sheet.specs.declared.sheet.Sheet.{Sheet}
+use Rattle.store_net.proofs.Common.{◌≡◌, Some, sym, ap, ◌∙◌, option_map, Sheet}
 use Rattle.store_bodies.specs.ReadText.{TextRead}
 use Rattle.store_net.proofs.releases.read_body.Goals as goal
 

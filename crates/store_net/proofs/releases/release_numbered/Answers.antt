@@ -1,7 +1,4 @@
-use Rattle.std.proofs.Common.{◌∙◌, Some, sym, ap, slice_get}
-use Rattle.std.proofs.lemmas.Result.{IfOk-weaker}
-use Rattle.sqlite.specs.Held.{state}
-use Rattle.store_tables.specs.Tables.{tables_of}
+use Rattle.store_net.proofs.Common.{◌∙◌, Some, sym, ap, slice_get, IfOk-weaker, state, tables_of}
 use Rattle.store_net.proofs.Released.{its_release}
 use Rattle.store_net.proofs.releases.release_numbered.Goals as goal
 

@@ -1,16 +1,8 @@
-use Rattle.std.proofs.Common.{◌≡◌, take, sym, ap, subst, ◌∙◌, arith}
-use Rattle.sqlite.specs.Effect.{Database}
-use Rattle.sqlite.specs.Held.{state}
-use Rattle.sqlite.specs.State.{HasCleanDisk}
-use Rattle.sqlite.proofs.Callers.{unchanged_then}
-use Rattle.sqlite.proofs.InsideLemmas.{keeps_then}
-use Rattle.store_tables.specs.Tables.{IsOffice, tables_of}
+use Rattle.store_net.proofs.Common.{◌≡◌, take, sym, ap, subst, ◌∙◌, arith, Database, state, HasCleanDisk}
+use Rattle.store_net.proofs.Common.{unchanged_then, keeps_then, IsOffice, tables_of, IsNetAt, nothing_left, on_any}
 use Rattle.store_bodies.specs.ReadText.{TextsRead}
-use Rattle.store_rows.specs.NetIn.{IsNetAt}
 use Rattle.store_net.specs.Parts.{releases_in}
 use Rattle.store_net.proofs.LastRelease.{one_more}
-use Rattle.store_rows.proofs.Frames.{nothing_left}
-use Rattle.store_rows.proofs.Made.{on_any}
 use Rattle.store_net.proofs.releases.releases_to.Goals as goal
 
 pub loop-index-preserved : goal.loop-index-preserved

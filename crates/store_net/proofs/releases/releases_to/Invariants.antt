@@ -1,10 +1,5 @@
-use Rattle.std.proofs.Common.{◌≡◌, Option, take}
-use Rattle.std.specs.Prelude.{IsTrue}
-use Rattle.sqlite.specs.Held.{state}
-use Rattle.sqlite.specs.State.{HasCleanDisk, IsUnchanged, KeepsCommit, Survives}
-use Rattle.office_types.specs.declared.state.Net.{Net}
-use Rattle.store_tables.specs.Tables.{IsOffice, tables_of}
-use Rattle.store_rows.specs.NetIn.{IsNetAt}
+use Rattle.store_net.proofs.Common.{◌≡◌, Option, take, IsTrue, state, HasCleanDisk, IsUnchanged, KeepsCommit, Survives}
+use Rattle.store_net.proofs.Common.{Net, IsOffice, tables_of, IsNetAt}
 use Rattle.store_net.specs.Parts.{releases_in}
 use Rattle.store_net.proofs.releases.releases_to.Given as goal
 

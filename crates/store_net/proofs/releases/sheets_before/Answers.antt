@@ -1,5 +1,4 @@
-use Rattle.std.proofs.Common.{◌≡◌, Some, length, slice_get, subst, sym, arith}
-use Rattle.dbc_sheet.specs.declared.sheet.Sheet.{Sheet}
+use Rattle.store_net.proofs.Common.{◌≡◌, Some, length, slice_get, subst, sym, arith}
 use Rattle.store_net.proofs.LastRelease.{last_after}
 use Rattle.store_net.proofs.releases.sheets_before.Goals as goal
 

@@ -1,4 +1,4 @@
-use Rattle.std.proofs.Common.{◌≡◌, length}
+use Rattle.store_net.proofs.Common.{◌≡◌, length}
 use Rattle.store_net.proofs.releases.sheets_before.Given as goal
 
 -- as many as were counted

@@ -1,4 +1,4 @@
-use Rattle.std.proofs.Common.{sym, subst, ◌∙◌}
+use Rattle.store_rows.proofs.Common.{sym, subst, ◌∙◌}
 use Rattle.dbc_grammar.specs.Reads.{Reads}
 use Rattle.store_rows.proofs.Values.{one_blob, one_sheet}
 use Rattle.store_rows.proofs.columns.sheet_at.Goals as goal

@@ -1,6 +1,5 @@
-use Rattle.std.proofs.Common.{◌≡◌, ◌∷◌, ◌++◌, ◌+◌, ◌<◌, [], true, false, filter, length, take, sym, ap, subst, ◌∙◌}
-use Rattle.std.proofs.Common.{append-nil}
-use Rattle.std.proofs.lemmas.List.{take_more}
+use Rattle.store_rows.proofs.Common.{◌≡◌, ◌∷◌, ◌++◌, ◌+◌, ◌<◌, [], true, false, filter, length, take, sym, ap, subst}
+use Rattle.store_rows.proofs.Common.{◌∙◌, append-nil, take_more}
 use Rattle.store_rows.specs.Listed.{AreShown}
 use Rattle.store_rows.specs.Showing.{ShowsBlock, is_own}
 use Rattle.store_rows.proofs.Reading.{own_last, shown_none, shown_push}

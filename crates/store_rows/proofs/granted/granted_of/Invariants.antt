@@ -1,4 +1,4 @@
-use Rattle.std.proofs.Common.{◌≡◌, List, take, filter}
+use Rattle.store_rows.proofs.Common.{◌≡◌, List, take, filter}
 use Rattle.store_rows.specs.Listed.{AreShown}
 use Rattle.store_rows.specs.Showing.{ShowsBlock, is_own}
 use Rattle.store_rows.proofs.granted.granted_of.Given as goal

@@ -1,4 +1,5 @@
-use Rattle.std.proofs.Common.{◌==◌, not, ap, ◌∙◌}
+use Rattle.store_rows.proofs.Common.{not, ap, ◌∙◌}
+use Rattle.std.proofs.Common.{◌==◌}
 use Rattle.store_rows.proofs.Reading.{own_form}
 use Rattle.store_rows.proofs.granted.is_own.Goals as goal
 

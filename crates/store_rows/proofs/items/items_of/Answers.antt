@@ -1,5 +1,4 @@
-use Rattle.std.proofs.Common.{◌≡◌, ◌∷◌, ◌++◌, ◌+◌, ◌<◌, [], length, take, sym, ap, subst, ◌∙◌}
-use Rattle.std.proofs.lemmas.List.{take_more}
+use Rattle.store_rows.proofs.Common.{◌≡◌, ◌∷◌, ◌++◌, ◌+◌, ◌<◌, [], length, take, sym, ap, subst, ◌∙◌, take_more}
 use Rattle.store_rows.specs.Listed.{AreShown}
 use Rattle.store_rows.proofs.Reading.{shown_none, shown_push}
 use Rattle.store_rows.proofs.items.items_of.Goals as goal

@@ -1,4 +1,4 @@
-use Rattle.std.proofs.Common.{◌≡◌, List, take}
+use Rattle.store_rows.proofs.Common.{◌≡◌, List, take}
 use Rattle.store_rows.specs.Listed.{AreShown}
 use Rattle.store_rows.proofs.items.items_of.Given as goal
 

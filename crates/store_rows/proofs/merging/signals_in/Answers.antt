@@ -1,9 +1,7 @@
-use Rattle.std.proofs.Common.{◌≡◌, ◌∙◌, suc, ◌+◌, ◌<◌, List, [], ◌∷◌, ◌++◌, length, take, drop, add-one, drop-cons, sym}
-use Rattle.std.proofs.Common.{ap, subst}
+use Rattle.store_rows.proofs.Common.{◌≡◌, ◌∙◌, suc, ◌+◌, ◌<◌, List, [], ◌∷◌, ◌++◌, length, take, drop, sym, ap, subst}
+use Rattle.store_rows.proofs.Common.{Row, Signal, prefix_len}
+use Rattle.std.proofs.Common.{add-one, drop-cons}
 use Rattle.std.proofs.lemmas.List.{drop_all}
-use Rattle.sqlite.specs.Order.{Row}
-use Rattle.dbc_sheet.specs.declared.signal.Signal.{Signal}
-use Rattle.std.specs.List.{prefix_len}
 use Rattle.store_rows.specs.Listed.{AreShown}
 use Rattle.store_rows.specs.SignalShowing.{ShowsReceiver, ShowsValueText, has_place}
 use Rattle.store_rows.proofs.PutTogether.{AreLeft, IsPutTogether, all_left, none_left, one_more}

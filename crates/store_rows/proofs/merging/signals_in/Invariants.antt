@@ -1,5 +1,4 @@
-use Rattle.std.proofs.Common.{ℕ, List, drop}
-use Rattle.dbc_sheet.specs.declared.signal.Signal.{Signal}
+use Rattle.store_rows.proofs.Common.{ℕ, List, drop, Signal}
 use Rattle.store_rows.specs.Listed.{AreShown}
 use Rattle.store_rows.specs.Live.{parts_of}
 use Rattle.store_rows.specs.SignalShowing.{PlacesAscend, ShowsPart, ShowsPlaced, ShowsReceiver, ShowsValueText}

@@ -1,5 +1,4 @@
-use Rattle.std.proofs.Common.{ap, sym, subst, ◌∙◌}
-use Rattle.std.proofs.lemmas.Result.{IfOk-weaker}
+use Rattle.store_rows.proofs.Common.{ap, sym, subst, ◌∙◌, IfOk-weaker}
 use Rattle.store_rows.specs.SignalShowing.{without_sign}
 use Rattle.store_rows.proofs.Decimals.{ReadsSigned, text_reads_signed}
 use Rattle.store_rows.proofs.signal_columns.decimal_of.Goals as goal

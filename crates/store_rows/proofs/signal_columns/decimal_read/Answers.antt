@@ -1,4 +1,4 @@
-use Rattle.std.proofs.Common.{Ok, sym, ◌∙◌}
+use Rattle.store_rows.proofs.Common.{Ok, sym, ◌∙◌}
 use Rattle.store_rows.proofs.Decimals.{one_ok}
 use Rattle.store_rows.proofs.signal_columns.decimal_read.Goals as goal
 

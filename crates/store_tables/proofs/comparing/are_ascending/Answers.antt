@@ -1,4 +1,4 @@
-use Rattle.std.proofs.Common.{rules, refl, []}
+use Rattle.store_tables.proofs.Common.{rules, refl, []}
 use Rattle.store_tables.specs.Schema.{ascending}
 use Rattle.store_tables.proofs.Firsts.{apart, one_more}
 use Rattle.store_tables.proofs.comparing.are_ascending.Goals as goal

@@ -1,4 +1,4 @@
-use Rattle.std.proofs.Common.{◌≡◌, map, take}
+use Rattle.store_tables.proofs.Common.{◌≡◌, map, take}
 use Rattle.store_tables.specs.Schema.{ascending}
 use Rattle.store_tables.proofs.comparing.are_ascending.Given as goal
 

@@ -1,4 +1,4 @@
-use Rattle.std.proofs.Common.{◌≡◌, map, take}
+use Rattle.store_tables.proofs.Common.{◌≡◌, map, take}
 use Rattle.store_tables.specs.Comparing.{column_at}
 use Rattle.store_tables.proofs.comparing.are_columns.Given as goal
 

@@ -1,4 +1,4 @@
-use Rattle.std.proofs.Common.{rules}
+use Rattle.store_tables.proofs.Common.{rules}
 use Rattle.store_tables.specs.Comparing.{every_index, index_of}
 use Rattle.store_tables.proofs.Firsts.{one_more}
 use Rattle.store_tables.proofs.comparing.are_indexes.Goals as goal

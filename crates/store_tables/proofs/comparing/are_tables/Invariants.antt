@@ -1,4 +1,4 @@
-use Rattle.std.proofs.Common.{◌≡◌, map, take}
+use Rattle.store_tables.proofs.Common.{◌≡◌, map, take}
 use Rattle.store_tables.specs.Comparing.{every_table, table_of}
 use Rattle.store_tables.proofs.comparing.are_tables.Given as goal
 

@@ -1,4 +1,5 @@
-use Rattle.std.proofs.Common.{rules, Bor, List, ℕ, ◌∙◌}
+use Rattle.store_tables.proofs.Common.{rules, List, ℕ, ◌∙◌}
+use Rattle.std.proofs.Common.{Bor}
 use Rattle.store_tables.proofs.Firsts.{one_more}
 use Rattle.store_tables.proofs.comparing.has_uniques.Goals as goal
 

@@ -1,4 +1,4 @@
-use Rattle.std.proofs.Common.{◌≡◌, map, take}
+use Rattle.store_tables.proofs.Common.{◌≡◌, map, take}
 use Rattle.store_tables.proofs.comparing.has_uniques.Given as goal
 
 abbrev pub invariant-loop-at : goal.invariant-loop-at

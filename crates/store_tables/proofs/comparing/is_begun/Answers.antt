@@ -1,4 +1,4 @@
-use Rattle.std.proofs.Common.{rules}
+use Rattle.store_tables.proofs.Common.{rules}
 use Rattle.store_tables.proofs.EveryTable.{indexes_are, tables_are}
 use Rattle.store_tables.proofs.comparing.is_begun.Goals as goal
 

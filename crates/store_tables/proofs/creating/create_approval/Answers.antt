@@ -1,4 +1,4 @@
-use Rattle.sqlite.specs.Held.{state}
+use Rattle.store_tables.proofs.Common.{state}
 use Rattle.store_tables.specs.Schema.{schema_6, approval}
 use Rattle.store_tables.proofs.Making.{makes_approval, counts, approval_text, approval_defined}
 use Rattle.store_tables.proofs.creating.create_approval.Goals as goal

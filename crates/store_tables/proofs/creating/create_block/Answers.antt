@@ -1,4 +1,4 @@
-use Rattle.sqlite.specs.Held.{state}
+use Rattle.store_tables.proofs.Common.{state}
 use Rattle.store_tables.specs.Schema.{schema_3, block}
 use Rattle.store_tables.proofs.Making.{makes_block, counts, block_text, block_defined}
 use Rattle.store_tables.proofs.creating.create_block.Goals as goal

@@ -1,4 +1,4 @@
-use Rattle.sqlite.specs.Held.{state}
+use Rattle.store_tables.proofs.Common.{state}
 use Rattle.store_tables.specs.Schema.{schema_7, frozen}
 use Rattle.store_tables.proofs.Making.{makes_frozen, counts, frozen_text, frozen_defined}
 use Rattle.store_tables.proofs.creating.create_frozen.Goals as goal

@@ -1,4 +1,4 @@
-use Rattle.sqlite.specs.Held.{state}
+use Rattle.store_tables.proofs.Common.{state}
 use Rattle.store_tables.specs.Schema.{schema_4, held}
 use Rattle.store_tables.proofs.Making.{makes_held, counts, held_text, held_defined}
 use Rattle.store_tables.proofs.creating.create_held.Goals as goal

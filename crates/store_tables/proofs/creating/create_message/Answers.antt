@@ -1,4 +1,4 @@
-use Rattle.sqlite.specs.Held.{state}
+use Rattle.store_tables.proofs.Common.{state}
 use Rattle.store_tables.specs.Schema.{schema_2, message}
 use Rattle.store_tables.proofs.Making.{makes_message, counts, message_text, message_defined}
 use Rattle.store_tables.proofs.creating.create_message.Goals as goal

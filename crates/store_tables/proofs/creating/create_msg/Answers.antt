@@ -1,4 +1,4 @@
-use Rattle.sqlite.specs.Held.{state}
+use Rattle.store_tables.proofs.Common.{state}
 use Rattle.store_tables.specs.Schema.{schema_9, msg}
 use Rattle.store_tables.proofs.Growing.{grows_msg}
 use Rattle.store_tables.proofs.Making.{makes_msg, counts, msg_text, msg_defined}

@@ -1,4 +1,4 @@
-use Rattle.sqlite.specs.Held.{state}
+use Rattle.store_tables.proofs.Common.{state}
 use Rattle.store_tables.specs.Schema.{schema_1, net}
 use Rattle.store_tables.proofs.Making.{makes_net, counts, net_text, net_defined}
 use Rattle.store_tables.proofs.creating.create_net.Goals as goal

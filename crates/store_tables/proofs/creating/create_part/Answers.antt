@@ -1,4 +1,4 @@
-use Rattle.sqlite.specs.Held.{state}
+use Rattle.store_tables.proofs.Common.{state}
 use Rattle.store_tables.specs.Schema.{schema_13, part}
 use Rattle.store_tables.proofs.Growing.{extends_part, grows_part}
 use Rattle.store_tables.proofs.Making.{makes_part, counts, part_text, part_defined}

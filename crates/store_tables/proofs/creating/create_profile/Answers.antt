@@ -1,4 +1,4 @@
-use Rattle.sqlite.specs.Held.{state}
+use Rattle.store_tables.proofs.Common.{state}
 use Rattle.store_tables.specs.Schema.{no_schema, profile}
 use Rattle.store_tables.proofs.Making.{makes_profile, counts, profile_text, profile_defined}
 use Rattle.store_tables.proofs.creating.create_profile.Goals as goal

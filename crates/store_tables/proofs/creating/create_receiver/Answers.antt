@@ -1,4 +1,4 @@
-use Rattle.sqlite.specs.Held.{state}
+use Rattle.store_tables.proofs.Common.{state}
 use Rattle.store_tables.specs.Schema.{schema_11, receiver}
 use Rattle.store_tables.proofs.Growing.{grows_receiver}
 use Rattle.store_tables.proofs.Making.{makes_receiver, counts, receiver_text, receiver_defined}

@@ -1,4 +1,4 @@
-use Rattle.sqlite.specs.Held.{state}
+use Rattle.store_tables.proofs.Common.{state}
 use Rattle.store_tables.specs.Schema.{schema_8, reply}
 use Rattle.store_tables.proofs.Making.{makes_reply, counts, reply_text, reply_defined}
 use Rattle.store_tables.proofs.creating.create_reply.Goals as goal

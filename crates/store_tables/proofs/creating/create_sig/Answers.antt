@@ -1,5 +1,4 @@
-use Rattle.std.proofs.Common.{ap, rules}
-use Rattle.sqlite.specs.Held.{state}
+use Rattle.store_tables.proofs.Common.{ap, rules, state}
 use Rattle.store_tables.specs.Schema.{schema_10, sig}
 use Rattle.store_tables.proofs.Keeping.{execute_keeps}
 use Rattle.store_tables.proofs.Growing.{grows_sig}

@@ -1,4 +1,4 @@
-use Rattle.sqlite.specs.Held.{state}
+use Rattle.store_tables.proofs.Common.{state}
 use Rattle.store_tables.specs.Schema.{schema_12, sigvalue}
 use Rattle.store_tables.proofs.Growing.{grows_sigvalue}
 use Rattle.store_tables.proofs.Making.{makes_sigvalue, counts, sigvalue_text, sigvalue_defined}

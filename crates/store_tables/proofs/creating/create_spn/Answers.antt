@@ -1,4 +1,4 @@
-use Rattle.sqlite.specs.Held.{state}
+use Rattle.store_tables.proofs.Common.{state}
 use Rattle.store_tables.specs.Schema.{schema_5, spn}
 use Rattle.store_tables.proofs.Making.{makes_spn, counts, spn_text, spn_defined}
 use Rattle.store_tables.proofs.creating.create_spn.Goals as goal

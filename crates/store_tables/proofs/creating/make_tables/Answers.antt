@@ -1,4 +1,4 @@
-use Rattle.sqlite.specs.Held.{state}
+use Rattle.store_tables.proofs.Common.{state}
 use Rattle.store_tables.proofs.Making.{all_made}
 use Rattle.store_tables.proofs.creating.make_tables.Goals as goal
 

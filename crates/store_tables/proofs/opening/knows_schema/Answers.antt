@@ -1,4 +1,4 @@
-use Rattle.std.proofs.Common.{sym, subst}
+use Rattle.store_tables.proofs.Common.{sym, subst}
 use Rattle.store_tables.specs.Schema.{IsCurrentSchema}
 use Rattle.store_tables.proofs.OneSchema.{sound_once}
 use Rattle.store_tables.proofs.opening.knows_schema.Goals as goal

@@ -1,4 +1,4 @@
-use Rattle.std.proofs.Common.{◌≡◌, ◌∙◌}
+use Rattle.store_rows.proofs.Common.{◌≡◌, ◌∙◌}
 use Rattle.store_rows.proofs.from_row.FrozenSheetFromRow.from_row.Goals as goal
 
 pub returns : goal.returns

@@ -1,4 +1,4 @@
-use Rattle.std.proofs.Common.{sym, subst, ◌∙◌}
+use Rattle.store_rows.proofs.Common.{sym, subst, ◌∙◌}
 use Rattle.store_bodies.specs.Body.{IsBody}
 use Rattle.store_rows.proofs.Values.{one_blob, one_text, one_message, whole_message}
 use Rattle.store_rows.proofs.from_row.LiveMessageFromRow.from_row.Goals as goal

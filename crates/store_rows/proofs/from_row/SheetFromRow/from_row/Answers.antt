@@ -1,4 +1,4 @@
-use Rattle.std.proofs.lemmas.Result.{IfOk-weaker}
+use Rattle.store_rows.proofs.Common.{IfOk-weaker}
 use Rattle.store_rows.proofs.from_row.SheetFromRow.from_row.Goals as goal
 
 pub returns : goal.returns

@@ -1,24 +1,12 @@
 -- What a script results in.
-use Rattle.std.proofs.Common.{◌≡◌, ◌+◌, ◌∙◌, inl, inr, Bool, true, false, List, [], ◌∷◌, ◌++◌, length, ℕ, suc, zero-le}
-use Rattle.std.proofs.Common.{Option, Some, None, Result, Ok, Err, refl, sym, ap, subst, arith}
-use Rattle.std.specs.Prelude.{IfOk, if◌then◌else◌, ⊤}
-use Rattle.std.specs.Option.{option_and_then, option_map}
-use Rattle.std.proofs.lemmas.Option.{none-some}
-use Rattle.std.proofs.lemmas.Slice.Zip.{AllZip-long}
-use Rattle.std.specs.declared.alloc.AllocError.{AllocError}
-use Rattle.office_history.specs.declared.arrival.Answer.{Answer}
-use Rattle.office_history.specs.declared.arrival.Arrival.{Arrival}
-use Rattle.office_history.specs.History.{Answered}
-use Rattle.office_script.specs.Files.{Files}
-use Rattle.office_script.specs.Lines.{lines_of, says_nothing}
-use Rattle.office_script.specs.Requests.{request_of}
-use Rattle.office_script.specs.Script.{AreArrivalsOf, IsScriptFault, requests_of_lines}
-use Rattle.office_script.specs.declared.keys.Dash.{Dash}
+use Rattle.canoffice_cli.proofs.Common.{◌≡◌, ◌+◌, ◌∙◌, inl, inr, Bool, true, false, List, [], ◌∷◌, ◌++◌, length, ℕ, suc}
+use Rattle.canoffice_cli.proofs.Common.{zero-le, Option, Some, None, Result, Ok, Err, refl, sym, ap, subst, arith, IfOk}
+use Rattle.canoffice_cli.proofs.Common.{if◌then◌else◌, ⊤, option_and_then, option_map, none-some, AllZip-long}
+use Rattle.canoffice_cli.proofs.Common.{AllocError, Answer, Arrival, Answered, Files, lines_of, says_nothing}
+use Rattle.canoffice_cli.proofs.Common.{request_of, AreArrivalsOf, IsScriptFault, requests_of_lines, Dash, LineRequest}
+use Rattle.canoffice_cli.proofs.Common.{ScriptFault, BadLine, Unreadable, Lost}
 use Rattle.office_script.specs.declared.keys.Dash.TheVariants.{LineNumber}
-use Rattle.office_script.specs.declared.requests.LineRequest.{LineRequest}
-use Rattle.office_script.specs.declared.script.ScriptFault.{ScriptFault}
-use Rattle.office_script.specs.declared.script.ScriptFault.TheVariants.{BadLine, Unreadable, Memory}
-use Rattle.store.specs.declared.lost.Lost.{Lost}
+use Rattle.office_script.specs.declared.script.ScriptFault.TheVariants.{Memory}
 use Rattle.store.specs.declared.lost.Lost.TheVariants as why
 use Rattle.canoffice_cli.specs.Answered.{InMemory, IsFarEnough, answered_with, answers_outcome}
 use Rattle.canoffice_cli.specs.Applied.{AreTold, IsApplyOutcome, IsScriptOutcome, Reports}

@@ -1,31 +1,23 @@
 -- What the office answers to a task is what can answer it.
-use Rattle.std.proofs.Common.{◌≡◌, ◌+◌, ℕ, List, [], ◌∷◌, ◌++◌, length, Option, Some, None, Bool, true, false, refl}
-use Rattle.std.proofs.Common.{sym, ap, suc, subst}
-use Rattle.std.specs.List.{flat_map}
-use Rattle.std.specs.Prelude.{IfSome}
+use Rattle.canoffice_cli.proofs.Common.{◌≡◌, ◌+◌, ℕ, List, [], ◌∷◌, ◌++◌, length, Option, Some, None, Bool, true, false}
+use Rattle.canoffice_cli.proofs.Common.{refl, sym, ap, suc, subst, flat_map, IfSome, Action, Command, Task, Act, Import}
+use Rattle.canoffice_cli.proofs.Common.{Bundle, Refusal, Office, Profile}
 use Rattle.base.specs.Refusing.{Test, first_refusal}
 use Rattle.dbc_sheet.specs.declared.message.Message.{Message}
 use Rattle.bitlayout.specs.Clash.{first_clash_of}
 use Rattle.dbc_sheet.specs.Signals.{places_of}
 use Rattle.office_types.specs.Reply.{part_reply, whole_reply}
 use Rattle.office_types.specs.declared.book.SpnBook.{SpnBook}
-use Rattle.office_types.specs.declared.command.Action.{Action}
-use Rattle.office_types.specs.declared.command.Command.{Command}
-use Rattle.office_types.specs.declared.command.Task.{Task}
-use Rattle.office_types.specs.declared.command.Task.TheVariants.{Act, Import, Bundle}
-use Rattle.office_types.specs.declared.refusal.Refusal.{Refusal}
 use Rattle.office_types.specs.declared.refusal.Refusal.TheVariants as no
 use Rattle.office_types.specs.declared.reply.Reply.{Reply}
 use Rattle.office_types.specs.declared.reply.Reply.TheVariants as reply
 use Rattle.office_types.specs.declared.state.Net.{Net}
-use Rattle.office_types.specs.declared.state.Office.{Office}
 use Rattle.office_rules.specs.Bundling.{bundle_outcome}
 use Rattle.office_rules.specs.Commands.{acted, action_tests, done_task, parts_done}
 use Rattle.office_rules.specs.Facts.{is_live}
 use Rattle.office_rules.specs.Importing.{FileReading, Reading, Unreadable, clear_tests, file_imported, file_tests}
 use Rattle.office_rules.specs.Importing.{import_tests, is_too_large, message_import_tests}
 use Rattle.office_rules.specs.Outcome.{Entries, Outcome, Refusing, Changing, entered, reply_of, when}
-use Rattle.office_rules.specs.Profile.{Profile}
 use Rattle.office_rules.specs.Step.{Step}
 use Rattle.office_law.specs.Deciding.{IsDecidedBy}
 use Rattle.office_law.proofs.DecidedByTests.{tests_decide}

@@ -1,10 +1,7 @@
 -- A canonical text that is formatted is printed unchanged.
-use Rattle.std.proofs.Common.{◌≡◌, ◌∙◌, ℕ, List, sym, ap, subst}
-use Rattle.dbc_grammar.specs.Canon.{canonical_text}
+use Rattle.canoffice_cli.proofs.Common.{◌≡◌, ◌∙◌, ℕ, List, sym, ap, subst, canonical_text, Sheet, ReadsAsNothing}
 use Rattle.dbc_grammar.specs.Reads.{Reads}
-use Rattle.dbc_sheet.specs.declared.sheet.Sheet.{Sheet}
 use Rattle.dbc_law.specs.Law.{GrammarLaw}
-use Rattle.dbc_read.specs.Reading.{ReadsAsNothing}
 use Rattle.canoffice_cli.specs.Formatted.{KeepsCanonical}
 use Rattle.canoffice_cli.specs.Outcome.{Outcome, success}
 

@@ -1,10 +1,8 @@
 -- What is printed of a sheet of which more than the text is wanted.
-use Rattle.std.proofs.Common.{◌≡◌, ℕ, Bool, true, false, List, Option, Some, None, Result, subst, sym}
-use Rattle.std.specs.Prelude.{IfOk}
-use Rattle.std.specs.Borrow.{Bor}
-use Rattle.std.specs.declared.alloc.AllocError.{AllocError}
+use Rattle.canoffice_cli.proofs.Common.{◌≡◌, ℕ, Bool, true, false, List, Option, Some, None, Result, subst, sym, IfOk}
+use Rattle.canoffice_cli.proofs.Common.{Bor, AllocError, Files}
 use Rattle.dbc_keep.specs.Completed.{NamedText}
-use Rattle.office_script.specs.Files.{Files, Holding}
+use Rattle.office_script.specs.Files.{Holding}
 use Rattle.canoffice_cli.specs.Databases.{Databases}
 use Rattle.canoffice_cli.specs.Exported.{IsCompletedOutcome, IsTextOutcome}
 use Rattle.canoffice_cli.specs.Outcome.{outcome_of}

@@ -1,8 +1,6 @@
 -- What a job results in that reads a file.
-use Rattle.std.proofs.Common.{◌≡◌, ℕ, List, [], inl, inr, subst, sym, ◌∙◌, Result, Ok, Err}
-use Rattle.std.specs.Prelude.{IfOk}
-use Rattle.std.specs.declared.alloc.AllocError.{AllocError}
-use Rattle.office_history.specs.declared.arrival.Answer.{Answer}
+use Rattle.canoffice_cli.proofs.Common.{◌≡◌, ℕ, List, [], inl, inr, subst, sym, ◌∙◌, Result, Ok, Err, IfOk, AllocError}
+use Rattle.canoffice_cli.proofs.Common.{Answer}
 use Rattle.office_script.specs.Files.{FailsWith, Gives, Holding, unknown, absent, holding}
 use Rattle.canoffice_cli.specs.Applied.{AreTold}
 use Rattle.canoffice_cli.specs.Databases.{AreKept, Databases}

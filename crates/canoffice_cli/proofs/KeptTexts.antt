@@ -1,16 +1,13 @@
 -- What is printed of a text that keeps what is skipped.
-use Rattle.std.proofs.Common.{◌≡◌, ◌∙◌, ℕ, List, [], ◌∷◌, map, ap, refl, inr, Result, Ok, Err}
-use Rattle.std.specs.Prelude.{◌≢◌, IfOk}
-use Rattle.std.specs.declared.alloc.AllocError.{AllocError}
-use Rattle.dbc_grammar.specs.Canon.{canonical_text}
-use Rattle.dbc_grammar.specs.Reads.{ReadsAs, ReadsAsOneAtMost}
+use Rattle.canoffice_cli.proofs.Common.{◌≡◌, ◌∙◌, ℕ, List, [], ◌∷◌, map, ap, refl, inr, Result, Ok, Err, IfOk}
+use Rattle.canoffice_cli.proofs.Common.{AllocError, canonical_text, ReadsAs, start_and_keyword, ReadsAsNothing, Passed}
+use Rattle.canoffice_cli.proofs.Common.{Sheet}
+use Rattle.std.specs.Prelude.{◌≢◌}
+use Rattle.dbc_grammar.specs.Reads.{ReadsAsOneAtMost}
 use Rattle.dbc_keep_law.specs.Law.{IsKept, KeptIsOne, KeptIsRead}
 use Rattle.dbc_lex.specs.declared.fault.ReadCode.TheVariants.{Memory}
 use Rattle.dbc_lex.specs.declared.fault.ReadFault.{ReadFault}
-use Rattle.dbc_read.specs.Passed.{start_and_keyword}
-use Rattle.dbc_read.specs.Reading.{IsReadFault, ReadsAsNothing}
-use Rattle.dbc_read.specs.declared.passed.Passed.{Passed}
-use Rattle.dbc_sheet.specs.declared.sheet.Sheet.{Sheet}
+use Rattle.dbc_read.specs.Reading.{IsReadFault}
 use Rattle.canoffice_cli.specs.Checked.{fault_line}
 use Rattle.canoffice_cli.specs.Formatted.{IsKeptOutcome, KeepsKept, KeepsNothing, fault_errors}
 use Rattle.canoffice_cli.specs.Outcome.{Outcome, outcome_of, success}

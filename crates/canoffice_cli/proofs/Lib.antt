@@ -1,3 +1,4 @@
+pub mod Common
 pub mod Writes
 pub mod Performed
 pub mod WrongWords

@@ -1,7 +1,9 @@
 -- The lines of answers fit in the room for them.
-use Rattle.std.proofs.Common.{◌≤◌, ◌+◌, ◌*◌, ℕ, List, [], ◌∷◌, ◌++◌, length, take, max, codes, decimal, arith}
-use Rattle.std.proofs.Common.{◌≡◌, length-append, refl, subst}
-use Rattle.std.specs.List.{All, AllZip}
+use Rattle.canoffice_cli.proofs.Common.{◌≤◌, ◌+◌, ℕ, List, [], ◌∷◌, ◌++◌, length, take, codes, arith, ◌≡◌}
+use Rattle.canoffice_cli.proofs.Common.{length-append, refl, subst, AllZip, Task, Act, Import, Bundle, Refusal, Answer}
+use Rattle.canoffice_cli.proofs.Common.{Arrival, Action, Command}
+use Rattle.std.proofs.Common.{◌*◌, max, decimal}
+use Rattle.std.specs.List.{All}
 use Rattle.std.proofs.Math.Nat.{le-max_left, le-max_right}
 use Rattle.std.proofs.lemmas.Fmt.{length-decimal-le}
 use Rattle.std.proofs.lemmas.List.Concat.{length-flat_map}
@@ -9,19 +11,12 @@ use Rattle.std.proofs.lemmas.List.Elements.{All-head, All-tail, All-weaker}
 use Rattle.std.proofs.lemmas.List.Sums.{sum_by-cons, sum_by-le}
 use Rattle.office_types.specs.Refusal.{fault_of}
 use Rattle.office_types.specs.Reply.{later_text, part_text, refusal_text, reply_text}
-use Rattle.office_types.specs.declared.command.Task.{Task}
-use Rattle.office_types.specs.declared.command.Task.TheVariants.{Act, Import, Bundle}
 use Rattle.office_types.specs.declared.refusal.FileFault.{FileFault}
-use Rattle.office_types.specs.declared.refusal.Refusal.{Refusal}
 use Rattle.office_types.specs.declared.refusal.Refusal.TheVariants as no
 use Rattle.office_types.specs.declared.reply.PartReply.{PartReply}
 use Rattle.office_types.specs.declared.reply.PartReply.TheVariants as part
 use Rattle.office_types.specs.declared.reply.Reply.TheVariants as reply
-use Rattle.office_history.specs.declared.arrival.Answer.{Answer}
 use Rattle.office_history.specs.declared.arrival.Answer.TheVariants.{Reply, KeyReused}
-use Rattle.office_history.specs.declared.arrival.Arrival.{Arrival}
-use Rattle.office_types.specs.declared.command.Action.{Action}
-use Rattle.office_types.specs.declared.command.Command.{Command}
 use Rattle.office_script.specs.Echoes.{action_heading, answer_line, answer_text, bundle_echo, echo_lines, echoes}
 use Rattle.office_script.specs.Echoes.{longest_echo, longest_echoes, longest_part, longest_parts, longest_refusal}
 use Rattle.office_script.specs.Echoes.{part_lines, parts_of, task_heading, whole_echo}

@@ -1,5 +1,5 @@
 -- Worked examples of what looks print, computed from the definitions.
-use Rattle.std.proofs.Common.{◌≡◌, [], ◌∷◌, Ok, Err, None, codes, map, refl}
+use Rattle.canoffice_cli.proofs.Common.{◌≡◌, [], ◌∷◌, Ok, Err, None, codes, map, refl}
 use Rattle.std.specs.Fmt.{digits}
 use Rattle.desk_client.specs.Received.{cut, not_http, too_long, whole}
 use Rattle.desk_client.specs.declared.fault.AskFault.TheVariants.{Connect, Connection}

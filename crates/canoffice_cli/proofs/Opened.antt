@@ -1,28 +1,19 @@
 -- A database that was opened, used and closed.
-use Rattle.std.proofs.Common.{◌≡◌, ◌⊎◌, inl, inr, List, ℕ, [], ◌++◌, Option, None, Some, Result, Ok, Err, refl, sym, ap}
-use Rattle.std.proofs.Common.{subst, ◌∙◌, append-nil}
-use Rattle.std.specs.Prelude.{IfOk, IsErr, IsSome, IsTrue, OnErr, OnOk, ⊤}
-use Rattle.std.specs.Result.{result_map_both}
-use Rattle.std.proofs.lemmas.Result.{on_err_weaker, on_ok_weaker}
+use Rattle.canoffice_cli.proofs.Common.{◌≡◌, ◌⊎◌, inl, inr, List, ℕ, [], ◌++◌, Option, None, Some, Result, Ok, Err}
+use Rattle.canoffice_cli.proofs.Common.{refl, sym, ap, subst, ◌∙◌, append-nil, IfOk, IsTrue, OnErr, ⊤, result_map_both}
+use Rattle.canoffice_cli.proofs.Common.{on_err_weaker, Database, Held, state, HasCleanDisk, State, over_memory}
+use Rattle.canoffice_cli.proofs.Common.{MemStore, Office, Answered, statistics_of, Lost, Memory, Holding, HasNone}
+use Rattle.canoffice_cli.proofs.Common.{HoldingInSomeForm, HoldingOlder, in_form, office_in_form, older_in_form}
+use Rattle.std.specs.Prelude.{IsErr, IsSome, OnOk}
+use Rattle.std.proofs.lemmas.Result.{on_ok_weaker}
 use Rattle.sqlite.proofs.Callers.{memory_is_clean}
-use Rattle.sqlite.specs.Effect.{Database}
-use Rattle.sqlite.specs.Held.{Held, state}
-use Rattle.sqlite.specs.State.{HasCleanDisk, State}
-use Rattle.sqlite.specs.Steps.{over_memory}
-use Rattle.sqlite_trees.specs.declared.memory.MemStore.{MemStore}
-use Rattle.office_types.specs.declared.state.Office.{Office}
-use Rattle.office_history.specs.History.{Answered, IsLegal}
+use Rattle.office_history.specs.History.{IsLegal}
 use Rattle.store_tables.specs.Schema.{no_schema}
-use Rattle.store_tables.specs.Statements.{statistics_of}
 use Rattle.store_migrate.specs.FormSchema.{schema_of}
-use Rattle.store.specs.declared.lost.Lost.{Lost}
-use Rattle.store.specs.declared.lost.Lost.TheVariants.{Memory}
 use Rattle.office_types.specs.declared.look.Look.{Look}
-use Rattle.store.specs.Holding.{Holding}
 use Rattle.store.specs.Looking.{IsShown}
-use Rattle.store.specs.Opening.{HasNone, HoldingInSomeForm, HoldingOlder}
 use Rattle.store.proofs.OpenedTables.{none_of_office}
-use Rattle.store.proofs.TablesInForm.{in_form, office_in_form, older_in_form, schema_in_form}
+use Rattle.store.proofs.TablesInForm.{schema_in_form}
 use Rattle.canoffice_cli.specs.Answered.{InDatabase, NoneAnswered}
 use Rattle.canoffice_cli.specs.Databases.{AreKept, Begins, Databases, HasBegun, HoldsInSomeForm, Statistics}
 use Rattle.canoffice_cli.specs.Databases.{StatisticsStay, known_of, nothing_known}

@@ -1,16 +1,14 @@
 -- A run that was answered, or ran out of memory.
-use Rattle.std.proofs.Common.{◌≡◌, ◌∷◌, Bool, true, false, List, [], Option, Some, None, ℕ, Result, Ok, Err, codes}
-use Rattle.std.proofs.Common.{refl, sym, ap, subst, inl, inr}
-use Rattle.std.specs.Prelude.{IfOk, OnErr, if◌then◌else◌}
-use Rattle.std.specs.declared.alloc.AllocError.{AllocError}
+use Rattle.canoffice_cli.proofs.Common.{◌≡◌, ◌∷◌, Bool, true, false, List, [], Some, None, ℕ, Result, Ok, Err, codes}
+use Rattle.canoffice_cli.proofs.Common.{refl, sym, ap, subst, inl, inr, IfOk, OnErr, if◌then◌else◌, AllocError, Files}
+use Rattle.canoffice_cli.proofs.Common.{Desks, entered, lint_entered}
 use Rattle.canoffice_cli.specs.declared.report.Report.{Report}
 use Rattle.canoffice_cli.specs.declared.report.Status.{Status}
 use Rattle.canoffice_cli.specs.Delivery.{IsDelivered, Writing}
 use Rattle.canoffice_cli.specs.Outcome.{memory_lost, outcome_of, final_outcome}
-use Rattle.office_script.specs.Files.{Files, Holding}
+use Rattle.office_script.specs.Files.{Holding}
 use Rattle.canoffice_cli.specs.Databases.{Databases}
-use Rattle.desk_send.specs.Desks.{Desks}
-use Rattle.canoffice_jobs.specs.CommandLine.{entered, is_check, lint_entered}
+use Rattle.canoffice_jobs.specs.CommandLine.{is_check}
 use Rattle.canoffice_jobs.specs.Meant.{meant_after, name_before_help, words_meant}
 use Rattle.canoffice_cli.specs.Performance.{IsAnswered, IsEnteredAnswer, IsPerformed}
 use Rattle.canoffice_cli.specs.Unprinted.{IsUnprinted}

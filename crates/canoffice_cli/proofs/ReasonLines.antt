@@ -1,10 +1,6 @@
 -- Why commands of a script were refused, after what is stated of it.
-use Rattle.std.proofs.Common.{◌≡◌, ◌⊎◌, ◌++◌, ℕ, Bool, true, false, List, [], inl, inr, refl, sym, ap, ◌∙◌}
-use Rattle.std.proofs.Common.{append_assoc, append-nil, subst}
-use Rattle.std.specs.Prelude.{if◌then◌else◌}
-use Rattle.std.specs.List.{flat_map}
-use Rattle.office_history.specs.declared.arrival.Answer.{Answer}
-use Rattle.office_script.specs.Files.{Files}
+use Rattle.canoffice_cli.proofs.Common.{◌≡◌, ◌⊎◌, ◌++◌, ℕ, Bool, true, false, List, [], inl, inr, refl, sym, ap, ◌∙◌}
+use Rattle.canoffice_cli.proofs.Common.{append_assoc, append-nil, subst, if◌then◌else◌, flat_map, Answer, Files}
 use Rattle.canoffice_cli.specs.Explaining.{Explains, IsExplanation, IsStated}
 use Rattle.canoffice_cli.specs.Outcome.{Outcome, and_errors}
 use Rattle.canoffice_cli.specs.Numbers.{script_numbers}

@@ -1,23 +1,19 @@
 -- Arrivals with their answers, and the histories that go on with them.
-use Rattle.std.proofs.Common.{◌≡◌, ◌⊎◌, ◌+◌, ◌≤◌, ◌<◌, ℕ, zero, suc, inl, inr, List, [], ◌∷◌, ◌++◌, length, take, refl}
-use Rattle.std.proofs.Common.{sym, ap, subst, ◌∙◌, arith, append_assoc, append-nil}
-use Rattle.std.specs.Prelude.{IsTrue}
-use Rattle.sqlite.specs.Effect.{Database}
-use Rattle.sqlite.specs.State.{State}
+use Rattle.canoffice_cli.proofs.Common.{◌≡◌, ◌⊎◌, ◌+◌, ◌≤◌, ◌<◌, ℕ, zero, suc, inl, inr, List, [], ◌∷◌, ◌++◌, length}
+use Rattle.canoffice_cli.proofs.Common.{take, refl, sym, ap, subst, ◌∙◌, arith, append_assoc, append-nil, IsTrue}
+use Rattle.canoffice_cli.proofs.Common.{Database, State, Profile, statistics_of, Answer, Arrival, Answered}
+use Rattle.canoffice_cli.proofs.Common.{IsLegalHistory, Holding, HasNone, HoldingInSomeForm, HoldingOlder}
+use Rattle.canoffice_cli.proofs.Common.{office_in_form}
 use Rattle.sqlite.specs.Tree.{Trees}
-use Rattle.office_rules.specs.Profile.{One, Profile, Two}
-use Rattle.store_tables.specs.Statements.{statistics_of}
+use Rattle.office_rules.specs.Profile.{One, Two}
 use Rattle.office_history.specs.Answering.{reported}
-use Rattle.office_history.specs.declared.arrival.Answer.{Answer}
-use Rattle.office_history.specs.declared.arrival.Arrival.{Arrival}
-use Rattle.office_history.specs.History.{Answered, IsLegalHistory}
 use Rattle.office_history.specs.Laws.{HistoriesGrow}
 use Rattle.store_migrate.specs.InForm.{KeepsAs}
 use Rattle.store_migrate.specs.declared.forms.SchemaForm.{SchemaForm}
 use Rattle.store_migrate.specs.declared.forms.SchemaForm.TheVariants.{All, Analyzed, Bodies, Foreign, Rows}
-use Rattle.store.specs.Holding.{Holding, Keeps}
-use Rattle.store.specs.Opening.{HasNone, HasOffice, HoldingInSomeForm, HoldingOlder, KeepsInSomeForm, KeepsOlder}
-use Rattle.store.proofs.TablesInForm.{has_office, office_in_form}
+use Rattle.store.specs.Holding.{Keeps}
+use Rattle.store.specs.Opening.{HasOffice, KeepsInSomeForm, KeepsOlder}
+use Rattle.store.proofs.TablesInForm.{has_office}
 use Rattle.canoffice_cli.specs.Answered.{answered_with}
 use Rattle.canoffice_cli.specs.Databases.{Begins}
 

@@ -1,18 +1,11 @@
 -- The lines of a script that request something, one for each arrival.
-use Rattle.std.proofs.Common.{◌≡◌, ◌+◌, ◌-◌, ◌<◌, ◌==◌, ◌++◌, ℕ, Bool, true, false, List, [], ◌∷◌, length}
-use Rattle.std.proofs.Common.{Option, Some, None, if◌then◌else◌, refl, sym, subst, arith}
-use Rattle.std.specs.Option.{option_and_then, option_map}
+use Rattle.canoffice_cli.proofs.Common.{◌≡◌, ◌+◌, ◌-◌, ◌<◌, ◌++◌, ℕ, Bool, true, false, List, [], ◌∷◌, length, Option}
+use Rattle.canoffice_cli.proofs.Common.{Some, None, refl, sym, subst, arith, option_and_then, option_map, none-some}
+use Rattle.canoffice_cli.proofs.Common.{AllZip-long, IsFirstUnsent, Arrival, Files, says_nothing, request_of}
+use Rattle.canoffice_cli.proofs.Common.{AreArrivalsOf, requests_of_lines, Dash, LineRequest}
+use Rattle.std.proofs.Common.{◌==◌, if◌then◌else◌}
 use Rattle.std.proofs.lemmas.Bool.Decides.{nat_tests}
-use Rattle.std.proofs.lemmas.Option.{none-some, slice_get_within}
-use Rattle.std.proofs.lemmas.Slice.Zip.{AllZip-long}
-use Rattle.desk_send.specs.Request.{IsFirstUnsent}
-use Rattle.office_history.specs.declared.arrival.Arrival.{Arrival}
-use Rattle.office_script.specs.Files.{Files}
-use Rattle.office_script.specs.Lines.{says_nothing}
-use Rattle.office_script.specs.Requests.{request_of}
-use Rattle.office_script.specs.Script.{AreArrivalsOf, requests_of_lines}
-use Rattle.office_script.specs.declared.keys.Dash.{Dash}
-use Rattle.office_script.specs.declared.requests.LineRequest.{LineRequest}
+use Rattle.std.proofs.lemmas.Option.{slice_get_within}
 use Rattle.canoffice_cli.specs.Sent.{requesting_line}
 
 abbrev Requests : Type 0

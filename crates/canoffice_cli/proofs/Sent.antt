@@ -1,25 +1,17 @@
 -- What a script results in that is sent.
-use Rattle.std.proofs.Common.{◌≡◌, ◌+◌, ◌++◌, ℕ, inl, inr, List, [], ◌∷◌, length, map, take, Option, Some, None, Result}
-use Rattle.std.proofs.Common.{Ok, Err, refl, sym, ap, subst, ◌∙◌, arith, length-append, append_assoc, append-nil}
-use Rattle.std.specs.Prelude.{IfOk, IfSome, OnErr}
-use Rattle.std.specs.List.{AllZip}
-use Rattle.std.specs.declared.alloc.AllocError.{AllocError}
-use Rattle.std.proofs.lemmas.List.{length-map, map-append}
-use Rattle.std.proofs.lemmas.Slice.Zip.{AllZip-long}
-use Rattle.desk_send.specs.Desks.{AreStill, Desks, Takes, TakesNone, Turn}
-use Rattle.desk_send.specs.Replies.{Comes, HasCome}
+use Rattle.canoffice_cli.proofs.Common.{◌≡◌, ◌+◌, ◌++◌, ℕ, inl, inr, List, [], ◌∷◌, length, map, take, Option, Some}
+use Rattle.canoffice_cli.proofs.Common.{None, Result, Ok, Err, refl, sym, ap, subst, ◌∙◌, arith, length-append}
+use Rattle.canoffice_cli.proofs.Common.{append_assoc, append-nil, IfOk, IfSome, OnErr, AllZip, AllocError, length-map}
+use Rattle.canoffice_cli.proofs.Common.{AllZip-long, AreStill, Desks, HasCome, IsFirstUnsent, Answer, Arrival, Files}
+use Rattle.canoffice_cli.proofs.Common.{lines_of, AreArrivalsOf, IsScriptFault, ScriptFault, BadLine, Unreadable, Lost}
+use Rattle.std.proofs.lemmas.List.{map-append}
+use Rattle.desk_send.specs.Desks.{Takes, TakesNone, Turn}
+use Rattle.desk_send.specs.Replies.{Comes}
 use Rattle.desk_send.specs.declared.sending.SendFault.{SendFault}
 use Rattle.desk_send.proofs.Trying.{comes_more, takes_nothing, takes_on}
-use Rattle.desk_send.specs.Request.{IsFirstUnsent, IsSentAs}
-use Rattle.office_history.specs.declared.arrival.Answer.{Answer}
-use Rattle.office_history.specs.declared.arrival.Arrival.{Arrival}
-use Rattle.office_script.specs.Files.{Files}
-use Rattle.office_script.specs.Lines.{lines_of}
-use Rattle.office_script.specs.Script.{AreArrivalsOf, IsScriptFault}
+use Rattle.desk_send.specs.Request.{IsSentAs}
 use Rattle.office_script.specs.declared.keys.Dash.TheVariants.{Wrong}
-use Rattle.office_script.specs.declared.script.ScriptFault.{ScriptFault}
-use Rattle.office_script.specs.declared.script.ScriptFault.TheVariants.{BadLine, Unreadable, Memory}
-use Rattle.store.specs.declared.lost.Lost.{Lost}
+use Rattle.office_script.specs.declared.script.ScriptFault.TheVariants.{Memory}
 use Rattle.canoffice_cli.specs.Answered.{IsFarEnough, answers_outcome}
 use Rattle.canoffice_cli.specs.Applied.{Reports}
 use Rattle.canoffice_cli.specs.Outcome.{Outcome, outcome_of, wrong_line}

@@ -1,13 +1,7 @@
 -- The outcome of a job, with what is printed after it or without.
-use Rattle.std.proofs.Common.{◌≡◌, ◌⊎◌, ℕ, Bool, List, map, inl, inr, refl, subst, sym, Result, Ok, Err}
-use Rattle.std.specs.Prelude.{IfOk}
-use Rattle.std.specs.declared.alloc.AllocError.{AllocError}
-use Rattle.dbc_grammar.specs.Reads.{ReadsAs}
-use Rattle.dbc_sheet.specs.declared.sheet.Sheet.{Sheet}
+use Rattle.canoffice_cli.proofs.Common.{◌≡◌, ◌⊎◌, ℕ, Bool, List, map, inl, inr, refl, subst, sym, Result, Ok, Err, IfOk}
+use Rattle.canoffice_cli.proofs.Common.{AllocError, ReadsAs, Sheet, start_and_keyword, ReadsAsNothing, Passed, Answer}
 use Rattle.dbc_advice.specs.Explained.{IsExplained}
-use Rattle.dbc_read.specs.Passed.{start_and_keyword}
-use Rattle.dbc_read.specs.Reading.{ReadsAsNothing}
-use Rattle.dbc_read.specs.declared.passed.Passed.{Passed}
 use Rattle.canoffice_cli.specs.Explaining.{
   IsExplainedBy,
   IsStatedOfFormat,
@@ -16,7 +10,6 @@ use Rattle.canoffice_cli.specs.Explaining.{
   MayBeStatedBy,
   MayState,
 }
-use Rattle.office_history.specs.declared.arrival.Answer.{Answer}
 use Rattle.canoffice_cli.specs.Outcome.{Outcome, and_errors, outcome_of}
 use Rattle.canoffice_cli.specs.declared.explaining.Advice.{Advice}
 use Rattle.canoffice_cli.specs.declared.explaining.Advice.TheVariants.{Everything, Nothing, WrongLine}

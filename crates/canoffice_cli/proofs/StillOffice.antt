@@ -1,11 +1,9 @@
 -- Offices on tables that are read between two arrivals.
-use Rattle.std.proofs.Common.{◌≡◌, ◌≤◌, Bool, true, false, Result, Ok, Err, refl, sym, ◌∙◌, arith}
-use Rattle.std.proofs.lemmas.Bool.{false≢true}
+use Rattle.canoffice_cli.proofs.Common.{Result, Ok, Err, refl, sym, ◌∙◌, arith, false≢true, Lost, Memory, Store}
 use Rattle.sqlite_trees.specs.declared.store.Store.{Ghosts}
 use Rattle.store.specs.Calls.{HoldsOnErr, HoldsOnOk, IsOfficeCall, KeepsStatistics}
 use Rattle.store.specs.Office.{OfficeView}
-use Rattle.store.specs.declared.lost.Lost.{Lost}
-use Rattle.store.specs.declared.lost.Lost.TheVariants.{Memory, Store, NewerProfile, OlderProfile}
+use Rattle.store.specs.declared.lost.Lost.TheVariants.{NewerProfile, OlderProfile}
 use Rattle.canoffice_cli.specs.Reasons.{StaysAnOffice}
 
 -- nothing was read

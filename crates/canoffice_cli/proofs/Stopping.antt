@@ -1,15 +1,9 @@
 -- How far arrivals are answered.
-use Rattle.std.proofs.Common.{◌≡◌, ◌≤◌, inl, inr, Bool, true, false, ◌&&◌, ◌||◌, List, ◌∷◌, [], ◌++◌, length, Some}
-use Rattle.std.proofs.Common.{None, refl, sym, ap, ◌∙◌}
-use Rattle.std.proofs.lemmas.Bool.{false≢true}
-use Rattle.std.proofs.lemmas.Option.{none-some}
-use Rattle.std.specs.Prelude.{IsTrue}
-use Rattle.std.specs.List.{list_any}
+use Rattle.canoffice_cli.proofs.Common.{◌≡◌, ◌≤◌, inl, inr, Bool, true, false, List, ◌∷◌, [], ◌++◌, length, Some, None}
+use Rattle.canoffice_cli.proofs.Common.{refl, sym, ap, ◌∙◌, false≢true, none-some, IsTrue, list_any, is_refused, Answer}
+use Rattle.canoffice_cli.proofs.Common.{Arrival, Lost}
+use Rattle.std.proofs.Common.{◌&&◌, ◌||◌}
 use Rattle.std.proofs.lemmas.List.Folds.{list_any-append}
-use Rattle.office_script.specs.Echoes.{is_refused}
-use Rattle.office_history.specs.declared.arrival.Answer.{Answer}
-use Rattle.office_history.specs.declared.arrival.Arrival.{Arrival}
-use Rattle.store.specs.declared.lost.Lost.{Lost}
 use Rattle.canoffice_cli.specs.Answered.{EndsRefused, IsFarEnough, NoneRefused}
 
 -- where nothing was refused and it goes on after the next answer, nothing is refused with that

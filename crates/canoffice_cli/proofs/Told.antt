@@ -1,11 +1,9 @@
 -- Reasons for the refused lines among those that were answered.
-use Rattle.std.proofs.Common.{◌≡◌, ◌⊎◌, ◌+◌, ◌<◌, ◌∙◌, ℕ, zero, suc, List, [], ◌∷◌, ◌++◌, length, map, drop, inl, inr}
-use Rattle.std.proofs.Common.{Option, Some, Result, Ok, Err, refl, sym, ap, subst, arith, add-one, append_assoc}
-use Rattle.std.proofs.Common.{append-nil, length-drop}
-use Rattle.std.specs.Prelude.{if◌then◌else◌, is_ok}
-use Rattle.office_history.specs.declared.arrival.Arrival.{Arrival}
-use Rattle.office_history.specs.declared.arrival.Answer.{Answer}
-use Rattle.office_types.specs.declared.refusal.Refusal.{Refusal}
+use Rattle.canoffice_cli.proofs.Common.{◌≡◌, ◌⊎◌, ◌+◌, ◌<◌, ◌∙◌, ℕ, zero, suc, List, [], ◌∷◌, ◌++◌, length, map, drop}
+use Rattle.canoffice_cli.proofs.Common.{inl, inr, Option, Result, Ok, Err, refl, sym, ap, subst, arith, append_assoc}
+use Rattle.canoffice_cli.proofs.Common.{append-nil, if◌then◌else◌, Arrival, Answer, Refusal}
+use Rattle.std.proofs.Common.{add-one, length-drop}
+use Rattle.std.specs.Prelude.{is_ok}
 use Rattle.canoffice_cli.specs.Numbers.{HaveLines, numbers_left, script_numbers}
 use Rattle.canoffice_cli.specs.Reasons.{AreSomeOf, Tells, TellsOf, refusal_of, refused_line, refused_lines, told_of}
 use Rattle.canoffice_cli.specs.declared.progress.RequestLines.{RequestLines}

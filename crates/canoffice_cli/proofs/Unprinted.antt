@@ -1,8 +1,5 @@
 -- Where memory runs out before an outcome is printed.
-use Rattle.std.proofs.Common.{◌⊎◌, inl, inr, Result, Ok, Err}
-use Rattle.std.specs.Prelude.{OnErr}
-use Rattle.std.specs.declared.alloc.AllocError.{AllocError}
-use Rattle.desk_send.specs.Desks.{Desks}
+use Rattle.canoffice_cli.proofs.Common.{inl, inr, Result, Ok, Err, OnErr, AllocError, Desks}
 use Rattle.canoffice_cli.specs.Outcome.{Outcome}
 use Rattle.canoffice_cli.specs.Unprinted.{IsUnprinted}
 use Rattle.canoffice_cli.specs.declared.report.Report.{Report}

@@ -1,9 +1,9 @@
 -- Writing a text piece by piece.
-use Rattle.std.proofs.Common.{◌+◌, ℕ, List, Option, take, drop, subst, sym}
+use Rattle.canoffice_cli.proofs.Common.{◌+◌, ℕ, List, Option, take, drop, subst, sym, Appends}
 use Rattle.std.proofs.lemmas.List.{take-append-drop}
 use Rattle.std.proofs.Math.Seq.{take-add}
 use Rattle.std.proofs.KnownBytes.{Appends-trans, Appends-kept}
-use Rattle.std.specs.Io.KnownBytes.{Appends, Keeps}
+use Rattle.std.specs.Io.KnownBytes.{Keeps}
 use Rattle.canoffice_cli.specs.Delivery.{IsCut}
 
 module _ (old mid new : Option (List ℕ)) (text : List ℕ) (at : ℕ) (before : Appends old mid (take at text)) where

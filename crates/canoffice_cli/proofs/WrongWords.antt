@@ -1,9 +1,10 @@
 -- The first word that is no signal.
-use Rattle.std.proofs.Common.{◌≡◌, ◌<◌, ℕ, List, length, map, take, get_or, Some, None, sym, ap, subst, ◌∙◌, arith}
+use Rattle.canoffice_cli.proofs.Common.{◌≡◌, ◌<◌, ℕ, List, length, map, take, Some, None, sym, ap, subst, ◌∙◌, arith}
+use Rattle.canoffice_cli.proofs.Common.{Bor, length-map}
+use Rattle.std.proofs.Common.{get_or}
 use Rattle.std.specs.Prelude.{slice_get}
-use Rattle.std.specs.Borrow.{Bor}
 use Rattle.std.proofs.lemmas.Option.{slice_get-get_or}
-use Rattle.std.proofs.lemmas.List.{length-map, get_or-map, take-map}
+use Rattle.std.proofs.lemmas.List.{get_or-map, take-map}
 use Rattle.office_views.specs.declared.signal.ChartSignal.{ChartSignal}
 use Rattle.office_views.specs.Word.{signal_of}
 use Rattle.canoffice_cli.specs.Charted.{AreSignals, IsFirstWrongWord}

@@ -1,5 +1,5 @@
 -- The outcome of a run of the program: the bytes on its two streams, and its exit status.
-use Rattle.std.specs.Prelude.{◌++◌, ◌==◌, ℕ, List, [], codes, decimal, length, if◌then◌else◌, Result, Ok, Err}
+use Rattle.std.specs.Prelude.{◌++◌, ℕ, List, [], codes, decimal, Result, Ok, Err}
 use Rattle.std.specs.declared.alloc.AllocError.{AllocError}
 use Rattle.dbc_advice.specs.ShownPath.{shown_path}
 use Rattle.canoffice_cli.specs.declared.report.Report.{Report}

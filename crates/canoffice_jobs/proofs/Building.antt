@@ -1,8 +1,9 @@
 -- A command that is built argument by argument, and subcommand by subcommand.
-use Rattle.std.proofs.Common.{◌≡◌, ◌∙◌, ◌+◌, ◌<◌, ◌||◌, ℕ, false, List, length, take, get_or, sym, ap}
-use Rattle.std.specs.Prelude.{fold}
+use Rattle.canoffice_jobs.proofs.Common.{◌≡◌, ◌∙◌, ◌+◌, ◌<◌, ◌||◌, ℕ, false, List, length, take, sym, ap, fold, App}
+use Rattle.canoffice_jobs.proofs.Common.{app_of}
+use Rattle.std.proofs.Common.{get_or}
 use Rattle.std.proofs.lemmas.List.Sums.{fold_more}
-use Rattle.clap.specs.Words.{AddsArg, AddsSubcommand, App, Rule, Text, app_of, new_app, rule_of, shape_of, with_rule}
+use Rattle.clap.specs.Words.{AddsArg, AddsSubcommand, Rule, Text, new_app, rule_of, shape_of, with_rule}
 use Rattle.clap.specs.Words.{with_subcommand}
 use Rattle.clap.specs.declared.builder.arg.Arg.{Arg}
 use Rattle.clap.specs.declared.builder.command.Command.{Command}

@@ -1,30 +1,27 @@
 -- What clap's matches and errors say of the job and of the fault.
-use Rattle.std.proofs.Common.{◌≡◌, ◌∷◌, map, ◌⊎◌, ◌&&◌, ◌||◌, inl, inr, ap, Bool, List, [], Option, Some, None, codes}
-use Rattle.std.proofs.Common.{option_map, refl, subst, true, false, true≢false, sym, ◌∙◌}
-use Rattle.std.specs.Prelude.{find, Box}
-use Rattle.std.specs.Borrow.{Bor}
-use Rattle.std.specs.List.{list_any}
-use Rattle.std.specs.Option.{IsSome, option_map_or}
-use Rattle.std.specs.Str.{bytes_eq}
-use Rattle.std.proofs.lemmas.Slice.Eq.{bytes_eq-Decides}
+use Rattle.canoffice_jobs.proofs.Common.{◌≡◌, ◌∷◌, map, ◌⊎◌, ◌&&◌, ◌||◌, inl, inr, ap, Bool, List, [], Option, Some}
+use Rattle.canoffice_jobs.proofs.Common.{None, codes, option_map, refl, subst, true, false, true≢false, sym, ◌∙◌, find}
+use Rattle.canoffice_jobs.proofs.Common.{Bor, list_any, option_map_or, bytes_eq, bytes_eq-Decides, ArgMatches, App}
+use Rattle.canoffice_jobs.proofs.Common.{all_of, first_value, first_of, rows_of, both}
+use Rattle.std.specs.Prelude.{Box}
+use Rattle.std.specs.Option.{IsSome}
 use Rattle.std.specs.Box.{box_value}
 use Rattle.clap.specs.Simple.{subcommand_rows}
-use Rattle.clap.specs.declared.parser.matches.ArgMatches.{ArgMatches}
 use Rattle.clap.specs.declared.parser.matches.ArgMatches.TheViews.{out-ArgMatches, out-SubCommand}
 use Rattle.clap.specs.declared.parser.matches.SubCommand.{SubCommand}
-use Rattle.clap.specs.Words.{App, Rule, Shape, subcommand_name_of, subcommand_rows_of, IsAmong, Row, Text, all_of, matched_of}
-use Rattle.clap.specs.Words.{raw_values, first_value, fault_of, first_of, is_simple_and_free, rows_of}
+use Rattle.clap.specs.Words.{Rule, Shape, subcommand_name_of, subcommand_rows_of, IsAmong, Row, Text, matched_of}
+use Rattle.clap.specs.Words.{raw_values, fault_of, is_simple_and_free}
 use Rattle.clap.specs.declared.error.kind.ErrorKind.{ErrorKind}
 use Rattle.clap.specs.declared.error.kind.ErrorKind.TheVariants.{OutOfMemory, ValueValidation}
-use Rattle.canoffice_jobs.specs.CommandLine.{HasRequired, HasSome, HasValueFault, IsEntered, IsFaultOfKind}
-use Rattle.canoffice_jobs.specs.CommandLine.{IsJobFault, IsWhole, are_absent, are_files, is_set, line_faults}
+use Rattle.canoffice_jobs.specs.CommandLine.{HasRequired, HasSome, HasValueFault, IsEntered, IsFaultOfKind, IsJobFault}
+use Rattle.canoffice_jobs.specs.CommandLine.{IsWhole, are_absent, are_files, is_set, line_faults}
 use Rattle.canoffice_jobs.specs.Subcommands.{canoffice_app}
 use Rattle.canoffice_jobs.specs.declared.job.JobFault.{JobFault}
 use Rattle.canoffice_jobs.specs.declared.job.JobFault.TheVariants.{Help, Usage, Memory}
 use Rattle.canoffice_jobs.specs.declared.job.ValueFault.{ValueFault}
 use Rattle.canoffice_jobs.specs.declared.job.ValueFault.TheVariants as value
 use Rattle.clap.specs.declared.parser.matches.Found.{Found}
-use Rattle.clap.proofs.WalkLemmas.{both, first_value-rows, raw_values-rows}
+use Rattle.clap.proofs.WalkLemmas.{first_value-rows, raw_values-rows}
 
 -- the value that a getter gives is the one that is in the rows
 pub value_in_rows : (f : Found) (id text : Text) → first_value f id ≡ Some text → first_of id (rows_of f) ≡ Some text

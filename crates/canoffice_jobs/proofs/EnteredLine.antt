@@ -1,23 +1,16 @@
 -- Where clap finds no fault in the words, one of the program's subcommands was entered, with all the arguments that it
 -- needs.
-use Rattle.std.proofs.Common.{◌≡◌, ◌∙◌, ◌&&◌, ◌||◌, Bool, true, false, not, refl, sym, ap, subst, codes, List, []}
-use Rattle.std.proofs.Common.{◌∷◌, Option, Some, None, true≢false}
-use Rattle.std.specs.Prelude.{find}
-use Rattle.std.specs.List.{list_all}
-use Rattle.std.specs.Option.{option_map_or}
-use Rattle.std.specs.Str.{bytes_eq}
-use Rattle.std.proofs.lemmas.Slice.Eq.{bytes_eq-Decides}
-use Rattle.clap.specs.Faults.{fault_of, is_simple_and_free}
-use Rattle.clap.specs.declared.parser.matches.ArgMatches.{ArgMatches}
-use Rattle.clap.specs.Walk.{Rule, Text, answers_to, is_empty, rows_after}
-use Rattle.clap.specs.Simple.{App, HasMatchesOf, Shape, subcommand_rows_of, built, label_of, subcommand_of}
+use Rattle.canoffice_jobs.proofs.Common.{◌≡◌, ◌∙◌, ◌&&◌, ◌||◌, Bool, true, false, not, refl, sym, ap, subst, codes}
+use Rattle.canoffice_jobs.proofs.Common.{List, [], ◌∷◌, Option, Some, None, true≢false, find, list_all, option_map_or}
+use Rattle.canoffice_jobs.proofs.Common.{bytes_eq, bytes_eq-Decides, fault_of, ArgMatches, Rule, Text, answers_to}
+use Rattle.canoffice_jobs.proofs.Common.{is_empty, rows_after, Shape, built, label_of, subcommand_of, is_nil, both}
+use Rattle.clap.specs.Faults.{is_simple_and_free}
+use Rattle.clap.specs.Simple.{App, HasMatchesOf, subcommand_rows_of}
 use Rattle.canoffice_jobs.specs.CommandLine.{HasRequired, HasSome, HasValueFault, IsEntered, IsJob, IsJobIn}
 use Rattle.canoffice_jobs.specs.CommandLine.{IsValueFaultIn, IsWhole, line_faults}
 use Rattle.canoffice_jobs.specs.Subcommands.{canoffice_app}
 use Rattle.canoffice_jobs.specs.declared.job.Job.{Job}
 use Rattle.canoffice_jobs.specs.declared.job.ValueFault.{ValueFault}
-use Rattle.clap.proofs.SimpleLemmas.{is_nil}
-use Rattle.clap.proofs.WalkLemmas.{both}
 use Rattle.canoffice_jobs.proofs.NoFault.{Among, all_among}
 use Rattle.canoffice_jobs.proofs.FilledWalk.{IsNoHelp}
 use Rattle.canoffice_jobs.proofs.GivenValues.{Passes, leaf_required, needs_value}

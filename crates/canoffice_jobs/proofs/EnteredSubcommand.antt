@@ -1,11 +1,11 @@
 -- If clap reports no fault of a command that requires a subcommand, one of its own was entered, and it has no fault
 -- either.
-use Rattle.std.proofs.Common.{◌≡◌, ◌∙◌, true, false, sym, ap, refl, true≢false, List, [], Option, Some, None, is_some}
-use Rattle.std.specs.Prelude.{find, option_map}
-use Rattle.std.specs.Option.{option_map_or}
-use Rattle.clap.specs.Faults.{entered_fault, fault_of, level_fault}
-use Rattle.clap.specs.Walk.{Text, answers_to, nothing_held, rows_after, walk}
-use Rattle.clap.specs.Simple.{App, Shape, argument_words, built, entered, label_of, names_of, rows_at, subcommand_of}
+use Rattle.canoffice_jobs.proofs.Common.{◌≡◌, ◌∙◌, true, false, sym, ap, refl, true≢false, List, [], Option, Some, None}
+use Rattle.canoffice_jobs.proofs.Common.{is_some, find, option_map_or, fault_of, level_fault, Text, answers_to}
+use Rattle.canoffice_jobs.proofs.Common.{nothing_held, rows_after, walk, Shape, built, label_of, subcommand_of}
+use Rattle.std.specs.Prelude.{option_map}
+use Rattle.clap.specs.Faults.{entered_fault}
+use Rattle.clap.specs.Simple.{App, argument_words, entered, names_of, rows_at}
 use Rattle.canoffice_jobs.proofs.NoFault.{Among, found_among, found_passes}
 use Rattle.canoffice_jobs.proofs.FilledWalk.{IsNoHelp}
 use Rattle.canoffice_jobs.proofs.GivenValues.{Passes, below_passes, has_subcommand, stop_is_no_help}

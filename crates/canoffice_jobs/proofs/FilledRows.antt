@@ -1,29 +1,25 @@
 -- If a use of an argument reports no fault, the rows after it have the values that the argument requires.
-use Rattle.std.proofs.Common.{◌≡◌, ◌∙◌, ◌<◌, ◌+◌, ◌&&◌, ◌||◌, ℕ, Bool, cond, true, false, not, zero, suc, refl, sym}
-use Rattle.std.proofs.Common.{subst, arith, List, [], ◌∷◌, ◌++◌, length, min, drop, Option, Some, None, is_some}
-use Rattle.std.proofs.Common.{ltb-true, lt-ltb, length-append}
-use Rattle.std.specs.Prelude.{slice_get, nat_lt, encode_utf8}
-use Rattle.std.specs.List.{list_all, list_any}
-use Rattle.std.specs.Option.{option_map_or}
-use Rattle.std.specs.Str.{bytes_eq, chars}
+use Rattle.canoffice_jobs.proofs.Common.{◌≡◌, ◌∙◌, ◌<◌, ◌+◌, ◌&&◌, ◌||◌, ℕ, Bool, cond, true, false, not, refl, sym}
+use Rattle.canoffice_jobs.proofs.Common.{subst, arith, List, [], ◌∷◌, ◌++◌, length, drop, Option, Some, None, is_some}
+use Rattle.canoffice_jobs.proofs.Common.{slice_get, list_all, list_any, option_map_or, bytes_eq, bytes_eq-Decides}
+use Rattle.canoffice_jobs.proofs.Common.{Kinds, or_else, settle_fault, Held, Outcome, Row, Rule, Text, arg_by_id, done}
+use Rattle.canoffice_jobs.proofs.Common.{long_met, reading_by, settled, with_values, TooManyValues, Reading}
+use Rattle.std.proofs.Common.{zero, suc, min, ltb-true, lt-ltb, length-append}
+use Rattle.std.specs.Prelude.{nat_lt, encode_utf8}
+use Rattle.std.specs.Str.{chars}
 use Rattle.std.proofs.lemmas.List.Folds.{list_all-append}
-use Rattle.std.proofs.lemmas.Slice.Eq.{bytes_eq-Decides}
 use Rattle.clap.specs.Facts.{parser_of_value, unwrap_or_range}
 use Rattle.clap.specs.Matches.{count_text}
 use Rattle.clap.specs.Values.{refused_kind}
-use Rattle.clap.specs.Kinds.{Kinds, or_else, range_kinds, value_kinds}
+use Rattle.clap.specs.Kinds.{range_kinds, value_kinds}
 use Rattle.clap.specs.Faults.{action_fault, bundle_step_fault, count_fault, flags_fault, long_fault, option_fault}
-use Rattle.clap.specs.Faults.{react_fault, settle_fault, short_fault, use_fault, values_fault}
+use Rattle.clap.specs.Faults.{react_fault, short_fault, use_fault, values_fault}
 use Rattle.clap.specs.Takes.{value_passes}
-use Rattle.clap.specs.Walk.{Held, Outcome, Row, Rule, Text, action_of, arg_by_id, arg_by_short, at_row, attached_value}
-use Rattle.clap.specs.Walk.{bundle_met, bundle_step, count_of, counted, done, flag_met, has_short, more_values}
-use Rattle.clap.specs.Walk.{new_count, long_met, most_values, option_met, reacted, reading_by, settled, settled_rows}
-use Rattle.clap.specs.Walk.{short_met, takes_values, used, used_as, used_by_id, values_or_missing, with_count}
-use Rattle.clap.specs.Walk.{with_values, without}
+use Rattle.clap.specs.Walk.{action_of, arg_by_short, at_row, attached_value, bundle_met, bundle_step, count_of, counted}
+use Rattle.clap.specs.Walk.{flag_met, has_short, more_values, new_count, most_values, option_met, reacted, settled_rows}
+use Rattle.clap.specs.Walk.{short_met, takes_values, used, used_as, used_by_id, values_or_missing, with_count, without}
 use Rattle.clap.specs.declared.builder.action.ArgAction.{ArgAction}
 use Rattle.clap.specs.declared.builder.action.ArgAction.TheVariants as action
-use Rattle.clap.specs.declared.error.kind.ErrorKind.TheVariants.{TooManyValues}
-use Rattle.clap.specs.declared.builder.value_parser.Reading.{Reading}
 use Rattle.clap.specs.declared.parser.matches.ValueSource.{ValueSource}
 use Rattle.clap.specs.declared.parser.matches.ValueSource.TheVariants.{CommandLine}
 use Rattle.canoffice_jobs.proofs.NoFault.{both_true, none_first, none_next, Among, found_among, all_among, any_among}

@@ -1,24 +1,18 @@
 -- If the walk over the words reports no fault, the rows after it have the values that their arguments require.
-use Rattle.std.proofs.Common.{◌≡◌, ◌&&◌, ◌||◌, ℕ, Bool, cond, true, false, not, refl, arith, inl, inr, List, [], ◌∷◌}
-use Rattle.std.proofs.Common.{length, Option, Some, None, is_some, codes}
-use Rattle.std.specs.Prelude.{fold}
-use Rattle.std.specs.Option.{option_map_or}
-use Rattle.std.specs.Str.{bytes_eq}
+use Rattle.canoffice_jobs.proofs.Common.{◌≡◌, ◌&&◌, ◌||◌, ℕ, Bool, cond, true, false, not, refl, arith, inl, inr, List}
+use Rattle.canoffice_jobs.proofs.Common.{[], ◌∷◌, length, Option, Some, None, is_some, codes, fold, option_map_or}
+use Rattle.canoffice_jobs.proofs.Common.{bytes_eq, or_else, settle_fault, Held, Names, Outcome, Row, Rule, Text}
+use Rattle.canoffice_jobs.proofs.Common.{arg_by_id, done, is_empty, long_met, reading_by, settled, with_values, Shape}
+use Rattle.canoffice_jobs.proofs.Common.{DisplayHelp, InvalidSubcommand, is_nil}
 use Rattle.clap.specs.Lexer.{long_of, short_of}
-use Rattle.clap.specs.Kinds.{or_else}
 use Rattle.clap.specs.Faults.{default_fault, defaults_fault, given_default_fault, stray_fault, bundle_fault}
-use Rattle.clap.specs.Faults.{flag_word_fault, other_fault, positional_fault, settle_fault, step_fault, walk_fault}
-use Rattle.clap.specs.Faults.{word_fault}
-use Rattle.clap.specs.Walk.{Held, Names, Outcome, Row, Rule, Step, Text, Waiting, Walk, after_flag, after_step}
-use Rattle.clap.specs.Walk.{arg_by_id, arg_by_index, arg_by_long, bundle, default_rows, done, has_long, has_row}
-use Rattle.clap.specs.Walk.{option_word, idle, is_empty, is_pending, long_met, long_or_other, next, option, plain}
-use Rattle.clap.specs.Walk.{plain_word, positional, reading_by, refused, settled, short_or_plain, subcommand}
-use Rattle.clap.specs.Walk.{subcommand_met, subcommand_or_other, takes_several, to_positional, trailing, value, waits}
-use Rattle.clap.specs.Walk.{walked, walked_from, with_default, with_values, word_met}
-use Rattle.clap.specs.Simple.{Shape}
-use Rattle.clap.specs.declared.error.kind.ErrorKind.TheVariants.{DisplayHelp, InvalidSubcommand}
+use Rattle.clap.specs.Faults.{flag_word_fault, other_fault, positional_fault, step_fault, walk_fault, word_fault}
+use Rattle.clap.specs.Walk.{Step, Waiting, Walk, after_flag, after_step, arg_by_index, arg_by_long, bundle}
+use Rattle.clap.specs.Walk.{default_rows, has_long, has_row, option_word, idle, is_pending, long_or_other, next, option}
+use Rattle.clap.specs.Walk.{plain, plain_word, positional, refused, short_or_plain, subcommand, subcommand_met}
+use Rattle.clap.specs.Walk.{subcommand_or_other, takes_several, to_positional, trailing, value, waits, walked}
+use Rattle.clap.specs.Walk.{walked_from, with_default, word_met}
 use Rattle.clap.specs.declared.parser.matches.ValueSource.TheVariants.{DefaultValue}
-use Rattle.clap.proofs.SimpleLemmas.{is_nil}
 use Rattle.canoffice_jobs.proofs.NoFault.{none_first, none_next, Among, found_among}
 use Rattle.canoffice_jobs.proofs.FilledRows.{RowsFill, with_values_fills, values_taken, settled_fills, long_met_fills}
 use Rattle.canoffice_jobs.proofs.FilledRows.{bundle_fills}

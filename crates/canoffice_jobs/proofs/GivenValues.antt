@@ -1,21 +1,16 @@
 -- If clap reports no fault, each required argument has its values, and they pass its parser.
-use Rattle.std.proofs.Common.{◌≡◌, ◌∙◌, ◌<◌, ◌&&◌, ◌||◌, Bool, cond, true, false, not, refl, sym, ap, subst}
-use Rattle.std.proofs.Common.{arith, List, [], ◌∷◌, length, Option, Some, None, true≢false}
-use Rattle.std.specs.Prelude.{find, unwrap_or, option_map, option_and_then, slice_get}
-use Rattle.std.specs.List.{list_all, list_any}
-use Rattle.std.specs.Option.{option_map_or}
-use Rattle.std.specs.Str.{bytes_eq}
-use Rattle.std.proofs.lemmas.Slice.Eq.{bytes_eq-Decides}
+use Rattle.canoffice_jobs.proofs.Common.{◌≡◌, ◌∙◌, ◌<◌, ◌&&◌, ◌||◌, Bool, cond, true, false, not, refl, sym, ap, subst}
+use Rattle.canoffice_jobs.proofs.Common.{arith, List, [], ◌∷◌, length, Option, Some, None, true≢false, find, unwrap_or}
+use Rattle.canoffice_jobs.proofs.Common.{slice_get, list_all, list_any, option_map_or, bytes_eq, bytes_eq-Decides}
+use Rattle.canoffice_jobs.proofs.Common.{Kinds, level_fault, Names, Row, Rule, Text, nothing_held, rows_after, settled}
+use Rattle.canoffice_jobs.proofs.Common.{walk, Shape, Reading, both}
+use Rattle.std.specs.Prelude.{option_map, option_and_then}
 use Rattle.clap.specs.Facts.{explicit_source}
 use Rattle.clap.specs.Values.{read_as}
-use Rattle.clap.specs.Kinds.{Kinds, check_kinds}
-use Rattle.clap.specs.Faults.{check_fault, level_fault, walk_fault}
+use Rattle.clap.specs.Kinds.{check_kinds}
+use Rattle.clap.specs.Faults.{check_fault, walk_fault}
 use Rattle.clap.specs.Takes.{is_given}
-use Rattle.clap.specs.Walk.{Names, Row, Rule, Text, all_of, first_of, nothing_held, one_of, row_text, rows_after}
-use Rattle.clap.specs.Walk.{settled, walk, walk_from}
-use Rattle.clap.specs.Simple.{Shape}
-use Rattle.clap.specs.declared.builder.value_parser.Reading.{Reading}
-use Rattle.clap.proofs.WalkLemmas.{both}
+use Rattle.clap.specs.Walk.{all_of, first_of, one_of, row_text, walk_from}
 use Rattle.canoffice_jobs.proofs.NoFault.{none_first, none_next}
 use Rattle.canoffice_jobs.proofs.FilledRows.{wants_values, is_taken, Fills, IsReadBy, RowsFill, settled_fills}
 use Rattle.canoffice_jobs.proofs.FilledWalk.{IsNoHelp, StopKeeps, walk_keeps, defaults_fill}

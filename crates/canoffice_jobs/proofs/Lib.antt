@@ -1,3 +1,4 @@
+pub mod Common
 pub mod ThreeWords
 pub mod CommandLine
 pub mod LineExamples

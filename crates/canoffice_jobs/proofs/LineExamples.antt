@@ -1,10 +1,10 @@
 -- What the definitions of the command line say of words that are written out.
-use Rattle.std.proofs.Common.{◌≡◌, Bool, true, false, List, [], ◌∷◌, Option, Some, None, codes, option_map, refl}
-use Rattle.clap.specs.Words.{Row, Text, all_of, first_of, subcommand_of}
-use Rattle.clap.specs.declared.error.kind.ErrorKind.TheVariants.{ArgumentConflict, DisplayHelp}
+use Rattle.canoffice_jobs.proofs.Common.{◌≡◌, Bool, true, false, List, [], ◌∷◌, Option, Some, None, codes, option_map}
+use Rattle.canoffice_jobs.proofs.Common.{refl, all_of, first_of, DisplayHelp, InvalidSubcommand, TooManyValues}
+use Rattle.clap.specs.Words.{Row, Text, subcommand_of}
+use Rattle.clap.specs.declared.error.kind.ErrorKind.TheVariants.{ArgumentConflict}
 use Rattle.clap.specs.declared.error.kind.ErrorKind.TheVariants.{DisplayHelpOnMissingArgumentOrSubcommand}
-use Rattle.clap.specs.declared.error.kind.ErrorKind.TheVariants.{DisplayVersion, InvalidSubcommand, InvalidValue}
-use Rattle.clap.specs.declared.error.kind.ErrorKind.TheVariants.{MissingRequiredArgument, TooManyValues}
+use Rattle.clap.specs.declared.error.kind.ErrorKind.TheVariants.{DisplayVersion, InvalidValue, MissingRequiredArgument}
 use Rattle.clap.specs.declared.error.kind.ErrorKind.TheVariants.{UnknownArgument}
 use Rattle.clap.proofs.OnLiterals.{clap_on_literals}
 use Rattle.canoffice_jobs.specs.CommandLine.{are_files, are_input, entered, is_set, line_faults, manner_in}

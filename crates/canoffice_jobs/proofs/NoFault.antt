@@ -1,10 +1,7 @@
 -- Steps that report no fault, and the elements of a list.
-use Rattle.std.proofs.Common.{◌≡◌, ◌⊎◌, ◌∙◌, ◌&&◌, ◌||◌, Bool, cond, true, false, refl, sym, ap, inl, inr, List, []}
-use Rattle.std.proofs.Common.{◌∷◌, Some, true≢false}
-use Rattle.std.specs.Prelude.{find, unwrap_or}
-use Rattle.std.specs.List.{list_all, list_any}
-use Rattle.clap.specs.Kinds.{Kinds, or_else}
-use Rattle.clap.proofs.WalkLemmas.{both}
+use Rattle.canoffice_jobs.proofs.Common.{◌≡◌, ◌⊎◌, ◌∙◌, ◌&&◌, ◌||◌, Bool, cond, true, false, refl, sym, ap, inl, inr}
+use Rattle.canoffice_jobs.proofs.Common.{List, [], ◌∷◌, Some, true≢false, find, unwrap_or, list_all, list_any, Kinds}
+use Rattle.canoffice_jobs.proofs.Common.{or_else, both}
 
 -- ---- tests
 

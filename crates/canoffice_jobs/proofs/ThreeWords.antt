@@ -1,7 +1,7 @@
 -- The words of `help --help`, as they are found.
-use Rattle.std.proofs.Common.{◌≡◌, ◌≢◌, length, map, slice_index_or, List, [], ◌∷◌, Some, None, ℕ, refl}
+use Rattle.canoffice_jobs.proofs.Common.{◌≡◌, length, map, List, [], ◌∷◌, Some, None, ℕ, refl, Bor}
+use Rattle.std.proofs.Common.{◌≢◌, slice_index_or}
 use Rattle.std.specs.Prelude.{if◌then◌else◌}
-use Rattle.std.specs.Borrow.{Bor}
 use Rattle.canoffice_jobs.specs.Meant.{is_help_of_help, name_before_help}
 
 abbrev pub word_at : List (Bor (List ℕ)) → ℕ → List ℕ

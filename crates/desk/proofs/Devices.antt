@@ -1,18 +1,14 @@
 -- What one connection does with its devices, and what it does where its request isn't read.
-use Rattle.std.proofs.Common.{◌≡◌, ◌⊎◌, ℕ, List, Option, Result, Err, IsErrOf, inl, inr, refl, sym, subst}
-use Rattle.sqlite.specs.State.{State}
-use Rattle.office_history.specs.History.{Answered}
-use Rattle.store.specs.Holding.{Holding, Keeps, Leaves}
+use Rattle.desk.proofs.Common.{◌≡◌, ◌⊎◌, ℕ, List, Option, Result, Err, IsErrOf, inl, inr, refl, sym, subst, State}
+use Rattle.desk.proofs.Common.{Answered, Holding, Keeps, Leaves, DeskFault, StopsShort}
 use Rattle.desk_types.specs.Codes.{desk_fault_of}
 use Rattle.desk_types.specs.Reading.{ReadsAtMost}
 use Rattle.desk_types.specs.declared.device.Sink as sink
 use Rattle.desk_types.specs.declared.device.Source as source
-use Rattle.desk_types.specs.declared.fault.DeskFault.{DeskFault}
 use Rattle.desk_types.specs.declared.fault.DeskFault.TheVariants as desk
 use Rattle.desk_types.specs.declared.fault.ReadFault.{ReadFault}
 use Rattle.desk_types.specs.declared.fault.ReadFault.TheVariants.{Read, Memory}
 use Rattle.desk_head.specs.Limits.{request_limit}
-use Rattle.desk_call.specs.Read.{StopsShort}
 use Rattle.desk.specs.Devices.{UsesDevices}
 use Rattle.desk.specs.Responding.{Refuses, Serves}
 

@@ -1,3 +1,4 @@
+pub mod Common
 pub mod Devices
 pub mod Responses
 pub mod Visits

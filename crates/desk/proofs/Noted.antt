@@ -1,16 +1,12 @@
 -- An office that is read between two connections, for a report.
-use Rattle.std.proofs.Common.{◌≡◌, ◌∙◌, ◌⊎◌, List, Result, Ok, Err, inl, inr, refl, sym, ap, subst, arith}
+use Rattle.desk.proofs.Common.{◌≡◌, ◌∙◌, ◌⊎◌, List, Result, Ok, Err, inl, inr, refl, sym, ap, subst, arith, IsTrue}
+use Rattle.desk.proofs.Common.{IsFalse, state, HasCleanDisk, Answered, itself_keeps, itself_leaves}
 use Rattle.std.proofs.lemmas.Bool.{false≢true}
-use Rattle.std.specs.Prelude.{IsTrue, IsFalse}
-use Rattle.sqlite.specs.Held.{state}
-use Rattle.sqlite.specs.State.{HasCleanDisk}
 use Rattle.sqlite_trees.specs.declared.store.Store.{Ghosts}
-use Rattle.office_history.specs.History.{Answered}
 use Rattle.store.specs.Calls.{HoldsOnErr, HoldsOnOk, IsOfficeCall, KeepsStatistics, LeavesHistory, LeavesStatistics}
 use Rattle.store.specs.Office.{OfficeView}
 use Rattle.store.specs.declared.lost.Lost.{Lost}
 use Rattle.store.specs.declared.lost.Lost.TheVariants.{Memory, Store, NewerProfile, OlderProfile}
-use Rattle.store.proofs.Statistics.{itself_keeps, itself_leaves}
 use Rattle.desk.specs.Noted.{IsLeftAlone}
 use Rattle.desk.specs.Serving.{HasServedAll, Visit}
 use Rattle.desk.proofs.Visits.{LeavesNow, decides, left_now}

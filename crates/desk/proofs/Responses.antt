@@ -1,19 +1,10 @@
 -- How a response follows from what the store and the writer of responses state.
-use Rattle.std.proofs.Common.{◌≡◌, ◌⊎◌, ℕ, List, [], ◌∷◌, ◌++◌, Option, Result, Ok, Err, IfOk, OnErr, inl, inr, refl}
-use Rattle.std.proofs.Common.{sym, subst}
-use Rattle.std.specs.Prelude.{IsTrue}
-use Rattle.sqlite.specs.State.{State}
-use Rattle.sqlite.specs.Tree.{Trees}
-use Rattle.office_types.specs.declared.state.Office.{Office}
-use Rattle.office_history.specs.History.{Answered, IsLegal}
-use Rattle.office_history.specs.declared.arrival.Answer.{Answer}
-use Rattle.store.specs.Holding.{Holding, Keeps, Leaves}
-use Rattle.store.specs.Looking.{IsShown}
+use Rattle.desk.proofs.Common.{◌≡◌, ◌⊎◌, ℕ, List, [], ◌∷◌, ◌++◌, Option, Result, Ok, Err, IfOk, OnErr, inl, inr, refl}
+use Rattle.desk.proofs.Common.{sym, subst, IsTrue, State, Trees, Office, Answered, IsLegal, Answer, Holding, Keeps}
+use Rattle.desk.proofs.Common.{Leaves, IsShown, TryAgain, Requested, ArrivalSeen, arrives, fails, shows}
+use Rattle.desk.proofs.Common.{answer_response, problem_response}
 use Rattle.desk_types.specs.declared.problem.Problem.{Problem}
-use Rattle.desk_types.specs.declared.problem.Problem.TheVariants.{TryAgain}
-use Rattle.desk_call.specs.Call.{Requested, ArrivalSeen, arrives, fails, shows}
 use Rattle.office_types.specs.declared.look.Look.{Look}
-use Rattle.desk_reply.specs.Response.{answer_response, problem_response}
 use Rattle.desk.specs.Responding.{FollowsRequested, MayHaveTaken, Responds, answered_as, body_kind_of, shown_response}
 
 -- what holds of a text holds of the value that has it

@@ -1,16 +1,12 @@
 -- One connection after others.
-use Rattle.std.proofs.Common.{◌≡◌, ◌∙◌, ◌⊎◌, ℕ, List, [], ◌∷◌, ◌++◌, map, Bool, true, false, Option, None, Some, Result}
-use Rattle.std.proofs.Common.{Ok, Err, inl, inr, refl, sym, ap, subst, append_assoc, append-nil, take, drop, codes}
+use Rattle.desk.proofs.Common.{◌≡◌, ◌∙◌, ◌⊎◌, ℕ, List, [], ◌∷◌, ◌++◌, Bool, true, false, Option, None, Some, Result, Ok}
+use Rattle.desk.proofs.Common.{Err, inl, inr, refl, sym, ap, subst, append-nil, All-nil, All-push, IsTrue, IsFalse}
+use Rattle.desk.proofs.Common.{State, Trees, Answered, Holding, Leaves, AppendsFront}
+use Rattle.std.proofs.Common.{map, append_assoc, take, drop, codes}
 use Rattle.std.proofs.KnownBytes.{Appends-kept, Appends-nil}
 use Rattle.std.proofs.lemmas.List.{map-append, take-append-drop}
-use Rattle.std.proofs.lemmas.List.Elements.{All-head, All-nil, All-push, Contains-append_left, Contains-push}
-use Rattle.std.specs.Prelude.{IsTrue, IsFalse}
+use Rattle.std.proofs.lemmas.List.Elements.{All-head, Contains-append_left, Contains-push}
 use Rattle.std.specs.Io.KnownBytes.{WriteAppends}
-use Rattle.sqlite.specs.State.{State}
-use Rattle.sqlite.specs.Tree.{Trees}
-use Rattle.office_history.specs.History.{Answered}
-use Rattle.store.specs.Holding.{Holding, Leaves}
-use Rattle.desk_types.specs.Moved.{AppendsFront}
 use Rattle.desk.specs.Serving.{AreAccepted, AreClosed, Ending, FailsOnce, Follows, GoesOn, HasCause, IsDeclined}
 use Rattle.desk.specs.Serving.{KeepsWithOneVisit, Leads, HasServedAll, SaysFailure, Visit}
 use Rattle.desk.specs.Visits.{HasNoVisit, HasVisits}

@@ -1,21 +1,13 @@
 -- What comes of one connection, from what is known of the desk.
-use Rattle.std.proofs.Common.{◌≡◌, ◌∙◌, ◌⊎◌, ℕ, List, [], ◌∷◌, ◌++◌, Bool, true, false, Option, None, Some, Result, Ok}
-use Rattle.std.proofs.Common.{Err, IsErrOf, inl, inr, refl, sym, ap, subst, append-nil}
-use Rattle.std.specs.Prelude.{All, ◌+◌, IfSome, IsTrue, IsFalse, option_map}
-use Rattle.std.specs.Io.KnownBytes.{Appends}
-use Rattle.sqlite.specs.State.{State}
-use Rattle.sqlite.specs.Tree.{Trees}
-use Rattle.office_history.specs.History.{Answered, IsLegalHistory}
+use Rattle.desk.proofs.Common.{◌≡◌, ◌∙◌, ◌⊎◌, ℕ, List, [], ◌∷◌, ◌++◌, Bool, true, false, Option, None, Some, Result, Ok}
+use Rattle.desk.proofs.Common.{Err, IsErrOf, inl, inr, refl, sym, ap, subst, append-nil, IsTrue, IsFalse, Appends}
+use Rattle.desk.proofs.Common.{State, Trees, Answered, Holding, Keeps, Leaves, AppendsFront, DeskFault, Requested}
+use Rattle.desk.proofs.Common.{ArrivalSeen, arrives, TryAgain, problem_response, StopsShort, Answer}
+use Rattle.std.specs.Prelude.{All, ◌+◌, IfSome, option_map}
+use Rattle.office_history.specs.History.{IsLegalHistory}
 use Rattle.office_history.specs.Laws.{IsInRange}
-use Rattle.store.specs.Holding.{Holding, Keeps, Leaves}
-use Rattle.desk_types.specs.Moved.{AppendsFront}
-use Rattle.desk_types.specs.declared.fault.DeskFault.{DeskFault}
 use Rattle.desk_types.specs.declared.fault.DeskFault.TheVariants.{Read, Write, Memory}
-use Rattle.desk_call.specs.Call.{Requested, ArrivalSeen, arrives}
-use Rattle.desk_types.specs.declared.problem.Problem.TheVariants.{TryAgain}
-use Rattle.desk_reply.specs.Response.{problem_response}
-use Rattle.desk_call.specs.Read.{IsRequested, StopsShort}
-use Rattle.office_history.specs.declared.arrival.Answer.{Answer}
+use Rattle.desk_call.specs.Read.{IsRequested}
 use Rattle.desk.specs.Devices.{CountsFault, Failures}
 use Rattle.desk.specs.Responding.{FollowsRequested, HasGivenUp, MayHaveTaken, Refuses, Responds, Serves, answered_as}
 use Rattle.desk.specs.Serving.{AreAccepted, IsAccepted, DeclinesBy, AreClosed, Ending, IsClosed, IsCause, IsCutShort}

@@ -1,12 +1,8 @@
 -- How many bytes a source gave.
-use Rattle.std.proofs.Common.{◌≡◌, ℕ, ◌+◌, ◌-◌, ◌≤◌, List, length, Option, ap, arith, length-append}
-use Rattle.httparse.specs.Grammar.{RequestHead}
-use Rattle.desk_types.specs.Moved.{GivesAtMost, Moves}
+use Rattle.desk_call.proofs.Common.{◌≡◌, ℕ, ◌+◌, ◌-◌, ◌≤◌, List, length, Option, ap, arith, length-append, RequestHead}
+use Rattle.desk_call.proofs.Common.{Moves, demand_of, body_size, head_limit, request_limit, Demand, size_is_small}
+use Rattle.desk_types.specs.Moved.{GivesAtMost}
 use Rattle.desk_types.proofs.Gives.{gives_more}
-use Rattle.desk_head.specs.Demand.{demand_of, body_size}
-use Rattle.desk_head.specs.Limits.{head_limit, request_limit}
-use Rattle.desk_head.specs.declared.demand.Demand.{Demand}
-use Rattle.desk_head.proofs.BodySizes.{size_is_small}
 
 -- those that were added to a list
 pub gives_moved : (a b : Option (List ℕ)) (old new : List ℕ) (most : ℕ) → Moves a b old new

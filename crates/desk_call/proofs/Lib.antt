@@ -1,3 +1,4 @@
+pub mod Common
 pub mod Gives
 pub mod LooksBack
 pub mod One

@@ -1,21 +1,16 @@
 -- What is read at the target of a look is that look.
-use Rattle.std.proofs.Common.{◌≡◌, ◌≤◌, ◌<◌, ◌^◌, ◌&&◌, ℕ, true, List, ◌∷◌, ◌++◌, length, Some, None}
-use Rattle.std.proofs.Common.{◌∙◌, Bool, false, map, ap, codes, refl, arith, nat_le}
-use Rattle.std.specs.Fmt.{decimal}
-use Rattle.std.specs.List.{list_all}
-use Rattle.std.proofs.lemmas.Bool.Decides.{nat_tests}
-use Rattle.httparse.specs.Grammar.{RequestHead}
-use Rattle.httparse.specs.Spans.{name_and_value}
+use Rattle.desk_call.proofs.Common.{◌≡◌, ◌≤◌, ◌<◌, ◌^◌, ◌&&◌, ℕ, true, List, ◌∷◌, ◌++◌, length, Some, ◌∙◌, Bool, false}
+use Rattle.desk_call.proofs.Common.{map, ap, codes, refl, arith, nat_le, decimal, list_all, nat_tests, RequestHead}
+use Rattle.desk_call.proofs.Common.{name_and_value, Lines, word_of}
 use Rattle.office_types.specs.Overview.{of_all_teams, overview_word}
 use Rattle.office_types.specs.PlainName.{IsPlainName}
 use Rattle.office_types.specs.declared.look.Look.{Look}
 use Rattle.office_types.specs.declared.look.Look.TheVariants as look
 use Rattle.office_types.specs.Look.{formed}
-use Rattle.office_types.specs.declared.look.LookForm.TheVariants.{Lines}
 use Rattle.office_types.specs.declared.look.NetLook.{NetLook}
 use Rattle.office_types.specs.declared.look.NetLook.TheVariants as of_net
 use Rattle.office_rules.specs.Reviewing.{release_limit}
-use Rattle.desk_head.specs.Asked.{IsLook, IsNetLook, net_showing, net_target, part_of, showing_of, target_of, word_of}
+use Rattle.desk_head.specs.Asked.{IsLook, IsNetLook, net_showing, net_target, part_of, showing_of, target_of}
 use Rattle.desk_head.specs.Demand.{demand_of}
 use Rattle.desk_head.specs.Target.{second_parameter, third_parameter}
 use Rattle.desk_head.proofs.Leading.{targets_lead_there}

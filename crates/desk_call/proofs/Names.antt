@@ -1,12 +1,10 @@
 -- A test of the keys of a map is the test of the members that it stands for.
-use Rattle.std.proofs.Common.{◌≡◌, List, [], ◌∷◌, ◌&&◌, refl, ap, String, Global, string_bytes}
-use Rattle.std.specs.List.{list_all}
+use Rattle.desk_call.proofs.Common.{◌≡◌, List, [], ◌∷◌, ◌&&◌, refl, ap, list_all, Value, bytes_eq}
+use Rattle.std.proofs.Common.{String, Global, string_bytes}
 use Rattle.std.specs.Map.{keys_of}
 use Rattle.serde_json.specs.View.{members_view}
-use Rattle.serde_json.specs.declared.value.Value.{Value}
 use Rattle.office_fields.specs.declared.field.Field.{Field}
 use Rattle.std.specs.Prelude.{codes}
-use Rattle.std.specs.Str.{bytes_eq}
 use Rattle.desk_call.specs.Body.{has_just, is_name_of}
 use Rattle.desk_call.specs.Bundle.{has_just_commands, has_just_part, is_part_name}
 

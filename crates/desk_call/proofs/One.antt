@@ -1,8 +1,6 @@
 -- The call of bytes is one.
-use Rattle.std.proofs.Common.{◌≡◌, ℕ, List, inl, inr, refl, sym, ◌∙◌}
-use Rattle.httparse.specs.Grammar.{RequestHead}
+use Rattle.desk_call.proofs.Common.{◌≡◌, ℕ, List, inl, inr, refl, sym, ◌∙◌, RequestHead, HasHead}
 use Rattle.httparse.proofs.GrammarLemmas.{request_unique}
-use Rattle.desk_head.specs.Head.{HasHead}
 use Rattle.desk_call.specs.Call.{call_of}
 use Rattle.desk_call.specs.Read.{BytesRequestOneThing}
 

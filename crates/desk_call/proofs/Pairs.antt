@@ -1,7 +1,6 @@
 -- A list that isn't two items is no pair.
-use Rattle.std.proofs.Common.{◌≡◌, ◌≢◌, List, [], ◌∷◌, None, length, refl}
-use Rattle.serde_json.specs.View.{items_view}
-use Rattle.serde_json.specs.declared.value.Value.{Value}
+use Rattle.desk_call.proofs.Common.{◌≡◌, List, [], ◌∷◌, None, length, refl, items_view, Value}
+use Rattle.std.proofs.Common.{◌≢◌}
 use Rattle.desk_call.specs.Body.{pair_bytes}
 
 pub no_pair : (values : List Value) → length values ≢ 2 → None ≡ pair_bytes (items_view values)

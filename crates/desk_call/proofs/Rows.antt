@@ -1,15 +1,14 @@
 -- Worked examples, computed from the definitions.
-use Rattle.std.proofs.Common.{◌≡◌, ℕ, List, [], ◌∷◌, ◌++◌, map, Some, None, codes, refl}
+use Rattle.desk_call.proofs.Common.{◌≡◌, ℕ, List, [], ◌∷◌, ◌++◌, map, Some, None, codes, refl, Headers, Lines}
 use Rattle.dbc_words.specs.Name.{is_name}
 use Rattle.office_types.specs.declared.command.Task.TheVariants as task
 use Rattle.desk_types.specs.declared.problem.Problem.TheVariants.{BadRequest}
-use Rattle.desk_head.specs.Fields.{Headers, named}
+use Rattle.desk_head.specs.Fields.{named}
 use Rattle.desk_head.specs.declared.demand.Demand.TheVariants as demand
 use Rattle.desk_head.specs.declared.endpoint.Posting.TheVariants.{Import}
 use Rattle.desk_head.specs.declared.endpoint.Showing.TheVariants as showing
 use Rattle.desk_call.specs.Call.{arrives, arrival_of, call_by, fails, look_of}
 use Rattle.office_types.specs.declared.look.Look.TheVariants as look
-use Rattle.office_types.specs.declared.look.LookForm.TheVariants.{Lines}
 use Rattle.office_types.specs.declared.overview.Overview.TheVariants as overview
 use Rattle.office_types.specs.declared.overview.TeamOverview.TheVariants as of_team
 use Rattle.office_types.specs.declared.look.NetLook.TheVariants as of_net

@@ -1,14 +1,13 @@
 -- The word that looks for something is read as that.
-use Rattle.std.proofs.Common.{◌≡◌, ◌≤◌, ◌<◌, ◌^◌, ◌*◌, ◌+◌, ◌∙◌, ℕ, Bool, true, false, ◌&&◌, ◌==◌, not, nat_le, List}
-use Rattle.std.proofs.Common.{[], ◌∷◌, ◌++◌, length, take, Option, Some, None, codes, refl, sym, arith, nat_lt, nat_eq}
+use Rattle.desk_call.proofs.Common.{◌≡◌, ◌≤◌, ◌<◌, ◌^◌, ◌+◌, ◌∙◌, ℕ, Bool, true, false, ◌&&◌, nat_le, List, [], ◌∷◌}
+use Rattle.desk_call.proofs.Common.{◌++◌, length, Option, Some, None, codes, refl, sym, arith, decimal, list_all}
+use Rattle.desk_call.proofs.Common.{bytes_eq, nat_tests, word_of}
+use Rattle.std.proofs.Common.{◌*◌, ◌==◌, not, take, nat_lt, nat_eq}
 use Rattle.std.specs.Char.{digit_value}
-use Rattle.std.specs.Fmt.{decimal, digits}
-use Rattle.std.specs.List.{list_all}
-use Rattle.std.specs.Str.{bytes_eq}
+use Rattle.std.specs.Fmt.{digits}
 use Rattle.std.specs.Str.Parse.{AllDigits, digits_value_after}
 use Rattle.std.specs.Prelude.{if◌then◌else◌}
 use Rattle.std.proofs.lemmas.Bool.{and_parts, false≢true}
-use Rattle.std.proofs.lemmas.Bool.Decides.{nat_tests}
 use Rattle.std.proofs.lemmas.Fmt.{decimal_is_IsNumeral, digits_is_IsNumeral, length-decimal-le}
 use Rattle.base.specs.WholeNumber.{whole_of}
 use Rattle.base.proofs.WholeNumbers.{whole_of-is}
@@ -16,7 +15,7 @@ use Rattle.dbc_words.specs.Name.{IsName, continues_identifier, starts_identifier
 use Rattle.office_types.specs.Sought.{hexadecimal_after, plain_sought, short_decimal, sought_of}
 use Rattle.office_types.specs.declared.sought.Sought.{Sought}
 use Rattle.office_types.specs.declared.sought.Sought.TheVariants as sought
-use Rattle.desk_head.specs.Asked.{IsSought, word_of}
+use Rattle.desk_head.specs.Asked.{IsSought}
 use Rattle.desk_head.proofs.Parameters.{Lacks, no_split}
 use Rattle.desk_head.proofs.TargetParts.{all_weaker, few_digits, tests_of_name}
 use Rattle.desk_call.specs.Asked.{CanBeSought}

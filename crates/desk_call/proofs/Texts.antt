@@ -1,10 +1,9 @@
 -- Which bytes are a text of JSON.
-use Rattle.std.proofs.Common.{◌≡◌, ℕ, Bool, true, false, List, Option, Some, None, refl}
+use Rattle.desk_call.proofs.Common.{◌≡◌, ℕ, Bool, true, false, List, Option, Some, None, refl, read}
 use Rattle.std.specs.Str.{IsUtf8, is_utf8}
 use Rattle.std.proofs.lemmas.Str.{IsUtf8-from_is_utf8, is_utf8-from_IsUtf8}
 use Rattle.office_fields.specs.Value.{where_true}
 use Rattle.serde_json.specs.Data.{Data}
-use Rattle.serde_json.specs.Read.{read}
 use Rattle.desk_call.specs.Body.{json_in}
 
 -- UTF-8 that reads as a value

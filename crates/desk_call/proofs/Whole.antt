@@ -1,18 +1,13 @@
 -- What was read of a request gives the same call as all the bytes of the source.
-use Rattle.std.proofs.Common.{◌≡◌, ℕ, ◌≤◌, ◌<◌, ◌⊎◌, List, [], ◌++◌, length, map, Option, None, Some, IfSome, Bool}
-use Rattle.std.proofs.Common.{true, false, Result, Ok, inl, inr, refl, sym, ap, ◌∙◌, subst, arith, append_assoc}
-use Rattle.std.proofs.Common.{append-nil, length-append, nat_le}
+use Rattle.desk_call.proofs.Common.{◌≡◌, ℕ, ◌≤◌, ◌<◌, ◌⊎◌, List, [], ◌++◌, length, map, Option, None, Some, Bool, true}
+use Rattle.desk_call.proofs.Common.{false, inl, inr, refl, sym, ap, ◌∙◌, arith, length-append, nat_le, nat_tests}
+use Rattle.desk_call.proofs.Common.{IsAtEnd, RequestHead, name_and_value, Moves, demand_of, body_size, Headers, HasHead}
+use Rattle.desk_call.proofs.Common.{Demand}
+use Rattle.std.proofs.Common.{IfSome, Result, Ok, subst, append_assoc, append-nil}
 use Rattle.std.proofs.lemmas.List.{take-append-le}
-use Rattle.std.proofs.lemmas.Bool.Decides.{nat_tests}
 use Rattle.std.proofs.KnownBytes.{Consumes-trans}
-use Rattle.std.specs.Io.KnownBytes.{Consumes, IsAtEnd}
-use Rattle.httparse.specs.Grammar.{RequestHead, print_request}
-use Rattle.httparse.specs.Spans.{name_and_value}
-use Rattle.desk_types.specs.Moved.{Moves}
-use Rattle.desk_head.specs.Demand.{demand_of, body_size}
-use Rattle.desk_head.specs.Fields.{Headers}
-use Rattle.desk_head.specs.Head.{HasHead}
-use Rattle.desk_head.specs.declared.demand.Demand.{Demand}
+use Rattle.std.specs.Io.KnownBytes.{Consumes}
+use Rattle.httparse.specs.Grammar.{print_request}
 use Rattle.desk_head.specs.declared.demand.Demand.TheVariants.{Fails, Shows, Does}
 use Rattle.desk_call.specs.Call.{Requested, call_by, call_of}
 use Rattle.desk_call.specs.Read.{IsRequest, IsNotWhole}

@@ -16,7 +16,7 @@ use Rattle.desk_client.proofs.Heads.{is_field}
 use Rattle.office_types.specs.declared.look.LookForm.{LookForm}
 use Rattle.office_types.specs.declared.look.LookForm.TheVariants.{Json, Lines}
 use Rattle.desk_client.specs.Limits.{target_limit}
-use Rattle.desk_client.specs.Request.{accept_fields, get_head, head_end, header, is_target, request_bytes}
+use Rattle.desk_client.specs.Request.{get_head, head_end, header, is_target, request_bytes}
 
 -- what a target is, part by part
 record Parts (target : List ℕ) : Type 0 where

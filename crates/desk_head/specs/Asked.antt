@@ -1,5 +1,5 @@
 -- The target at which a look is: the other way round than the routes and their parameters.
-use Rattle.std.specs.Prelude.{◌≡◌, ℕ, ◌<◌, ◌^◌, false, List, ◌++◌, Option, None, Some, ⊤, codes, decimal}
+use Rattle.std.specs.Prelude.{◌≡◌, ℕ, ◌<◌, ◌^◌, false, List, ◌++◌, Some, ⊤, codes, decimal}
 use Rattle.std.specs.Fmt.{digits}
 use Rattle.dbc_words.specs.Name.{IsName}
 use Rattle.office_types.specs.Overview.{of_all_teams, overview_word}

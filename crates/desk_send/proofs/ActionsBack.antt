@@ -1,23 +1,15 @@
 -- The values of an action's fields give that action.
-use Rattle.std.proofs.Common.{◌≡◌, ◌≢◌, ◌≤◌, ◌<◌, ◌^◌, ◌&&◌, ℕ, true, List, [], ◌∷◌, Some, refl, arith, nat_le}
-use Rattle.std.proofs.lemmas.Bool.{and_parts}
-use Rattle.std.proofs.lemmas.Bool.Decides.{nat_tests}
-use Rattle.std.specs.Prelude.{IfSome, unwrap_or}
-use Rattle.bitlayout.specs.declared.place.Mux.{Mux}
-use Rattle.bitlayout.specs.declared.place.Mux.TheVariants.{Always, Multiplexor, Under}
-use Rattle.dbc_sheet.specs.Form.{IsMux}
+use Rattle.desk_send.proofs.Common.{◌≡◌, ◌≢◌, ◌≤◌, ◌<◌, ◌^◌, ◌&&◌, ℕ, true, List, [], ◌∷◌, Some, refl, arith, nat_le}
+use Rattle.desk_send.proofs.Common.{and_parts, nat_tests, IfSome, Mux, Always, Multiplexor, Under, IsMux, IsAction}
+use Rattle.desk_send.proofs.Common.{IsPlainName, BlockForm, Action, Pdu, NamedValue, action_fields, fields_of, kind_of}
+use Rattle.std.specs.Prelude.{unwrap_or}
 use Rattle.office_types.specs.Block.{IsRange, Range, greatest_of, least_of}
-use Rattle.office_types.specs.Command.{IsAction, IsPdu}
-use Rattle.office_types.specs.PlainName.{IsPlainName}
-use Rattle.office_types.specs.declared.block.BlockForm.{BlockForm}
+use Rattle.office_types.specs.Command.{IsPdu}
 use Rattle.office_types.specs.declared.block.BlockForm.TheVariants as block
-use Rattle.office_types.specs.declared.command.Action.{Action}
 use Rattle.office_types.specs.declared.command.Action.TheVariants as act
-use Rattle.office_types.specs.declared.command.Pdu.{Pdu}
 use Rattle.office_types.specs.declared.command.Pdu.TheVariants as pdu
 use Rattle.office_types.specs.declared.command.Task.TheVariants as task
-use Rattle.office_fields.specs.Given.{NamedValue}
-use Rattle.office_fields.specs.Kind.{action_fields, action_of, addressed_to, fields_of, kind_of, range_of}
+use Rattle.office_fields.specs.Kind.{action_of, addressed_to, range_of}
 use Rattle.office_fields.specs.Requested.{command_of, part_of}
 use Rattle.office_fields.specs.declared.field.Field.TheVariants as field
 use Rattle.office_fields.specs.declared.kind.CommandKind.TheVariants.{Act}

@@ -1,23 +1,10 @@
 -- The members of an object that fields were added to, one after the other.
-use Rattle.std.proofs.Common.{◌≡◌, ◌∙◌, ◌&&◌, not, ℕ, Bool, true, false, List, [], ◌∷◌, Option, Some, None, Ordering}
-use Rattle.std.proofs.Common.{Less, Equal, Greater, refl, sym, ap, nat_cmp}
-use Rattle.std.specs.List.{list_all}
-use Rattle.std.specs.Cmp.Lexicographic.{slice_cmp}
-use Rattle.std.specs.Option.{option_map}
-use Rattle.std.specs.Ordering.{match_ordering}
-use Rattle.std.specs.Prelude.{⊤}
-use Rattle.std.specs.Str.{bytes_eq}
-use Rattle.std.proofs.lemmas.Bool.{and_parts, false≢true}
-use Rattle.std.proofs.lemmas.Slice.Eq.{bytes_eq-Decides}
-use Rattle.serde_json.specs.Data.{Data, Items, Members, array, member, no_members, put}
-use Rattle.serde_json.specs.Find.{get_member}
+use Rattle.desk_send.proofs.Common.{◌≡◌, ◌∙◌, ◌&&◌, not, ℕ, Bool, true, false, List, [], ◌∷◌, Option, Some, None}
+use Rattle.desk_send.proofs.Common.{Ordering, Less, Equal, Greater, refl, sym, ap, nat_cmp, list_all, slice_cmp}
+use Rattle.desk_send.proofs.Common.{option_map, match_ordering, ⊤, bytes_eq, and_parts, false≢true, bytes_eq-Decides}
+use Rattle.desk_send.proofs.Common.{Data, Items, Members, array, member, no_members, put, get_member, row_of, Readings}
+use Rattle.desk_send.proofs.Common.{◌>>=◌, Occurrence, Required, Optional, Repeated, json_name}
 use Rattle.serde_json.proofs.Views.{get_member-put_other}
-use Rattle.office_fields.specs.Field.{row_of}
-use Rattle.office_fields.specs.Given.{Readings}
-use Rattle.office_fields.specs.Value.{◌>>=◌}
-use Rattle.office_fields.specs.declared.field.Occurrence.{Occurrence}
-use Rattle.office_fields.specs.declared.field.Occurrence.TheVariants.{Required, Optional, Repeated}
-use Rattle.desk_call.specs.Body.{json_name}
 use Rattle.desk_send.specs.Fields.{Entry}
 use Rattle.desk_send.specs.Json.{data_of, items_by, with_as, with_entries, with_entry, with_list, with_value}
 use Rattle.desk_send.proofs.Entries.{are_unlike, negated}

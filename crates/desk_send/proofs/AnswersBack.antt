@@ -1,16 +1,12 @@
 -- The answer of a response is the one that it is written for.
-use Rattle.std.proofs.Common.{◌≡◌, ◌<◌, ◌≤◌, ◌^◌, ◌==◌, ◌&&◌, not, ◌∙◌, ℕ, List, [], ◌∷◌, length, true, Some, IsUtf8}
-use Rattle.std.proofs.Common.{Option, None, subst, refl, ap, arith, nat_le, codes}
-use Rattle.std.proofs.lemmas.Bool.Decides.{nat_tests}
-use Rattle.std.proofs.lemmas.List.Elements.{All-head, All-tail}
-use Rattle.std.specs.List.{All}
-use Rattle.json.proofs.Printed.Utf8.{IsUtf8-are_ascii, are_ascii}
+use Rattle.desk_send.proofs.Common.{◌≡◌, ◌<◌, ◌≤◌, ◌^◌, ◌==◌, ◌&&◌, not, ◌∙◌, ℕ, List, [], ◌∷◌, length, true, Some}
+use Rattle.desk_send.proofs.Common.{IsUtf8, Option, None, subst, refl, ap, arith, nat_le, codes, nat_tests, All-head}
+use Rattle.desk_send.proofs.Common.{All-tail, All, IsUtf8-are_ascii, are_ascii, Data, member, no_members, number}
+use Rattle.desk_send.proofs.Common.{object, unsigned, max_depth, of_json, items_outline, outline, AreParts, part_limit}
+use Rattle.desk_send.proofs.Common.{Answer, json_in}
 use Rattle.json.specs.Tree as tree
-use Rattle.serde_json.specs.Data.{Data, member, no_members, number, object, unsigned}
-use Rattle.serde_json.specs.Read.{max_depth, of_items, of_json}
-use Rattle.serde_json.specs.Written.{items_outline, outline}
+use Rattle.serde_json.specs.Read.{of_items}
 use Rattle.serde_json.proofs.Numbers.{number_of-decimal}
-use Rattle.office_types.specs.Parts.{AreParts, part_limit}
 use Rattle.office_types.specs.Refusal.{fault_of, refusal_name, refusal_number}
 use Rattle.office_types.specs.declared.refusal.FileFault.{FileFault}
 use Rattle.office_types.specs.declared.refusal.Refusal.{Refusal}
@@ -18,9 +14,7 @@ use Rattle.office_types.specs.declared.refusal.Refusal.TheVariants as no
 use Rattle.office_types.specs.declared.reply.PartReply.{PartReply}
 use Rattle.office_types.specs.declared.reply.PartReply.TheVariants as part
 use Rattle.office_types.specs.declared.reply.Reply.TheVariants.{Done, Number, Start, Counts, Release, Refused, Bundle}
-use Rattle.office_history.specs.declared.arrival.Answer.{Answer}
 use Rattle.office_history.specs.declared.arrival.Answer.TheVariants as answer
-use Rattle.desk_call.specs.Body.{json_in}
 use Rattle.desk_reply.specs.Reply.{answer_data, fault_data, part_data, parts_data, refused_data}
 use Rattle.desk_send.specs.Answer.{IsAnswer, IsPartAnswer, IsWritten, answer_at, answer_in, part_in, parts_in}
 use Rattle.desk_send.proofs.JsonTexts.{ArePlain, IsPlain, text_back}

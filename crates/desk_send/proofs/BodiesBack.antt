@@ -1,43 +1,25 @@
 -- The command of a body is the one that it is written for.
-use Rattle.std.proofs.Common.{◌≡◌, ◌∙◌, ◌==◌, ◌&&◌, not, ℕ, Bool, true, false, List, [], ◌∷◌, map, Option, Some, None}
-use Rattle.std.proofs.Common.{Ordering, Less, Equal, Greater, codes, refl, sym, ap, subst, nat_cmp, length, nat_le}
-use Rattle.std.proofs.Common.{arith}
-use Rattle.std.proofs.lemmas.Bool.Decides.{nat_tests}
-use Rattle.std.specs.List.{All, list_all, list_any}
-use Rattle.std.specs.Cmp.Lexicographic.{slice_cmp}
-use Rattle.std.specs.Ordering.{match_ordering}
-use Rattle.std.specs.Str.{bytes_eq}
-use Rattle.std.proofs.lemmas.Bool.{and_parts}
-use Rattle.std.proofs.lemmas.List.Elements.{All-head, All-tail}
-use Rattle.serde_json.specs.Data.{Data, Items, Members, array, boolean, item, member, no_items, no_members, number}
-use Rattle.serde_json.specs.Data.{object, put, string, unsigned}
-use Rattle.serde_json.specs.Find.{get_member}
+use Rattle.desk_send.proofs.Common.{◌≡◌, ◌∙◌, ◌==◌, ◌&&◌, not, ℕ, Bool, true, false, List, [], ◌∷◌, map, Option, Some}
+use Rattle.desk_send.proofs.Common.{None, Ordering, Less, Equal, Greater, codes, refl, sym, ap, subst, nat_cmp, length}
+use Rattle.desk_send.proofs.Common.{nat_le, arith, nat_tests, All, list_all, slice_cmp, match_ordering, bytes_eq}
+use Rattle.desk_send.proofs.Common.{and_parts, All-head, All-tail, Data, Items, Members, array, boolean, item, member}
+use Rattle.desk_send.proofs.Common.{no_items, no_members, number, object, put, string, unsigned, get_member}
+use Rattle.desk_send.proofs.Common.{IsValueText, ValueText, IsAction, AreParts, part_limit, IsPlainName, Action, row_of}
+use Rattle.desk_send.proofs.Common.{NamedValue, Readings, action_fields, action_word, fields_of, kind_of, Value, Field}
+use Rattle.desk_send.proofs.Common.{FieldKind, Occurrence, Required, Optional, Repeated, json_in, json_name, named}
+use Rattle.desk_send.proofs.Common.{Lacks}
+use Rattle.std.specs.List.{list_any}
 use Rattle.serde_json.proofs.Views.{get_member-put}
 use Rattle.decimal.specs.Printing as printed
-use Rattle.dbc_sheet.specs.Form.{IsValueText}
-use Rattle.dbc_sheet.specs.declared.value_texts.ValueText.{ValueText}
-use Rattle.office_types.specs.Command.{IsAction}
-use Rattle.office_types.specs.Parts.{AreParts, part_limit}
-use Rattle.office_types.specs.PlainName.{IsPlainName}
-use Rattle.office_types.specs.declared.command.Action.{Action}
 use Rattle.office_types.specs.declared.command.Action.TheVariants as act
 use Rattle.office_types.specs.declared.command.Task.TheVariants as task
-use Rattle.office_fields.specs.Field.{row_of}
-use Rattle.office_fields.specs.Given.{NamedValue, Readings}
-use Rattle.office_fields.specs.Kind.{action_fields, action_of_word, action_word, fields_of, kind_of}
+use Rattle.office_fields.specs.Kind.{action_of_word}
 use Rattle.office_fields.specs.Requested.{are_parts}
-use Rattle.office_fields.specs.Value.{Value}
-use Rattle.office_fields.specs.declared.field.Field.{Field}
 use Rattle.office_fields.specs.declared.field.Field.TheVariants as field
-use Rattle.office_fields.specs.declared.field.FieldKind.{FieldKind}
 use Rattle.office_fields.specs.declared.field.FieldKind.TheVariants as kind
-use Rattle.office_fields.specs.declared.field.Occurrence.{Occurrence}
-use Rattle.office_fields.specs.declared.field.Occurrence.TheVariants.{Required, Optional, Repeated}
 use Rattle.office_fields.specs.declared.kind.CommandKind.TheVariants.{Act}
 use Rattle.desk_call.specs.Body.{bytes_of, command_in, each_given, given_as, given_by, given_in, has_just, is_name_of}
-use Rattle.desk_call.specs.Body.{json_in, json_name, named}
 use Rattle.desk_call.specs.Bundle.{bundle_in, has_just_part, is_part_name, part_in, parts_of_items}
-use Rattle.desk_head.proofs.Parameters.{Lacks}
 use Rattle.desk_send.specs.Fields.{Entry, all_named, entries_of, filled, named_of, texts_as}
 use Rattle.desk_send.specs.Json.{data_of, items_by, part_data, whole_data, with_as, with_entries, with_entry, with_list}
 use Rattle.desk_send.specs.Texts.{IsValue, text_of}

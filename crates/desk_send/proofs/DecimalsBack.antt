@@ -1,15 +1,11 @@
 -- The text of a decimal is read as that decimal, and has no `:`.
-use Rattle.std.proofs.Common.{◌≡◌, ◌||◌, ◌==◌, not, ℕ, Bool, true, false, List, [], ◌∷◌, ◌++◌, length, Some, Ok, cond}
-use Rattle.std.proofs.Common.{refl, ap, arith, unsigned_abs}
+use Rattle.desk_send.proofs.Common.{◌≡◌, ◌==◌, not, ℕ, Bool, true, false, List, [], ◌∷◌, ◌++◌, length, Some, Ok, refl}
+use Rattle.desk_send.proofs.Common.{ap, arith, is_ascii_digit, list_all, and_parts, false≢true, nat_tests}
+use Rattle.desk_send.proofs.Common.{list_all-append, IsDecimal, Number, all_weaker}
+use Rattle.std.proofs.Common.{◌||◌, cond, unsigned_abs}
 use Rattle.std.specs.Prelude.{if◌then◌else◌}
-use Rattle.std.specs.Char.{is_ascii_digit}
 use Rattle.std.specs.Int.{is_negative}
-use Rattle.std.specs.List.{list_all}
 use Rattle.std.specs.Result.{result_ok}
-use Rattle.std.proofs.lemmas.Bool.{and_parts, false≢true}
-use Rattle.std.proofs.lemmas.Bool.Decides.{nat_tests}
-use Rattle.std.proofs.lemmas.List.Folds.{list_all-append}
-use Rattle.decimal.specs.Number.{IsDecimal, Number}
 use Rattle.decimal.specs.Printing.{text_of, unsigned_text}
 use Rattle.decimal.specs.Reading.{ReadsNumber, reading}
 use Rattle.decimal.specs.Spelling.{IsNumberToken, Spelling, are_digits, is_exponent, is_fraction, is_letter_e}
@@ -17,7 +13,6 @@ use Rattle.decimal.specs.Spelling.{is_numeral, is_power, is_sign}
 use Rattle.decimal.proofs.Computed.{readings_are_computed}
 use Rattle.decimal.proofs.ReadsBack.{text_reads}
 use Rattle.office_fields.specs.Value.{decimal_of}
-use Rattle.desk_head.proofs.TargetParts.{all_weaker}
 
 -- ---- the bytes of a number token, with a sign or without
 

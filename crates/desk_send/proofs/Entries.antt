@@ -1,22 +1,13 @@
 -- What is given for a field, in the named values of fields.
-use Rattle.std.proofs.Common.{◌≡◌, ◌∙◌, ◌&&◌, not, ℕ, Bool, true, false, List, [], ◌∷◌, ◌++◌, map, Option, Some, None}
-use Rattle.std.proofs.Common.{refl, sym, ap, append-nil}
-use Rattle.std.specs.Prelude.{⊤, IfSome}
-use Rattle.std.specs.List.{All, filter, list_all}
-use Rattle.std.specs.Option.{option_map}
-use Rattle.std.specs.Str.{bytes_eq}
-use Rattle.std.proofs.lemmas.Bool.{and_parts}
-use Rattle.std.proofs.lemmas.List.Elements.{All-head, All-tail, filter-append}
+use Rattle.desk_send.proofs.Common.{◌≡◌, ◌∙◌, ◌&&◌, not, ℕ, Bool, true, false, List, [], ◌∷◌, ◌++◌, map, Option, Some}
+use Rattle.desk_send.proofs.Common.{None, refl, sym, ap, append-nil, ⊤, IfSome, All, list_all, option_map, bytes_eq}
+use Rattle.desk_send.proofs.Common.{and_parts, All-head, All-tail, list_all-append, bytes_eq-Decides, row_of}
+use Rattle.desk_send.proofs.Common.{NamedValue, Readings, value_from, Field, Occurrence, Required, Optional, Repeated}
+use Rattle.desk_send.proofs.Common.{named}
+use Rattle.std.specs.List.{filter}
+use Rattle.std.proofs.lemmas.List.Elements.{filter-append}
 use Rattle.std.proofs.lemmas.List.{map-append}
-use Rattle.std.proofs.lemmas.List.Folds.{list_all-append}
-use Rattle.std.proofs.lemmas.Slice.Eq.{bytes_eq-Decides}
-use Rattle.office_fields.specs.Field.{row_of}
-use Rattle.office_fields.specs.Given.{NamedValue, Readings, are_known, given, is_name_of, read_as, read_each, values_of}
-use Rattle.office_fields.specs.Value.{value_from}
-use Rattle.office_fields.specs.declared.field.Field.{Field}
-use Rattle.office_fields.specs.declared.field.Occurrence.{Occurrence}
-use Rattle.office_fields.specs.declared.field.Occurrence.TheVariants.{Required, Optional, Repeated}
-use Rattle.desk_call.specs.Body.{named}
+use Rattle.office_fields.specs.Given.{are_known, given, is_name_of, read_as, read_each, values_of}
 use Rattle.desk_send.specs.Fields.{Entry, all_named, named_of, texts_as}
 use Rattle.desk_send.specs.Texts.{IsValue, text_of}
 use Rattle.desk_send.proofs.ValuesBack.{values_come_back}

@@ -1,20 +1,13 @@
 -- The objects of commands have no numbers with a fraction, and are shallow.
-use Rattle.std.proofs.Common.{ap, ◌∙◌, ◌≡◌, ◌≤◌, ℕ, Bool, true, false, List, [], ◌∷◌, Option, Some, refl, arith, codes}
-use Rattle.std.specs.Prelude.{⊤}
-use Rattle.std.specs.Str.{is_utf8}
-use Rattle.serde_json.specs.Data.{Data, Items, Members, array, boolean, depth, item, items_depth, member, members_depth}
-use Rattle.serde_json.specs.Data.{no_items, no_members, number, object, put, string, unsigned}
-use Rattle.serde_json.specs.Read.{max_depth}
-use Rattle.serde_json.specs.Written.{has_float, items_have_float, members_have_float}
+use Rattle.desk_send.proofs.Common.{ap, ◌∙◌, ◌≡◌, ◌≤◌, ℕ, Bool, true, false, List, [], ◌∷◌, Option, Some, refl, arith}
+use Rattle.desk_send.proofs.Common.{codes, ⊤, is_utf8, Data, Items, Members, array, boolean, depth, item, member}
+use Rattle.desk_send.proofs.Common.{no_items, no_members, number, object, put, string, unsigned, max_depth, has_float}
+use Rattle.desk_send.proofs.Common.{ValueText, Action, row_of, action_word, kind_of, Value, where_true, FieldKind}
+use Rattle.desk_send.proofs.Common.{json_name}
+use Rattle.serde_json.specs.Data.{items_depth, members_depth}
+use Rattle.serde_json.specs.Written.{items_have_float, members_have_float}
 use Rattle.decimal.specs.Printing as printed
-use Rattle.dbc_sheet.specs.declared.value_texts.ValueText.{ValueText}
-use Rattle.office_types.specs.declared.command.Action.{Action}
-use Rattle.office_fields.specs.Field.{row_of}
-use Rattle.office_fields.specs.Kind.{action_word, kind_of}
-use Rattle.office_fields.specs.Value.{Value, where_true}
-use Rattle.office_fields.specs.declared.field.FieldKind.{FieldKind}
 use Rattle.office_fields.specs.declared.field.FieldKind.TheVariants as kind
-use Rattle.desk_call.specs.Body.{json_name}
 use Rattle.desk_send.specs.Fields.{Entry, entries_of}
 use Rattle.desk_send.specs.Json.{data_of, items_by, pair_data, part_data, text_data, whole_data, with_entries}
 use Rattle.desk_send.specs.Json.{with_entry, with_list}

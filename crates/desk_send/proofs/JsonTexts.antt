@@ -1,11 +1,11 @@
 -- The text of JSON reads as the value that it is written for.
-use Rattle.std.proofs.Common.{◌≡◌, ◌<◌, ◌≤◌, ◌^◌, ◌∙◌, ℕ, List, [], ◌∷◌, ◌++◌, Bool, true, false, Some, IsUtf8, refl}
-use Rattle.std.proofs.Common.{sym, ap, append-nil, option_and_then, arith, decimal, nat_lt}
-use Rattle.std.specs.Char.{digit_value}
-use Rattle.std.specs.Str.Parse.{AllDigits}
-use Rattle.std.proofs.lemmas.Bool.Decides.{nat_tests}
-use Rattle.std.specs.Prelude.{⊤}
-use Rattle.std.proofs.lemmas.Fmt.{decimal_is_IsNumeral}
+use Rattle.desk_send.proofs.Common.{◌≡◌, ◌<◌, ◌≤◌, ◌^◌, ◌∙◌, ℕ, List, [], ◌∷◌, ◌++◌, Bool, true, false, Some, IsUtf8}
+use Rattle.desk_send.proofs.Common.{refl, sym, ap, append-nil, arith, decimal, nat_lt, digit_value, AllDigits}
+use Rattle.desk_send.proofs.Common.{nat_tests, ⊤, decimal_is_IsNumeral, IsUtf8-are_ascii, are_ascii, unsigned, Data}
+use Rattle.desk_send.proofs.Common.{boolean, number, string, array, object, Items, no_items, item, Members, no_members}
+use Rattle.desk_send.proofs.Common.{member, max_depth, of_json, read, compact_text, items_outline, outline, json_in}
+use Rattle.desk_send.proofs.Common.{is_json}
+use Rattle.std.proofs.Common.{option_and_then}
 use Rattle.std.proofs.lemmas.Str.{IsUtf8-append}
 use Rattle.json.specs.Json as json
 use Rattle.json.specs.Lex.{tokens}
@@ -15,15 +15,10 @@ use Rattle.json.specs.Tree as tree
 use Rattle.json.proofs.Printed.Decimals.{IsNumber-decimal}
 use Rattle.json.proofs.Printed.Tokens.{tokens-print}
 use Rattle.json.proofs.Printed.Trees.{ArePrintable-json_tokens, value-json_tokens}
-use Rattle.json.proofs.Printed.Utf8.{IsUtf8-are_ascii, IsUtf8-boolean, IsUtf8-quoted, are_ascii}
-use Rattle.serde_json.specs.Data.{Num, unsigned, negative, float, Data, null, boolean, number, string, array, object}
-use Rattle.serde_json.specs.Data.{Items, no_items, item, Members, no_members, member}
-use Rattle.serde_json.specs.Read.{max_depth, of_json, read}
-use Rattle.serde_json.specs.Written.{comma_if, compact_text, items_outline, items_text, members_outline, members_text}
-use Rattle.serde_json.specs.Written.{outline}
+use Rattle.json.proofs.Printed.Utf8.{IsUtf8-boolean, IsUtf8-quoted}
+use Rattle.serde_json.specs.Data.{Num, negative, float, null}
+use Rattle.serde_json.specs.Written.{comma_if, items_text, members_outline, members_text}
 use Rattle.serde_json.proofs.Texts.{print-outline}
-use Rattle.desk_call.specs.Body.{json_in}
-use Rattle.desk_call.proofs.Texts.{is_json}
 
 -- ---- values of which the text is read: whole numbers of 64 bits, and texts that are UTF-8
 

@@ -1,3 +1,4 @@
+pub mod Common
 pub mod ActionsBack
 pub mod Added
 pub mod AnswersBack

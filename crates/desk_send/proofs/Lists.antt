@@ -1,13 +1,11 @@
 -- Lists of JSON, and texts.
-use Rattle.std.proofs.Common.{◌≡◌, ◌∙◌, ℕ, Bool, true, false, List, [], ◌∷◌, map, Option, Some, None, Result, Ok, Err}
-use Rattle.std.proofs.Common.{Vec, Global, IsUtf8, refl, ap}
-use Rattle.std.specs.Option.{option_map}
-use Rattle.std.specs.Str.{is_utf8}
-use Rattle.std.proofs.lemmas.Str.{IsUtf8-from_is_utf8, is_utf8-from_IsUtf8}
-use Rattle.serde_json.specs.Data.{Data, Items, item, string}
-use Rattle.serde_json.specs.View.{items_of, items_view, view}
+use Rattle.desk_send.proofs.Common.{◌≡◌, ◌∙◌, ℕ, Bool, true, false, List, [], ◌∷◌, map, Option, Some, None, Result, Ok}
+use Rattle.desk_send.proofs.Common.{Err, Global, IsUtf8, refl, ap, option_map, is_utf8, is_utf8-from_IsUtf8, Data}
+use Rattle.desk_send.proofs.Common.{Items, item, string, items_view, view, ◌>>=◌, where_true}
+use Rattle.std.proofs.Common.{Vec}
+use Rattle.std.proofs.lemmas.Str.{IsUtf8-from_is_utf8}
+use Rattle.serde_json.specs.View.{items_of}
 use Rattle.serde_json.specs.declared.value.Value.{Value}
-use Rattle.office_fields.specs.Value.{◌>>=◌, where_true}
 use Rattle.desk_send.specs.Json.{data_list, items_by, text_data}
 use Rattle.desk_send.specs.Writing.{Writes}
 use Rattle.desk_send.specs.declared.unwritten.Unwritten.{Unwritten}

@@ -1,14 +1,10 @@
 -- The text of an object, and which objects have one.
-use Rattle.std.proofs.Common.{Result, Ok, Err, IfOk, ◌≡◌, ◌≤◌, List, ◌∷◌, ℕ, Some, false, codes, sym, arith, String}
-use Rattle.std.proofs.Common.{Global, string_bytes}
+use Rattle.desk_send.proofs.Common.{Result, Ok, Err, ◌≡◌, ◌≤◌, List, ◌∷◌, ℕ, Some, false, codes, sym, arith, Global}
+use Rattle.desk_send.proofs.Common.{Data, Members, depth, no_members, object, max_depth, read, has_float, Action}
+use Rattle.desk_send.proofs.Common.{json_in, is_json}
+use Rattle.std.proofs.Common.{IfOk, String, string_bytes}
 use Rattle.std.proofs.lemmas.Str.{IsUtf8-string_bytes}
-use Rattle.serde_json.specs.Data.{Data, Members, depth, no_members, object}
-use Rattle.serde_json.specs.Read.{max_depth, read}
-use Rattle.serde_json.specs.Written.{has_float}
-use Rattle.office_types.specs.declared.command.Action.{Action}
 use Rattle.office_fields.specs.declared.field.Field.TheVariants as field
-use Rattle.desk_call.specs.Body.{json_in}
-use Rattle.desk_call.proofs.Texts.{is_json}
 use Rattle.desk_send.specs.Fields.{entries_of, filled}
 use Rattle.desk_send.specs.Json.{items_by, part_data, with_entries, with_list}
 use Rattle.desk_send.proofs.Flat.{bundle_flat, entries_flat, object_shallow, object_whole}

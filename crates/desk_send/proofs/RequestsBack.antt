@@ -1,39 +1,32 @@
 -- The bytes of a request are read as its arrival.
-use Rattle.std.proofs.Common.{◌≡◌, ◌+◌, ◌<◌, ◌≤◌, ◌&&◌, ◌==◌, not, ℕ, Bool, true, false, zero, suc, List, [], ◌∷◌, ◌++◌}
-use Rattle.std.proofs.Common.{length, map, Some, Ok, IsTrue, codes, decimal, inr, nat_le, refl, arith, reverse}
-use Rattle.std.proofs.Common.{append_assoc, append-nil, length-append, get_or, take, ap, sym, subst, ◌∙◌}
-use Rattle.std.specs.Char.{digit_value, is_ascii_digit}
-use Rattle.std.specs.List.{All, AllZip, list_all}
-use Rattle.std.specs.Str.Parse.{AllDigits}
+use Rattle.desk_send.proofs.Common.{◌≡◌, ◌<◌, ◌≤◌, ◌&&◌, ◌==◌, not, ℕ, Bool, true, false, zero, suc, List, [], ◌∷◌}
+use Rattle.desk_send.proofs.Common.{◌++◌, length, map, Some, Ok, codes, decimal, nat_le, refl, arith, append_assoc}
+use Rattle.desk_send.proofs.Common.{append-nil, length-append, take, ap, sym, subst, ◌∙◌, digit_value, is_ascii_digit}
+use Rattle.desk_send.proofs.Common.{All, AllZip, list_all, AllDigits, and_parts, nat_tests, decimal_is_IsNumeral}
+use Rattle.desk_send.proofs.Common.{All-head, IsPlainName, Command, Task, Act, Import, Bundle, is_key_byte, body_limit}
+use Rattle.desk_send.proofs.Common.{all_weaker, plain_part, whole_decimal}
+use Rattle.std.proofs.Common.{◌+◌, IsTrue, inr, reverse, get_or}
 use Rattle.std.proofs.Math.Seq.{take-length}
-use Rattle.std.proofs.lemmas.Bool.{and_parts, cond-false}
-use Rattle.std.proofs.lemmas.Bool.Decides.{nat_tests}
-use Rattle.std.proofs.lemmas.Fmt.{decimal_is_IsNumeral, length-decimal-le}
+use Rattle.std.proofs.lemmas.Bool.{cond-false}
+use Rattle.std.proofs.lemmas.Fmt.{length-decimal-le}
 use Rattle.std.proofs.lemmas.List.{take_more}
 use Rattle.std.proofs.lemmas.Option.{slice_get_read}
 use Rattle.std.proofs.lemmas.Slice.Zip.{AllZip-long}
-use Rattle.std.proofs.lemmas.List.Elements.{All-cons, All-head, All-nil, All-weaker}
+use Rattle.std.proofs.lemmas.List.Elements.{All-cons, All-nil, All-weaker}
 use Rattle.std.proofs.lemmas.List.Sums.{AllPass-from_list_all}
 use Rattle.std.proofs.lemmas.Str.{IsUtf8-from_ascii}
 use Rattle.httparse.specs.Grammar.{AllPass, IsField, IsRequestHead, is_ows, is_token_byte, is_uri_byte, is_value_byte}
 use Rattle.httparse.specs.Grammar.{print_request, skip_ows, trim_ows}
 use Rattle.httparse.specs.Spans.{name_and_value}
 use Rattle.httparse.proofs.TrimLemmas.{AllPass-reverse, trim_ows_space}
-use Rattle.office_types.specs.PlainName.{IsPlainName}
-use Rattle.office_types.specs.declared.command.Command.{Command}
-use Rattle.office_types.specs.declared.command.Task.{Task}
-use Rattle.office_types.specs.declared.command.Task.TheVariants.{Act, Import, Bundle}
-use Rattle.office_history.specs.Key.{IsKey, is_key_byte}
+use Rattle.office_history.specs.Key.{IsKey}
 use Rattle.office_history.specs.declared.arrival.Arrival.{Arrival}
 use Rattle.desk_head.specs.Demand.{demand_of}
 use Rattle.desk_head.specs.Fields.{body_length, named}
 use Rattle.desk_head.specs.Head.{HasHead, IsSmall}
-use Rattle.desk_head.specs.Limits.{body_limit}
 use Rattle.desk_head.specs.declared.demand.Demand.TheVariants.{Does}
-use Rattle.desk_head.proofs.TargetParts.{all_weaker, plain_part}
 use Rattle.desk_call.specs.Call.{arrival_of, arrives, call_of, command_of, content_of}
 use Rattle.desk_call.specs.Read.{IsRequest}
-use Rattle.desk_call.proofs.SoughtBack.{whole_decimal}
 use Rattle.desk_send.specs.Body.{IsReadBack, body_of}
 use Rattle.desk_send.specs.Request.{IsFirstUnsent, IsSentAs, IsUnsent, header, post_fields, post_head, request_bytes}
 use Rattle.desk_send.specs.Request.{seen_with, sent_body}

@@ -1,21 +1,16 @@
 -- Worked examples, computed from the definitions.
-use Rattle.std.proofs.Common.{◌≡◌, ℕ, List, [], ◌∷◌, ◌++◌, map, Some, None, true, codes, pos, negsuc, refl}
+use Rattle.desk_send.proofs.Common.{◌≡◌, ℕ, List, [], ◌∷◌, ◌++◌, map, Some, None, true, codes, refl, Intel, Under}
+use Rattle.desk_send.proofs.Common.{Number, Action, Command, Act, Import, Bundle, Reply, KeyReused}
+use Rattle.std.proofs.Common.{pos, negsuc}
 use Rattle.std.specs.Fmt.{digits}
 use Rattle.std.specs.Str.{chars, is_utf8}
 use Rattle.serde_json.proofs.OnLiterals.{serde_json_on_literals}
-use Rattle.bitlayout.specs.declared.layout.Order.TheVariants.{Intel}
-use Rattle.bitlayout.specs.declared.place.Mux.TheVariants.{Under}
 use Rattle.can_id.specs.declared.form.IdentForm.TheVariants.{Standard}
-use Rattle.decimal.specs.Number.{Number}
 use Rattle.decimal.specs.Printing.{unsigned_text}
-use Rattle.office_types.specs.declared.command.Action.{Action}
 use Rattle.office_types.specs.declared.command.Action.TheVariants as act
-use Rattle.office_types.specs.declared.command.Command.{Command}
-use Rattle.office_types.specs.declared.command.Task.TheVariants.{Act, Import, Bundle}
 use Rattle.office_types.specs.declared.refusal.Refusal.TheVariants as no
 use Rattle.office_types.specs.declared.reply.PartReply.TheVariants as part
 use Rattle.office_types.specs.declared.reply.Reply.TheVariants as reply
-use Rattle.office_history.specs.declared.arrival.Answer.TheVariants.{Reply, KeyReused}
 use Rattle.desk_call.specs.Body.{json_in}
 use Rattle.desk_send.specs.Answer.{answer_at}
 use Rattle.desk_send.specs.Body.{body_of}

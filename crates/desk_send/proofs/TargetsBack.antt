@@ -1,19 +1,13 @@
 -- What is at the target of a command does it.
-use Rattle.std.proofs.Common.{◌≡◌, ◌<◌, ◌≤◌, ℕ, List, [], ◌∷◌, ◌++◌, length, length-append, Some, true, codes, refl}
-use Rattle.std.proofs.Common.{arith}
-use Rattle.std.specs.Option.{option_map}
-use Rattle.std.specs.List.{list_all}
-use Rattle.std.proofs.lemmas.Bool.Decides.{nat_tests}
-use Rattle.std.proofs.lemmas.List.Folds.{list_all-append}
+use Rattle.desk_send.proofs.Common.{◌≡◌, ◌<◌, ◌≤◌, ℕ, List, [], ◌∷◌, ◌++◌, length, length-append, Some, true, codes}
+use Rattle.desk_send.proofs.Common.{refl, arith, option_map, list_all, nat_tests, list_all-append, IsPlainName, Task}
+use Rattle.desk_send.proofs.Common.{Act, Import, Bundle, is_key_byte, action_word, kind_of, IsPart, all_weaker}
+use Rattle.desk_send.proofs.Common.{plain_part}
 use Rattle.matchit.specs.Router.{RouteOf}
 use Rattle.matchit.specs.Rows.{RowsOf, param_token}
 use Rattle.matchit.specs.Seek.{own, step}
 use Rattle.matchit.proofs.OnLiterals.{matchit_on_literals}
-use Rattle.office_types.specs.PlainName.{IsPlainName}
-use Rattle.office_types.specs.declared.command.Task.{Task}
-use Rattle.office_types.specs.declared.command.Task.TheVariants.{Act, Import, Bundle}
-use Rattle.office_history.specs.Key.{is_key_byte}
-use Rattle.office_fields.specs.Kind.{action_word, kind_of, kind_of_word}
+use Rattle.office_fields.specs.Kind.{kind_of_word}
 use Rattle.office_fields.specs.declared.kind.ActionKind.{ActionKind}
 use Rattle.office_fields.specs.declared.kind.ActionKind.TheVariants as kind
 use Rattle.office_fields.specs.declared.kind.CommandKind.TheVariants as command
@@ -23,7 +17,7 @@ use Rattle.desk_head.specs.declared.routes.Route.{Route}
 use Rattle.desk_head.specs.declared.routes.Route.TheVariants as route
 use Rattle.desk_head.proofs.Matching.{Finds, all_end, all_parameters, at_part, past_bytes, steps}
 use Rattle.desk_head.proofs.Parameters.{first_alone}
-use Rattle.desk_head.proofs.TargetParts.{IsPart, all_weaker, is_part_byte, plain_part}
+use Rattle.desk_head.proofs.TargetParts.{is_part_byte}
 use Rattle.desk_call.specs.Call.{net_in}
 use Rattle.desk_send.specs.Target.{PostsLeadThere, posting_of, task_target}
 

@@ -1,50 +1,26 @@
 -- There is a body exactly where the texts of the command are UTF-8.
-use Rattle.std.proofs.Common.{◌≡◌, ◌∙◌, ◌&&◌, ℕ, Bool, true, false, List, [], ◌∷◌, Option, Some, None, refl, arith}
-use Rattle.std.proofs.Common.{codes, decimal, nat_lt, is_some, subst, sym}
-use Rattle.std.specs.List.{All, list_all}
-use Rattle.std.specs.Option.{option_map}
-use Rattle.std.specs.Str.{is_utf8}
-use Rattle.std.proofs.lemmas.Bool.{and_parts}
-use Rattle.std.proofs.lemmas.Bool.Decides.{nat_tests}
-use Rattle.std.proofs.lemmas.List.Elements.{All-head, All-tail}
-use Rattle.std.proofs.lemmas.Str.{is_utf8-from_IsUtf8}
-use Rattle.json.proofs.Printed.Utf8.{IsUtf8-are_ascii, are_ascii}
+use Rattle.desk_send.proofs.Common.{◌≡◌, ◌∙◌, ◌&&◌, ℕ, Bool, true, false, List, [], ◌∷◌, Option, Some, None, refl}
+use Rattle.desk_send.proofs.Common.{arith, codes, decimal, nat_lt, is_some, subst, sym, All, list_all, option_map}
+use Rattle.desk_send.proofs.Common.{is_utf8, and_parts, nat_tests, All-head, All-tail, is_utf8-from_IsUtf8}
+use Rattle.desk_send.proofs.Common.{IsUtf8-are_ascii, are_ascii, Intel, Motorola, Mux, Always, Multiplexor, Under}
+use Rattle.desk_send.proofs.Common.{IsMux, IsValueText, ValueText, IsDecimal, Number, IsAction, IsPlainName, Action}
+use Rattle.desk_send.proofs.Common.{Can, J1939, Task, Act, Import, Bundle, row_of, Readings, action_word, kind_of}
+use Rattle.desk_send.proofs.Common.{Value, where_true, ◌>>=◌, FieldKind, Occurrence, Required, Optional, Repeated, Data}
+use Rattle.desk_send.proofs.Common.{Members, array, item, no_members, object, put, string, compact_text, json_name}
+use Rattle.desk_send.proofs.Common.{is_key_byte, IsPart, plain_part, Pdu}
 use Rattle.bitlayout.specs.Mux.{indicator_of}
-use Rattle.bitlayout.specs.declared.layout.Order.TheVariants.{Intel, Motorola}
-use Rattle.bitlayout.specs.declared.place.Mux.{Mux}
-use Rattle.bitlayout.specs.declared.place.Mux.TheVariants.{Always, Multiplexor, Under}
 use Rattle.can_id.specs.declared.form.IdentForm.TheVariants as ident
-use Rattle.dbc_sheet.specs.Form.{IsMux, IsValueText}
-use Rattle.dbc_sheet.specs.declared.value_texts.ValueText.{ValueText}
-use Rattle.decimal.specs.Number.{IsDecimal, Number}
 use Rattle.decimal.specs.Printing as printed
-use Rattle.office_types.specs.Command.{IsAction, IsTask}
-use Rattle.office_types.specs.PlainName.{IsPlainName}
+use Rattle.office_types.specs.Command.{IsTask}
 use Rattle.office_types.specs.declared.block.BlockForm.TheVariants as block
-use Rattle.office_types.specs.declared.command.Action.{Action}
 use Rattle.office_types.specs.declared.command.Action.TheVariants as act
-use Rattle.office_types.specs.declared.command.NetKind.TheVariants.{Can, J1939}
-use Rattle.office_types.specs.declared.command.Task.{Task}
-use Rattle.office_types.specs.declared.command.Task.TheVariants.{Act, Import, Bundle}
-use Rattle.office_fields.specs.Field.{row_of}
-use Rattle.office_fields.specs.Given.{Readings}
-use Rattle.office_fields.specs.Kind.{action_word, kind_of}
-use Rattle.office_fields.specs.Value.{Value, where_true, ◌>>=◌}
 use Rattle.office_fields.specs.declared.field.Field.TheVariants as field
-use Rattle.office_fields.specs.declared.field.FieldKind.{FieldKind}
 use Rattle.office_fields.specs.declared.field.FieldKind.TheVariants as kind
-use Rattle.office_fields.specs.declared.field.Occurrence.{Occurrence}
-use Rattle.office_fields.specs.declared.field.Occurrence.TheVariants.{Required, Optional, Repeated}
-use Rattle.serde_json.specs.Data.{Data, Members, array, item, no_members, object, put, string}
-use Rattle.serde_json.specs.Written.{compact_text}
-use Rattle.desk_call.specs.Body.{json_name}
-use Rattle.office_history.specs.Key.{is_key_byte}
-use Rattle.desk_head.proofs.TargetParts.{IsPart, name_part, plain_part}
+use Rattle.desk_head.proofs.TargetParts.{name_part}
 use Rattle.desk_send.specs.Body.{is_text_action, is_text_task, task_body}
 use Rattle.desk_send.specs.Fields.{Entry, destination_of, entries_of, filled, mark_of}
 use Rattle.desk_send.specs.Json.{action_data, bundle_data, data_of, items_by, pair_data, part_data, text_data, with_as}
 use Rattle.desk_send.specs.Json.{with_entries, with_entry, with_list}
-use Rattle.office_types.specs.declared.command.Pdu.{Pdu}
 use Rattle.office_types.specs.declared.command.Pdu.TheVariants as pdu
 use Rattle.desk_send.specs.Texts.{addressing_of, addressing_word, IsValue, text_of}
 use Rattle.desk_send.proofs.DecimalsBack.{decimal_passes, is_decimal_byte}

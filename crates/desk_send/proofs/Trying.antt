@@ -1,7 +1,6 @@
 -- Tries, one after the other.
-use Rattle.std.proofs.Common.{◌≡◌, ◌++◌, ◌∷◌, ℕ, zero, suc, Bool, true, false, List, [], Result, Ok, Err, refl, sym}
-use Rattle.std.proofs.Common.{subst, append_assoc, append-nil}
-use Rattle.office_history.specs.declared.arrival.Answer.{Answer}
+use Rattle.desk_send.proofs.Common.{◌≡◌, ◌++◌, ◌∷◌, ℕ, zero, suc, Bool, true, false, List, [], Result, Ok, Err, refl}
+use Rattle.desk_send.proofs.Common.{sym, subst, append_assoc, append-nil, Answer}
 use Rattle.desk_send.specs.Desks.{AreStill, Asked, Desks, Takes, TakesNone, Turn, turn}
 use Rattle.desk_send.specs.Replies.{Comes, EndsWith, GoesOn, HasCome, IsStep, Shows, is_again}
 use Rattle.desk_send.specs.declared.sending.SendFault.{SendFault}

@@ -1,28 +1,19 @@
 -- A value of a field is read from its bytes.
-use Rattle.std.proofs.Common.{◌≡◌, ◌≢◌, ◌<◌, ◌≤◌, ◌^◌, ◌==◌, not, ℕ, Bool, true, false, List, Some, refl, arith, nat_le}
-use Rattle.std.proofs.Common.{decimal, subst, sym}
-use Rattle.std.proofs.lemmas.Bool.Decides.{nat_tests}
-use Rattle.bitlayout.specs.declared.layout.Order.TheVariants.{Intel, Motorola}
-use Rattle.bitlayout.specs.declared.place.Mux.{Mux}
-use Rattle.bitlayout.specs.declared.place.Mux.TheVariants.{Always, Multiplexor, Under}
+use Rattle.desk_send.proofs.Common.{◌≡◌, ◌≢◌, ◌<◌, ◌≤◌, ◌^◌, ◌==◌, not, ℕ, Bool, true, false, List, Some, refl, arith}
+use Rattle.desk_send.proofs.Common.{nat_le, decimal, subst, sym, nat_tests, Intel, Motorola, Mux, Always, Multiplexor}
+use Rattle.desk_send.proofs.Common.{Under, IsMux, IsValueText, ValueText, BlockForm, Can, J1939, Value, value_from}
+use Rattle.desk_send.proofs.Common.{Lacks, all_weaker, whole_decimal, Pdu}
 use Rattle.can_id.specs.declared.form.IdentForm.{IdentForm}
 use Rattle.can_id.specs.declared.form.IdentForm.TheVariants as ident
-use Rattle.dbc_sheet.specs.Form.{IsMux, IsValueText}
-use Rattle.dbc_sheet.specs.declared.value_texts.ValueText.{ValueText}
 use Rattle.dbc_words.specs.Limits.{length_limit, size_limit}
 use Rattle.dbc_words.specs.Text.{IsText, is_text}
 use Rattle.dbc_words.proofs.Texts.{text-Decides}
 use Rattle.decimal.specs.Printing as printed
-use Rattle.office_types.specs.declared.block.BlockForm.{BlockForm}
 use Rattle.office_types.specs.declared.block.BlockForm.TheVariants as block
 use Rattle.office_types.specs.declared.command.NetKind.{NetKind}
-use Rattle.office_types.specs.declared.command.NetKind.TheVariants.{Can, J1939}
-use Rattle.office_fields.specs.Value.{Value, value_from, whole_up_to}
+use Rattle.office_fields.specs.Value.{whole_up_to}
 use Rattle.office_fields.specs.declared.field.FieldKind.TheVariants as kind
-use Rattle.desk_head.proofs.Parameters.{Lacks, a_split}
-use Rattle.desk_head.proofs.TargetParts.{all_weaker}
-use Rattle.desk_call.proofs.SoughtBack.{whole_decimal}
-use Rattle.office_types.specs.declared.command.Pdu.{Pdu}
+use Rattle.desk_head.proofs.Parameters.{a_split}
 use Rattle.office_types.specs.declared.command.Pdu.TheVariants as pdu
 use Rattle.desk_send.specs.Texts.{addressing_of, addressing_word, ValuesComeBack, text_of, value_text}
 use Rattle.desk_send.proofs.DecimalsBack.{decimal_back, decimal_passes, is_decimal_byte}

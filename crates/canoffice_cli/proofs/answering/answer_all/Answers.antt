@@ -1,16 +1,7 @@
-use Rattle.std.proofs.Common.{◌≡◌, ◌+◌, ◌<◌, ◌++◌, ◌∷◌, [], List, length, take, ap, ◌∙◌, refl, subst, sym, arith}
-use Rattle.std.proofs.Common.{length-append}
-use Rattle.std.proofs.lemmas.List.{take_more}
-use Rattle.std.specs.List.{list_any}
-use Rattle.std.specs.Prelude.{IsFalse}
-use Rattle.office_script.specs.Echoes.{is_refused}
+use Rattle.canoffice_cli.proofs.Common.{◌≡◌, ◌+◌, ◌<◌, ◌++◌, ◌∷◌, [], List, length, take, ap, ◌∙◌, refl, subst, sym}
+use Rattle.canoffice_cli.proofs.Common.{arith, length-append, take_more, list_any, IsFalse, is_refused, state}
+use Rattle.canoffice_cli.proofs.Common.{HasCleanDisk, Holding, held_tables, Store, Answered, IsLegalHistory}
 use Rattle.canoffice_cli.proofs.Stopping.{ends_here, far_at_loss, far_at_refusal, still_none}
-use Rattle.sqlite.specs.Held.{state}
-use Rattle.sqlite.specs.State.{HasCleanDisk}
-use Rattle.store.specs.Holding.{Holding}
-use Rattle.store.proofs.Same.{held_tables}
-use Rattle.store.specs.declared.lost.Lost.TheVariants.{Store}
-use Rattle.office_history.specs.History.{Answered, IsLegalHistory}
 use Rattle.canoffice_cli.specs.Answered.{answered_with}
 use Rattle.canoffice_cli.specs.Numbers.{numbers_left}
 use Rattle.canoffice_cli.specs.declared.progress.RequestLines.{RequestLines}

@@ -1,12 +1,6 @@
-use Rattle.std.proofs.Common.{◌≡◌, ◌≤◌, ◌+◌, ◌++◌, List, length, take, drop}
-use Rattle.std.specs.Vec.{vec_capacity, vec_len}
-use Rattle.sqlite.specs.Held.{state}
-use Rattle.sqlite.specs.State.{HasCleanDisk}
+use Rattle.canoffice_cli.proofs.Common.{◌≡◌, ◌≤◌, ◌+◌, ◌++◌, List, length, take, drop, vec_capacity, vec_len, state}
+use Rattle.canoffice_cli.proofs.Common.{HasCleanDisk, statistics_of, Answered, IsLegalHistory, Holding, IsFalse, IsTrue}
 use Rattle.sqlite_trees.specs.View.{doubt}
-use Rattle.store_tables.specs.Statements.{statistics_of}
-use Rattle.office_history.specs.History.{Answered, IsLegalHistory}
-use Rattle.store.specs.Holding.{Holding}
-use Rattle.std.specs.Prelude.{IsFalse, IsTrue}
 use Rattle.canoffice_cli.specs.Answered.{NoneRefused, answered_with}
 use Rattle.canoffice_cli.specs.Numbers.{HaveLines, numbers_left, script_numbers}
 use Rattle.canoffice_cli.specs.Reasons.{TellsOf}

@@ -1,10 +1,6 @@
-use Rattle.std.proofs.Common.{◌≡◌, ◌+◌, ◌<◌, ◌++◌, ◌∷◌, [], length, take, ap, ◌∙◌, subst, arith, length-append}
-use Rattle.std.proofs.lemmas.List.{take_more}
-use Rattle.std.specs.List.{list_any}
-use Rattle.office_script.specs.Echoes.{is_refused}
+use Rattle.canoffice_cli.proofs.Common.{◌≡◌, ◌+◌, ◌<◌, ◌++◌, ◌∷◌, [], length, take, ap, ◌∙◌, subst, arith}
+use Rattle.canoffice_cli.proofs.Common.{length-append, take_more, list_any, is_refused, HoldsHistory, IsLegalHistory}
 use Rattle.canoffice_cli.proofs.Stopping.{far_at_refusal, ends_here, still_none}
-use Rattle.office.specs.Keyed.{HoldsHistory}
-use Rattle.office_history.specs.History.{IsLegalHistory}
 use Rattle.canoffice_cli.specs.Numbers.{numbers_left}
 use Rattle.canoffice_cli.specs.declared.progress.RequestLines.{RequestLines}
 use Rattle.canoffice_cli.proofs.Told.{left_after, tells_nothing, told_next}

@@ -1,7 +1,4 @@
-use Rattle.std.proofs.Common.{◌≡◌, ◌≤◌, ◌+◌, length, take, drop}
-use Rattle.std.specs.Vec.{vec_capacity, vec_len}
-use Rattle.office.specs.Keyed.{HoldsHistory}
-use Rattle.std.specs.Prelude.{IsTrue}
+use Rattle.canoffice_cli.proofs.Common.{◌≡◌, ◌≤◌, ◌+◌, length, take, drop, vec_capacity, vec_len, HoldsHistory, IsTrue}
 use Rattle.canoffice_cli.specs.Answered.{NoneRefused, answered_with}
 use Rattle.canoffice_cli.specs.Numbers.{HaveLines, numbers_left, script_numbers}
 use Rattle.canoffice_cli.specs.Reasons.{TellsOf}

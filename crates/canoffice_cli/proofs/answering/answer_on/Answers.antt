@@ -1,12 +1,6 @@
-use Rattle.std.proofs.Common.{◌≡◌, ◌∙◌, inl, inr, subst, sym, arith}
-use Rattle.std.proofs.lemmas.Bool.{false≢true}
-use Rattle.sqlite.specs.Held.{state}
-use Rattle.sqlite.specs.State.{HasCleanDisk}
-use Rattle.store.specs.Holding.{Holding}
-use Rattle.store.proofs.TablesInForm.{in_form, office_in_form, older_in_form}
-use Rattle.office_history.specs.History.{IsLegalHistory}
+use Rattle.canoffice_cli.proofs.Common.{◌≡◌, ◌∙◌, inl, inr, subst, sym, arith, false≢true, state, HasCleanDisk, Holding}
+use Rattle.canoffice_cli.proofs.Common.{in_form, office_in_form, older_in_form, IsLegalHistory, on_err_weaker}
 use Rattle.canoffice_cli.proofs.Reported.{begins_on, begun_is_legal, history_at_first}
-use Rattle.std.proofs.lemmas.Result.{on_err_weaker}
 use Rattle.canoffice_cli.proofs.Opened.{held_or_none, none_answered}
 use Rattle.canoffice_cli.proofs.Told.{tells_nothing}
 use Rattle.canoffice_cli.proofs.answering.answer_on.Goals as goal

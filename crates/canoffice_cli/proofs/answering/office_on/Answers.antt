@@ -1,5 +1,4 @@
-use Rattle.std.proofs.Common.{◌∙◌, inl, not, ap}
-use Rattle.sqlite.specs.Held.{state}
+use Rattle.canoffice_cli.proofs.Common.{◌∙◌, inl, not, ap, state}
 use Rattle.store.proofs.OpenedSo.{opened_not_older, opened_statistics}
 use Rattle.canoffice_cli.proofs.Reported.{begins_held, begins_in_form, still_held, still_rows, still_same}
 use Rattle.canoffice_cli.proofs.answering.office_on.Goals as goal

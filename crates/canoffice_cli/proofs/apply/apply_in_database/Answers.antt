@@ -1,5 +1,4 @@
-use Rattle.std.proofs.Common.{[], Some, inl, inr, refl}
-use Rattle.store.specs.declared.lost.Lost.TheVariants.{Memory}
+use Rattle.canoffice_cli.proofs.Common.{[], Some, inl, inr, refl, Memory}
 use Rattle.canoffice_cli.specs.Answered.{InDatabase, answers_outcome}
 use Rattle.canoffice_cli.specs.Databases.{AreKept}
 use Rattle.canoffice_cli.proofs.Applied.{amiss, answered, applied, unanswered}

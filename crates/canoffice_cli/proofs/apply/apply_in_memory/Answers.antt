@@ -1,4 +1,4 @@
-use Rattle.std.specs.Prelude.{⊤}
+use Rattle.canoffice_cli.proofs.Common.{⊤}
 use Rattle.canoffice_cli.specs.Answered.{InMemory}
 use Rattle.canoffice_cli.proofs.Applied.{amiss, applied}
 use Rattle.canoffice_cli.proofs.apply.apply_in_memory.Goals as goal

@@ -1,4 +1,4 @@
-use Rattle.std.proofs.Common.{inl}
+use Rattle.canoffice_cli.proofs.Common.{inl}
 use Rattle.canoffice_cli.proofs.Applied.{in_memory}
 use Rattle.canoffice_cli.proofs.Opened.{kept_same}
 use Rattle.canoffice_cli.proofs.Unprinted.{whatever}

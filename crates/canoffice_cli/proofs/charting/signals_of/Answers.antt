@@ -1,4 +1,4 @@
-use Rattle.std.proofs.Common.{rules}
+use Rattle.canoffice_cli.proofs.Common.{rules}
 use Rattle.canoffice_cli.proofs.WrongWords.{wrong_at}
 use Rattle.canoffice_cli.proofs.charting.signals_of.Goals as goal
 

@@ -1,4 +1,4 @@
-use Rattle.std.proofs.Common.{map, take}
+use Rattle.canoffice_cli.proofs.Common.{map, take}
 use Rattle.canoffice_cli.specs.Charted.{AreSignals}
 use Rattle.canoffice_cli.proofs.charting.signals_of.Given as goal
 

@@ -1,6 +1,4 @@
-use Rattle.std.proofs.Common.{◌∙◌, ◌∷◌, [], ap, inr, refl}
-use Rattle.std.proofs.lemmas.Result.{IfOk-weaker}
-use Rattle.dbc_read.proofs.ReadFaults.{read_fault}
+use Rattle.canoffice_cli.proofs.Common.{◌∙◌, ◌∷◌, [], ap, inr, refl, IfOk-weaker, read_fault}
 use Rattle.canoffice_cli.specs.Checked.{listed}
 use Rattle.canoffice_cli.specs.declared.report.Status.TheVariants.{FaultFound}
 use Rattle.canoffice_cli.proofs.checking.check_report.Goals as goal

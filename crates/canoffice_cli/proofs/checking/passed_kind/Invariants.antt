@@ -1,5 +1,4 @@
-use Rattle.std.proofs.Common.{◌≡◌, map, take}
-use Rattle.dbc_read.specs.Passed.{start_and_keyword}
+use Rattle.canoffice_cli.proofs.Common.{◌≡◌, map, take, start_and_keyword}
 use Rattle.canoffice_cli.specs.Checked.{passed_row}
 use Rattle.canoffice_cli.proofs.checking.passed_kind.Given as goal
 

@@ -1,6 +1,4 @@
-use Rattle.std.proofs.Common.{◌≡◌, ◌∙◌, ap, map, refl}
-use Rattle.std.proofs.lemmas.Result.{IfOk-weaker}
-use Rattle.dbc_read.specs.Passed.{start_and_keyword}
+use Rattle.canoffice_cli.proofs.Common.{◌≡◌, ◌∙◌, ap, map, refl, IfOk-weaker, start_and_keyword}
 use Rattle.canoffice_cli.specs.Checked.{passed_kind}
 use Rattle.canoffice_cli.proofs.checking.plain_check.Goals as goal
 

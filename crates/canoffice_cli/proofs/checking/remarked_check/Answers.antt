@@ -1,7 +1,5 @@
-use Rattle.std.proofs.Common.{◌≡◌, ◌∙◌, ap, length, map, refl}
-use Rattle.std.proofs.lemmas.Result.{IfOk-weaker}
+use Rattle.canoffice_cli.proofs.Common.{◌≡◌, ◌∙◌, ap, length, map, refl, IfOk-weaker, start_and_keyword}
 use Rattle.dbc_lint.specs.Listing.{remark_rows}
-use Rattle.dbc_read.specs.Passed.{start_and_keyword}
 use Rattle.canoffice_cli.specs.Checked.{passed_kind, remark_kind, remarked}
 use Rattle.canoffice_cli.proofs.checking.remarked_check.Goals as goal
 

@@ -1,4 +1,4 @@
-use Rattle.std.proofs.Common.{refl, subst}
+use Rattle.canoffice_cli.proofs.Common.{refl, subst}
 use Rattle.canoffice_cli.specs.Compared.{IsReleasesOutcome, judged}
 use Rattle.canoffice_cli.specs.Looked.{IsLookOutcome}
 use Rattle.canoffice_cli.proofs.Unprinted.{done_as, whatever}

@@ -1,4 +1,4 @@
-use Rattle.std.specs.Prelude.{⊤}
+use Rattle.canoffice_cli.proofs.Common.{⊤}
 use Rattle.canoffice_cli.specs.Compared.{IsCompareOutcome}
 use Rattle.canoffice_cli.specs.Holding.{source_at}
 use Rattle.canoffice_cli.proofs.FileJobs.{of_bytes}

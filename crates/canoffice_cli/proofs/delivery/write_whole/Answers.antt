@@ -1,4 +1,4 @@
-use Rattle.std.proofs.Common.{arith}
+use Rattle.canoffice_cli.proofs.Common.{arith}
 use Rattle.std.proofs.lemmas.List.{take_rest}
 use Rattle.canoffice_cli.proofs.Writes.{cut_here, cut_on, written_on}
 use Rattle.canoffice_cli.proofs.delivery.write_whole.Goals as goal

@@ -1,5 +1,4 @@
-use Rattle.std.proofs.Common.{length, ◌-◌, ◌≤◌, take}
-use Rattle.std.specs.Io.KnownBytes.{Appends}
+use Rattle.canoffice_cli.proofs.Common.{length, ◌-◌, ◌≤◌, take, Appends}
 use Rattle.canoffice_cli.proofs.delivery.write_whole.Given as goal
 
 abbrev pub invariant-loop-at : goal.invariant-loop-at

@@ -1,5 +1,4 @@
-use Rattle.std.proofs.Common.{Some}
-use Rattle.dbc_advice.specs.ShownPath.{shown_path}
+use Rattle.canoffice_cli.proofs.Common.{Some, shown_path}
 use Rattle.canoffice_cli.specs.Databases.{AreKept}
 use Rattle.canoffice_cli.specs.Exported.{IsExportWith}
 use Rattle.canoffice_cli.specs.Holding.{source_at}

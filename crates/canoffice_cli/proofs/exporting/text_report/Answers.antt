@@ -1,4 +1,5 @@
-use Rattle.std.proofs.Common.{ap, option_map}
+use Rattle.canoffice_cli.proofs.Common.{ap}
+use Rattle.std.proofs.Common.{option_map}
 use Rattle.dbc_keep.specs.Completed.{named_text}
 use Rattle.canoffice_cli.proofs.CompletedTexts.{with_attributes, with_original}
 use Rattle.canoffice_cli.proofs.exporting.text_report.Goals as goal

@@ -1,4 +1,4 @@
-use Rattle.dbc_advice.specs.ShownPath.{shown_path}
+use Rattle.canoffice_cli.proofs.Common.{shown_path}
 use Rattle.canoffice_cli.specs.Explaining.{IsExplanation, IsStated}
 use Rattle.canoffice_cli.specs.Performance.{IsTaskOutcome}
 use Rattle.canoffice_cli.proofs.StatedMore.{everything, nothing, wrong_line}

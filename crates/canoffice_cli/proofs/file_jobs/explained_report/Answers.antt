@@ -1,5 +1,4 @@
-use Rattle.std.proofs.Common.{subst, sym}
-use Rattle.std.specs.Prelude.{IfOk}
+use Rattle.canoffice_cli.proofs.Common.{subst, sym, IfOk}
 use Rattle.canoffice_cli.specs.Explaining.{IsExplainedBy, IsExplanation, IsStated}
 use Rattle.canoffice_cli.specs.Outcome.{outcome_of}
 use Rattle.canoffice_cli.specs.Performance.{IsTaskOutcome}

@@ -1,4 +1,4 @@
-use Rattle.std.proofs.Common.{inl, refl}
+use Rattle.canoffice_cli.proofs.Common.{inl, refl}
 use Rattle.canoffice_cli.specs.Outcome.{outcome_of}
 use Rattle.canoffice_cli.proofs.file_jobs.report_at_terminal.Goals as goal
 

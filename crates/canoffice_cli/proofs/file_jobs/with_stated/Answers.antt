@@ -1,4 +1,4 @@
-use Rattle.dbc_advice.specs.ShownPath.{shown_path}
+use Rattle.canoffice_cli.proofs.Common.{shown_path}
 use Rattle.canoffice_cli.specs.Explaining.{IsStated}
 use Rattle.canoffice_cli.specs.Outcome.{outcome_of}
 use Rattle.canoffice_cli.proofs.StatedMore.{may_state}

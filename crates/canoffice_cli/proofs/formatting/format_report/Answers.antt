@@ -1,9 +1,7 @@
-use Rattle.std.proofs.Common.{inr, map, ap, refl, ◌∙◌}
-use Rattle.dbc_read.specs.Passed.{start_and_keyword}
+use Rattle.canoffice_cli.proofs.Common.{inr, map, ap, refl, ◌∙◌, start_and_keyword, read_fault}
 use Rattle.canoffice_cli.specs.Formatted.{fault_errors}
 use Rattle.canoffice_cli.specs.Outcome.{success}
 use Rattle.canoffice_cli.proofs.Canonical.{not_nothing, printed_again}
-use Rattle.dbc_read.proofs.ReadFaults.{read_fault}
 use Rattle.canoffice_cli.proofs.formatting.format_report.Goals as goal
 
 pub returns-in_ok-written-in-Ok-clause-canonical : goal.returns-in_ok-written-in-Ok-clause-canonical

@@ -1,6 +1,5 @@
-use Rattle.std.proofs.Common.{inl, refl}
+use Rattle.canoffice_cli.proofs.Common.{inl, refl, read_fault}
 use Rattle.canoffice_cli.proofs.KeptTexts.{fault_nothing, fault_outcome, fault_unchanged, nothing_kept, unchanged}
-use Rattle.dbc_read.proofs.ReadFaults.{read_fault}
 use Rattle.canoffice_cli.proofs.formatting.kept_report.Goals as goal
 
 pub returns-in_ok-written-in-Ok-clause-outcome : goal.returns-in_ok-written-in-Ok-clause-outcome

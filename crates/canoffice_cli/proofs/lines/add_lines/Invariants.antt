@@ -1,5 +1,5 @@
-use Rattle.std.proofs.Common.{◌≡◌, ◌++◌, drop, string_bytes}
-use Rattle.std.specs.List.{flat_map}
+use Rattle.canoffice_cli.proofs.Common.{◌≡◌, ◌++◌, drop, flat_map}
+use Rattle.std.proofs.Common.{string_bytes}
 use Rattle.canoffice_cli.proofs.lines.add_lines.Given as goal
 
 abbrev pub invariant-loop-value : goal.invariant-loop-value

@@ -1,10 +1,5 @@
-use Rattle.std.proofs.Common.{◌≡◌, ◌∙◌, inl, refl, arith}
-use Rattle.std.proofs.lemmas.Bool.{false≢true}
-use Rattle.sqlite.specs.Held.{state}
-use Rattle.sqlite.specs.State.{HasCleanDisk}
-use Rattle.store.specs.Holding.{Holding}
-use Rattle.store.proofs.Same.{held_tables}
-use Rattle.store.proofs.TablesInForm.{in_form, office_in_form, older_in_form}
+use Rattle.canoffice_cli.proofs.Common.{◌≡◌, ◌∙◌, inl, refl, arith, false≢true, state, HasCleanDisk, Holding}
+use Rattle.canoffice_cli.proofs.Common.{held_tables, in_form, office_in_form, older_in_form}
 use Rattle.canoffice_cli.proofs.Opened.{either_way, no_office_is_new}
 use Rattle.canoffice_cli.proofs.Reported.{same_in_form}
 use Rattle.canoffice_cli.proofs.looking.look_on.Goals as goal

@@ -1,5 +1,4 @@
-use Rattle.std.proofs.Common.{rules}
-use Rattle.std.specs.Result.{result_map_both}
+use Rattle.canoffice_cli.proofs.Common.{rules, result_map_both}
 use Rattle.desk_client.specs.Received.{seen}
 use Rattle.canoffice_cli.specs.Desks.{asked_outcome}
 use Rattle.canoffice_cli.specs.Looked.{IsLookedAt}

@@ -1,7 +1,5 @@
-use Rattle.std.proofs.Common.{◌≡◌, ◌∙◌, [], inl, inr, not, ap}
-use Rattle.sqlite.specs.Held.{state}
+use Rattle.canoffice_cli.proofs.Common.{◌≡◌, ◌∙◌, [], inl, inr, not, ap, state, in_form}
 use Rattle.store.proofs.OpenedSo.{migrated_statistics}
-use Rattle.store.proofs.TablesInForm.{in_form}
 use Rattle.canoffice_cli.proofs.Reported.{still_held, still_in_form, still_rows}
 use Rattle.canoffice_cli.proofs.migrating.migrate_on.Goals as goal
 

@@ -1,5 +1,4 @@
-use Rattle.std.proofs.Common.{ℕ, List, inl, inr, ap, refl, subst, ◌∙◌}
-use Rattle.dbc_read.proofs.ReadFaults.{read_fault}
+use Rattle.canoffice_cli.proofs.Common.{ℕ, List, inl, inr, ap, refl, subst, ◌∙◌, read_fault}
 use Rattle.office_page.specs.Page.{IsFilePage}
 use Rattle.canoffice_cli.specs.Formatted.{fault_errors}
 use Rattle.canoffice_cli.proofs.paging.file_page_report.Goals as goal

@@ -1,6 +1,5 @@
-use Rattle.std.proofs.Common.{map, sym, ap, ◌∙◌}
-use Rattle.std.specs.Prelude.{is_some, option_map}
-use Rattle.canoffice_jobs.specs.CommandLine.{entered}
+use Rattle.canoffice_cli.proofs.Common.{map, sym, ap, ◌∙◌, is_some, entered}
+use Rattle.std.specs.Prelude.{option_map}
 use Rattle.canoffice_cli.proofs.Performed.{help_meant, lost_of, words_stay}
 use Rattle.canoffice_cli.proofs.program.answer.Goals as goal
 

@@ -1,6 +1,4 @@
-use Rattle.std.proofs.Common.{◌≡◌, map, true, sym, ◌∙◌}
-use Rattle.std.specs.Prelude.{is_some}
-use Rattle.canoffice_jobs.specs.CommandLine.{lint_entered}
+use Rattle.canoffice_cli.proofs.Common.{◌≡◌, map, true, sym, ◌∙◌, is_some, lint_entered}
 use Rattle.canoffice_cli.proofs.Performed.{check_entered, lost_of, others_entered}
 use Rattle.canoffice_cli.proofs.program.answer_meant.Goals as goal
 

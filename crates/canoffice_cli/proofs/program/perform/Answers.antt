@@ -1,5 +1,4 @@
-use Rattle.std.proofs.Common.{map}
-use Rattle.std.specs.Prelude.{is_some}
+use Rattle.canoffice_cli.proofs.Common.{map, is_some}
 use Rattle.canoffice_cli.proofs.Performed.{performed}
 use Rattle.canoffice_cli.proofs.program.perform.Goals as goal
 

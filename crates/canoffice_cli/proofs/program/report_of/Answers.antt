@@ -1,4 +1,4 @@
-use Rattle.std.proofs.lemmas.Result.{IfOk-weaker}
+use Rattle.canoffice_cli.proofs.Common.{IfOk-weaker}
 use Rattle.canoffice_cli.proofs.program.report_of.Goals as goal
 
 pub returns-in-Serve-clause-done : goal.returns-in-Serve-clause-done

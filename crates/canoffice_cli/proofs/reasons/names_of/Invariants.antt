@@ -1,4 +1,4 @@
-use Rattle.std.proofs.Common.{◌≡◌, map, take}
+use Rattle.canoffice_cli.proofs.Common.{◌≡◌, map, take}
 use Rattle.canoffice_cli.proofs.reasons.names_of.Given as goal
 
 abbrev pub invariant-loop-net : goal.invariant-loop-net

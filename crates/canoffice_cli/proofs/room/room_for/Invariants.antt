@@ -1,4 +1,4 @@
-use Rattle.std.proofs.Common.{◌≡◌, ◌≤◌, length, take}
+use Rattle.canoffice_cli.proofs.Common.{◌≡◌, ◌≤◌, length, take}
 use Rattle.canoffice_cli.specs.LongestLines.{room_for}
 use Rattle.canoffice_cli.proofs.room.room_for.Given as goal
 

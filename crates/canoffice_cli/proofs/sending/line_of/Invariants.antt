@@ -1,5 +1,4 @@
-use Rattle.std.proofs.Common.{◌≡◌, ◌+◌, ◌≤◌, length}
-use Rattle.office_script.specs.Lines.{lines_of}
+use Rattle.canoffice_cli.proofs.Common.{◌≡◌, ◌+◌, ◌≤◌, length, lines_of}
 use Rattle.canoffice_cli.specs.Sent.{requesting_line}
 use Rattle.canoffice_cli.proofs.sending.line_of.Given as goal
 

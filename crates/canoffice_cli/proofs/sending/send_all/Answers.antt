@@ -1,8 +1,5 @@
-use Rattle.std.proofs.Common.{◌≡◌, ◌+◌, ◌<◌, ◌++◌, ◌∷◌, [], length, take, ap, ◌∙◌, Ok, Err, arith, length-append}
-use Rattle.std.proofs.lemmas.List.{take_more}
-use Rattle.std.specs.List.{list_any}
-use Rattle.office_script.specs.Echoes.{is_refused}
-use Rattle.desk_send.specs.Replies.{HasCome}
+use Rattle.canoffice_cli.proofs.Common.{◌≡◌, ◌+◌, ◌<◌, ◌++◌, ◌∷◌, [], length, take, ap, ◌∙◌, Ok, Err, arith}
+use Rattle.canoffice_cli.proofs.Common.{length-append, take_more, list_any, is_refused, HasCome}
 use Rattle.desk_send.proofs.Trying.{still_on}
 use Rattle.canoffice_cli.proofs.Sent.{answered_more, answered_none, come_all, come_to_a_loss}
 use Rattle.canoffice_cli.proofs.Stopping.{far_at_loss, far_at_refusal, ends_here, still_none}

@@ -1,7 +1,4 @@
-use Rattle.std.proofs.Common.{◌≡◌, ◌≤◌, length}
-use Rattle.std.specs.Prelude.{IsTrue}
-use Rattle.std.specs.Vec.{vec_capacity, vec_len}
-use Rattle.desk_send.specs.Desks.{AreStill}
+use Rattle.canoffice_cli.proofs.Common.{◌≡◌, ◌≤◌, length, IsTrue, vec_capacity, vec_len, AreStill}
 use Rattle.canoffice_cli.specs.Answered.{NoneRefused}
 use Rattle.canoffice_cli.proofs.Sent.{Answered}
 use Rattle.canoffice_cli.proofs.sending.send_all.Given as goal

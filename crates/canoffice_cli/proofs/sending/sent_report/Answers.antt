@@ -1,4 +1,4 @@
-use Rattle.std.proofs.Common.{inl}
+use Rattle.canoffice_cli.proofs.Common.{inl}
 use Rattle.canoffice_cli.proofs.Sent.{sent_in_turn, sent_unprinted}
 use Rattle.canoffice_cli.proofs.Unprinted.{whatever}
 use Rattle.canoffice_cli.proofs.sending.sent_report.Goals as goal

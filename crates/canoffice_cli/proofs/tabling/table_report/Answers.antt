@@ -1,6 +1,4 @@
-use Rattle.std.proofs.Common.{inl, inr, map, ap, refl, ◌∙◌}
-use Rattle.dbc_read.specs.Passed.{start_and_keyword}
-use Rattle.dbc_read.proofs.ReadFaults.{read_fault}
+use Rattle.canoffice_cli.proofs.Common.{inl, inr, map, ap, refl, ◌∙◌, start_and_keyword, read_fault}
 use Rattle.canoffice_cli.specs.Formatted.{fault_errors}
 use Rattle.canoffice_cli.specs.Outcome.{success}
 use Rattle.rows.specs.Json.{list_text}

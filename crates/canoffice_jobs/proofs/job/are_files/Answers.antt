@@ -1,5 +1,4 @@
-use Rattle.std.proofs.Common.{◌∙◌}
-use Rattle.clap.specs.Words.{found_of}
+use Rattle.canoffice_jobs.proofs.Common.{◌∙◌, found_of}
 use Rattle.canoffice_jobs.proofs.CommandLine.{files_in_rows}
 use Rattle.canoffice_jobs.proofs.job.are_files.Goals as goal
 

@@ -1,7 +1,6 @@
-use Rattle.std.proofs.Common.{◌∙◌, Some, List, ap, map, option_map, refl, sym}
-use Rattle.std.specs.Borrow.{Bor}
+use Rattle.canoffice_jobs.proofs.Common.{◌∙◌, Some, List, ap, map, option_map, refl, sym, Bor, found_of}
 use Rattle.std.specs.Option.{option_and_then}
-use Rattle.clap.specs.Words.{Text, found_of}
+use Rattle.clap.specs.Words.{Text}
 use Rattle.office_views.specs.Word.{length_of}
 use Rattle.canoffice_jobs.proofs.CommandLine.{optional_in_rows, values_in_rows}
 use Rattle.canoffice_jobs.proofs.job.chart_job.Goals as goal

@@ -1,6 +1,5 @@
-use Rattle.std.proofs.Common.{◌≡◌, Option, None, Some, List, ℕ, option_map, subst, ◌∙◌}
-use Rattle.std.specs.Borrow.{Bor}
-use Rattle.clap.specs.Words.{first_value, found_of}
+use Rattle.canoffice_jobs.proofs.Common.{◌≡◌, Option, None, Some, List, ℕ, option_map, subst, ◌∙◌, Bor, first_value}
+use Rattle.canoffice_jobs.proofs.Common.{found_of}
 use Rattle.canoffice_jobs.proofs.CommandLine.{flag_in_rows}
 use Rattle.canoffice_jobs.proofs.job.is_set.Goals as goal
 

@@ -1,5 +1,4 @@
-use Rattle.std.proofs.Common.{sym, refl, codes, ◌∙◌}
-use Rattle.clap.specs.Words.{found_of, rows_of}
+use Rattle.canoffice_jobs.proofs.Common.{sym, refl, codes, ◌∙◌, found_of, rows_of}
 use Rattle.canoffice_jobs.proofs.CommandLine.{entered_has}
 use Rattle.canoffice_jobs.proofs.job.job_in.Goals as goal
 

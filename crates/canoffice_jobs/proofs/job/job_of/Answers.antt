@@ -1,5 +1,5 @@
-use Rattle.std.proofs.Common.{map, refl}
-use Rattle.clap.specs.Words.{app_of, kind_of}
+use Rattle.canoffice_jobs.proofs.Common.{map, refl, app_of}
+use Rattle.clap.specs.Words.{kind_of}
 use Rattle.canoffice_jobs.specs.declared.job.ValueFault.{ValueFault}
 use Rattle.canoffice_jobs.specs.declared.job.ValueFault.TheVariants as value
 use Rattle.canoffice_jobs.proofs.CommandLine.{line_fault_by, value_fault_of}

@@ -1,4 +1,4 @@
-use Rattle.std.proofs.Common.{◌≡◌, ◌++◌, drop, map, true}
+use Rattle.canoffice_jobs.proofs.Common.{◌≡◌, ◌++◌, drop, map, true}
 use Rattle.canoffice_jobs.specs.CommandLine.{lint_entered}
 use Rattle.canoffice_jobs.proofs.remarks.lint_entered.Given as goal
 

@@ -1,4 +1,4 @@
-use Rattle.std.proofs.Common.{take}
+use Rattle.canoffice_jobs.proofs.Common.{take}
 use Rattle.canoffice_jobs.specs.Subcommands.{app_with, rule_by}
 use Rattle.canoffice_jobs.proofs.Building.{Is}
 use Rattle.canoffice_jobs.proofs.subcommands.clap_command.Given as goal

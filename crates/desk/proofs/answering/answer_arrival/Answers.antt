@@ -1,8 +1,5 @@
-use Rattle.std.proofs.Common.{ℕ, Global, Vec}
-use Rattle.sqlite.specs.Held.{state}
-use Rattle.desk_types.specs.declared.problem.Problem.TheVariants.{TryAgain}
-use Rattle.desk_call.specs.Call.{arrives, arrival_seen}
-use Rattle.desk_reply.specs.Response.{answer_response, problem_response}
+use Rattle.desk.proofs.Common.{ℕ, Global, Vec, state, TryAgain, arrives, answer_response, problem_response}
+use Rattle.desk_call.specs.Call.{arrival_seen}
 use Rattle.desk.specs.Responding.{MayHaveTaken, Responds}
 use Rattle.desk.proofs.Responses.{arrived, follows_lost, may_answered, may_lost, on_err, on_text, try_again}
 use Rattle.desk.proofs.answering.answer_arrival.Goals as goal

@@ -1,9 +1,6 @@
-use Rattle.std.proofs.Common.{ℕ, Global, Vec, IfOk, OnErr, sym, subst}
-use Rattle.sqlite.specs.Held.{state}
-use Rattle.store.proofs.Statistics.{itself_keeps, itself_leaves}
-use Rattle.desk_call.specs.Call.{fails, seen}
+use Rattle.desk.proofs.Common.{ℕ, Global, Vec, IfOk, OnErr, sym, subst, state, itself_keeps, itself_leaves, fails, seen}
+use Rattle.desk.proofs.Common.{problem_response}
 use Rattle.desk_call.specs.declared.call.Call.{Call}
-use Rattle.desk_reply.specs.Response.{problem_response}
 use Rattle.desk.specs.Responding.{MayHaveTaken, Responds}
 use Rattle.desk.proofs.Responses.{fails_so, left_now, may_same, on_err, on_text}
 use Rattle.desk.proofs.answering.response_to.Goals as goal

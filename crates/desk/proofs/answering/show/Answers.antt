@@ -1,11 +1,7 @@
-use Rattle.std.proofs.Common.{ℕ, List, Some, None, Global, Vec, sym, subst}
-use Rattle.sqlite.specs.Held.{state}
-use Rattle.office_types.specs.declared.state.Office.{Office}
-use Rattle.office_history.specs.History.{IsLegal}
-use Rattle.store.specs.Looking.{IsShown}
-use Rattle.desk_types.specs.declared.problem.Problem.TheVariants.{NotFound, TryAgain}
-use Rattle.desk_call.specs.Call.{shows}
-use Rattle.desk_reply.specs.Response.{problem_response, text_response}
+use Rattle.desk.proofs.Common.{ℕ, List, Some, None, Global, Vec, sym, subst, state, Office, IsLegal, IsShown, TryAgain}
+use Rattle.desk.proofs.Common.{shows, problem_response}
+use Rattle.desk_types.specs.declared.problem.Problem.TheVariants.{NotFound}
+use Rattle.desk_reply.specs.Response.{text_response}
 use Rattle.desk_reply.specs.declared.responses.BodyKind.{BodyKind}
 use Rattle.desk.specs.Responding.{MayHaveTaken, Responds, body_kind_of}
 use Rattle.desk.proofs.Responses.{follows_same, looked, may_lost, may_same, on_err, on_text, try_again}

@@ -1,10 +1,6 @@
-use Rattle.std.proofs.Common.{◌∙◌, ℕ, List, ap, inl, inr, refl, sym, subst, Err}
+use Rattle.desk.proofs.Common.{◌∙◌, ℕ, List, ap, inl, inr, refl, sym, subst, Err, Appends, state, itself_keeps}
+use Rattle.desk.proofs.Common.{itself_leaves, AppendsFront, seen}
 use Rattle.std.proofs.lemmas.Result.{err_from_is_err_and}
-use Rattle.std.specs.Io.KnownBytes.{Appends}
-use Rattle.sqlite.specs.Held.{state}
-use Rattle.store.proofs.Statistics.{itself_keeps, itself_leaves}
-use Rattle.desk_types.specs.Moved.{AppendsFront}
-use Rattle.desk_call.specs.Call.{seen}
 use Rattle.desk.specs.Responding.{Responds}
 use Rattle.desk.proofs.Devices.{devices_unread, not_unwritten, refuses_unread, serves_unread}
 use Rattle.desk.proofs.Responses.{left_now}

@@ -1,7 +1,6 @@
-use Rattle.std.proofs.Common.{◌<◌, [], ◌∷◌, ◌++◌, length, refl, sym, ap, subst, arith, length-append}
-use Rattle.sqlite.specs.Held.{state}
-use Rattle.sqlite.specs.State.{HasCleanDisk}
-use Rattle.store.proofs.ListOfArrivals.{KeepThose, keep_at_first, keep_more}
+use Rattle.desk.proofs.Common.{[], ◌∷◌, ◌++◌, length, refl, sym, ap, subst, arith, state, HasCleanDisk, KeepThose}
+use Rattle.std.proofs.Common.{◌<◌, length-append}
+use Rattle.store.proofs.ListOfArrivals.{keep_at_first, keep_more}
 use Rattle.desk.specs.Serving.{HasServedAll, NoneWaits, SaysFailure}
 use Rattle.desk.proofs.Noted.{fails_still, served_still}
 use Rattle.desk.proofs.Turns.{served_none, served_then, says_nothing, says_then, visit_still, visits_none, visits_still}

@@ -1,7 +1,5 @@
-use Rattle.std.proofs.Common.{◌≡◌, List, length}
-use Rattle.sqlite.specs.Held.{state}
+use Rattle.desk.proofs.Common.{◌≡◌, List, length, state, KeepThose}
 use Rattle.store.specs.Calls.{KeepsDoubt, OnHistory}
-use Rattle.store.proofs.ListOfArrivals.{KeepThose}
 use Rattle.desk.specs.Serving.{HasServedAll, SaysFailure, Visit}
 use Rattle.desk.specs.Visits.{HasVisits}
 use Rattle.desk.proofs.serving.serve.Given as goal

@@ -1,8 +1,5 @@
-use Rattle.std.proofs.Common.{ℕ, List, [], ◌∷◌, Option, inl, refl, sym, ap, subst}
-use Rattle.std.proofs.lemmas.List.Elements.{All-nil, All-push}
-use Rattle.std.specs.Prelude.{IsTrue}
-use Rattle.sqlite.specs.Held.{state}
-use Rattle.store.proofs.Statistics.{itself_keeps, itself_leaves}
+use Rattle.desk.proofs.Common.{ℕ, List, [], ◌∷◌, Option, inl, refl, sym, ap, subst, All-nil, All-push, IsTrue, state}
+use Rattle.desk.proofs.Common.{itself_keeps, itself_leaves}
 use Rattle.desk.specs.Serving.{AreAccepted, DeclinesBy, Ending, HasCause, HasGoneOn, IsClosed, IsDeclined, Visit}
 use Rattle.desk.specs.Serving.{fault_of}
 use Rattle.desk.proofs.Visits.{caused, declined, ending_reported, led, legal_of, one_came, one_ended, ranged_of}

@@ -1,6 +1,4 @@
-use Rattle.std.proofs.Common.{◌≡◌, Some}
-use Rattle.serde_json.specs.Read.{read}
-use Rattle.serde_json.specs.View.{view}
+use Rattle.desk_call.proofs.Common.{◌≡◌, Some, read, view}
 use Rattle.desk_call.proofs.Texts.{is_json, no_json}
 use Rattle.desk_call.proofs.body.json_in.Goals as goal
 

@@ -1,6 +1,4 @@
-use Rattle.std.proofs.Common.{◌≡◌, ◌++◌, length}
-use Rattle.std.specs.Option.{option_map}
-use Rattle.serde_json.specs.View.{items_view}
+use Rattle.desk_call.proofs.Common.{◌≡◌, ◌++◌, length, option_map, items_view}
 use Rattle.desk_call.specs.Bundle.{parts_of_items}
 use Rattle.desk_call.proofs.bundle.parts_of_items.Given as goal
 

@@ -1,4 +1,4 @@
-use Rattle.std.proofs.Common.{arith}
+use Rattle.desk_call.proofs.Common.{arith}
 use Rattle.desk_call.proofs.Pairs.{no_pair}
 use Rattle.desk_call.proofs.json_values.pair_bytes.Goals as goal
 

@@ -1,7 +1,4 @@
-use Rattle.std.proofs.Common.{◌≡◌, ◌++◌, length}
-use Rattle.std.specs.Option.{option_map}
-use Rattle.serde_json.specs.View.{items_view}
-use Rattle.office_fields.specs.Given.{named_values}
+use Rattle.desk_call.proofs.Common.{◌≡◌, ◌++◌, length, option_map, items_view, named_values}
 use Rattle.desk_call.specs.Body.{each_given}
 use Rattle.desk_call.proofs.members.each_given.Given as goal
 

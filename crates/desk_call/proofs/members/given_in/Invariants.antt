@@ -1,7 +1,4 @@
-use Rattle.std.proofs.Common.{◌≡◌, ◌++◌, length}
-use Rattle.std.specs.Option.{option_map}
-use Rattle.serde_json.specs.View.{view}
-use Rattle.office_fields.specs.Given.{named_values}
+use Rattle.desk_call.proofs.Common.{◌≡◌, ◌++◌, length, option_map, view, named_values}
 use Rattle.desk_call.specs.Body.{given_in}
 use Rattle.desk_call.proofs.members.given_in.Given as goal
 

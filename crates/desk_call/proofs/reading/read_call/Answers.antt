@@ -1,14 +1,11 @@
-use Rattle.std.proofs.Common.{◌≡◌, ◌∙◌, ◌≤◌, ◌<◌, ◌⊎◌, drop, length, inl, inr, refl, arith, ap, Err}
+use Rattle.desk_call.proofs.Common.{◌≡◌, ◌∙◌, ◌≤◌, ◌<◌, ◌⊎◌, length, inl, inr, refl, arith, ap, IsAtEnd, Moves}
+use Rattle.desk_call.proofs.Common.{reads_to_fault, demand_of, body_size, head_limit, request_limit, size_is_small}
+use Rattle.std.proofs.Common.{drop, Err}
 use Rattle.std.proofs.KnownBytes.{Keeps-refl}
 use Rattle.std.proofs.lemmas.List.{take_rest}
-use Rattle.std.specs.Io.KnownBytes.{IsAtEnd}
-use Rattle.desk_types.specs.Moved.{Moves}
 use Rattle.desk_types.specs.declared.fault.ReadFault.TheVariants.{Read}
-use Rattle.desk_types.proofs.Gives.{gives_none, reads_to_fault}
-use Rattle.desk_head.specs.Demand.{demand_of, body_size}
+use Rattle.desk_types.proofs.Gives.{gives_none}
 use Rattle.desk_head.specs.Head.{IsHeadAt}
-use Rattle.desk_head.specs.Limits.{head_limit, request_limit}
-use Rattle.desk_head.proofs.BodySizes.{size_is_small}
 use Rattle.desk_call.specs.Call.{call_of, seen}
 use Rattle.desk_call.proofs.Gives.{gives_request}
 use Rattle.desk_call.proofs.Whole.{requests, either, not_whole}

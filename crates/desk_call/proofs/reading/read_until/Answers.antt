@@ -1,5 +1,4 @@
-use Rattle.std.proofs.Common.{◌-◌, ◌≤◌, ap, arith, length, length-append, vec_len}
-use Rattle.desk_types.proofs.Gives.{reads_to_fault}
+use Rattle.desk_call.proofs.Common.{◌-◌, ◌≤◌, ap, arith, length, length-append, vec_len, reads_to_fault}
 use Rattle.desk_call.proofs.Gives.{gives_moved}
 use Rattle.desk_call.proofs.reading.read_until.Goals as goal
 

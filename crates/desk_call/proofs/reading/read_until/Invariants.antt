@@ -1,5 +1,4 @@
-use Rattle.std.proofs.Common.{◌≡◌, ◌-◌, ◌≤◌, vec_len}
-use Rattle.desk_types.specs.Moved.{Moves}
+use Rattle.desk_call.proofs.Common.{◌≡◌, ◌-◌, ◌≤◌, vec_len, Moves}
 use Rattle.desk_call.proofs.reading.read_until.Given as goal
 
 abbrev pub invariant-loop-got : goal.invariant-loop-got

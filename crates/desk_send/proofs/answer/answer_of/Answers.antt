@@ -1,5 +1,4 @@
-use Rattle.std.proofs.Common.{◌∙◌, sym}
-use Rattle.std.proofs.lemmas.Bool.{false≢true}
+use Rattle.desk_send.proofs.Common.{◌∙◌, sym, false≢true}
 use Rattle.desk_send.proofs.AnswersBack.{is_found, is_unlike}
 use Rattle.desk_send.proofs.answer.answer_of.Goals as goal
 

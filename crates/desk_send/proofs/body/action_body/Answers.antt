@@ -1,4 +1,4 @@
-use Rattle.serde_json.specs.View.{members_view}
+use Rattle.desk_send.proofs.Common.{members_view}
 use Rattle.desk_send.proofs.BodiesBack.{action_read}
 use Rattle.desk_send.proofs.ObjectTexts.{action_flat}
 use Rattle.desk_send.proofs.body.action_body.Goals as goal

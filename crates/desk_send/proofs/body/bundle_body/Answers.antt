@@ -1,4 +1,4 @@
-use Rattle.serde_json.specs.View.{members_view}
+use Rattle.desk_send.proofs.Common.{members_view}
 use Rattle.desk_send.proofs.ObjectTexts.{bundle_flats}
 use Rattle.desk_send.proofs.body.bundle_body.Goals as goal
 

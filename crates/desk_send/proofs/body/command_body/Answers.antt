@@ -1,4 +1,4 @@
-use Rattle.std.proofs.Common.{◌≡◌, ◌∙◌, None, ap, is_some, sym}
+use Rattle.desk_send.proofs.Common.{◌≡◌, ◌∙◌, None, ap, is_some, sym}
 use Rattle.desk_send.specs.Body.{task_body}
 use Rattle.desk_send.proofs.TextsThere.{texts_there}
 use Rattle.desk_send.proofs.body.command_body.Goals as goal

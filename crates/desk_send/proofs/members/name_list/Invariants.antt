@@ -1,6 +1,4 @@
-use Rattle.std.proofs.Common.{◌≡◌, ◌++◌, length, map}
-use Rattle.std.specs.Option.{option_map}
-use Rattle.serde_json.specs.View.{view}
+use Rattle.desk_send.proofs.Common.{◌≡◌, ◌++◌, length, map, option_map, view}
 use Rattle.office_fields.specs.declared.field.FieldKind.TheVariants as kind
 use Rattle.desk_send.specs.Json.{data_list, data_of}
 use Rattle.desk_send.proofs.members.name_list.Given as goal

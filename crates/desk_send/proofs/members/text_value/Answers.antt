@@ -1,6 +1,4 @@
-use Rattle.std.proofs.Common.{◌∙◌, ap}
-use Rattle.serde_json.specs.Data.{string}
-use Rattle.serde_json.specs.View.{view}
+use Rattle.desk_send.proofs.Common.{◌∙◌, ap, string, view}
 use Rattle.desk_send.proofs.Lists.{a_text, no_text}
 use Rattle.desk_send.proofs.members.text_value.Goals as goal
 

@@ -1,6 +1,4 @@
-use Rattle.std.proofs.Common.{◌≡◌, ◌++◌, length, map}
-use Rattle.std.specs.Option.{option_map}
-use Rattle.serde_json.specs.View.{view}
+use Rattle.desk_send.proofs.Common.{◌≡◌, ◌++◌, length, map, option_map, view}
 use Rattle.desk_send.specs.Json.{data_list, part_data}
 use Rattle.desk_send.proofs.objects.part_list.Given as goal
 

@@ -1,4 +1,4 @@
-use Rattle.serde_json.specs.View.{view}
+use Rattle.desk_send.proofs.Common.{view}
 use Rattle.desk_send.proofs.ObjectTexts.{if_read}
 use Rattle.desk_send.proofs.objects.value_text.Goals as goal
 

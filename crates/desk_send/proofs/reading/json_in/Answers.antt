@@ -1,7 +1,5 @@
-use Rattle.std.proofs.Common.{◌≡◌, Some}
-use Rattle.serde_json.specs.Read.{read}
-use Rattle.serde_json.specs.View.{view}
-use Rattle.desk_call.proofs.Texts.{is_json, no_json}
+use Rattle.desk_send.proofs.Common.{◌≡◌, Some, read, view, is_json}
+use Rattle.desk_call.proofs.Texts.{no_json}
 use Rattle.desk_send.proofs.reading.json_in.Goals as goal
 
 pub returns-in_default : goal.returns-in_default

@@ -1,6 +1,4 @@
-use Rattle.std.proofs.Common.{◌≡◌, ◌++◌, length}
-use Rattle.std.specs.Option.{option_map}
-use Rattle.serde_json.specs.View.{items_view}
+use Rattle.desk_send.proofs.Common.{◌≡◌, ◌++◌, length, option_map, items_view}
 use Rattle.desk_send.specs.Answer.{parts_in}
 use Rattle.desk_send.proofs.reading.parts_in.Given as goal
 

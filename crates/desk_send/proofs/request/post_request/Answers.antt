@@ -1,5 +1,4 @@
-use Rattle.std.proofs.Common.{◌≡◌, ◌≤◌, Some, sym, arith, length}
-use Rattle.desk_head.specs.Limits.{body_limit}
+use Rattle.desk_send.proofs.Common.{◌≡◌, ◌≤◌, Some, sym, arith, length, body_limit}
 use Rattle.desk_send.specs.Body.{body_of}
 use Rattle.desk_send.specs.Request.{request_bytes}
 use Rattle.desk_send.specs.Target.{target_of}

@@ -1,4 +1,4 @@
-use Rattle.std.proofs.Common.{arith, refl}
+use Rattle.desk_send.proofs.Common.{arith, refl}
 use Rattle.desk_send.proofs.RequestsBack.{first_unsent, sent_more}
 use Rattle.desk_send.proofs.request.post_requests.Goals as goal
 

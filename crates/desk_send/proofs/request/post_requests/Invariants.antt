@@ -1,5 +1,4 @@
-use Rattle.std.proofs.Common.{◌≤◌, length, take}
-use Rattle.std.specs.List.{AllZip}
+use Rattle.desk_send.proofs.Common.{◌≤◌, length, take, AllZip}
 use Rattle.desk_send.specs.Request.{IsSentAs}
 use Rattle.desk_send.proofs.request.post_requests.Given as goal
 

@@ -1,6 +1,7 @@
-use Rattle.std.proofs.Common.{◌<◌, ◌-◌, arith}
-use Rattle.desk_send.proofs.Trying.{none_left, still_on, tried_again, tried_in_vain}
-use Rattle.desk_send.proofs.Trying.{tried_out_of_memory, tried_to_an_answer}
+use Rattle.desk_send.proofs.Common.{◌<◌, arith}
+use Rattle.std.proofs.Common.{◌-◌}
+use Rattle.desk_send.proofs.Trying.{none_left, still_on, tried_again, tried_in_vain, tried_out_of_memory}
+use Rattle.desk_send.proofs.Trying.{tried_to_an_answer}
 use Rattle.desk_send.proofs.sending.reply_to.Goals as goal
 
 pub loop-left-preserved : goal.loop-left-preserved

@@ -1,4 +1,4 @@
-use Rattle.std.proofs.Common.{◌≤◌}
+use Rattle.desk_send.proofs.Common.{◌≤◌}
 use Rattle.desk_send.specs.Desks.{AreStill}
 use Rattle.desk_send.proofs.Trying.{SoFar}
 use Rattle.desk_send.proofs.sending.reply_to.Given as goal

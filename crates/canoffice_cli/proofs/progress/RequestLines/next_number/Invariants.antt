@@ -1,4 +1,5 @@
-use Rattle.std.proofs.Common.{◌≡◌, ◌+◌, ◌≤◌, ◌<◌, ◌^◌, length}
+use Rattle.canoffice_cli.proofs.Common.{◌≡◌, ◌+◌, ◌≤◌, ◌<◌, length}
+use Rattle.std.proofs.Common.{◌^◌}
 use Rattle.canoffice_cli.specs.Numbers.{numbers_left}
 use Rattle.canoffice_cli.proofs.progress.RequestLines.next_number.Given as goal
 

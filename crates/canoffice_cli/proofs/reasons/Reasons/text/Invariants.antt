@@ -1,5 +1,4 @@
-use Rattle.std.proofs.Common.{◌≡◌, ◌++◌, drop}
-use Rattle.std.specs.List.{flat_map}
+use Rattle.canoffice_cli.proofs.Common.{◌≡◌, ◌++◌, drop, flat_map}
 use Rattle.canoffice_cli.specs.Reasons.{reason_line}
 use Rattle.canoffice_cli.proofs.reasons.Reasons.text.Given as goal
 

@@ -1,6 +1,4 @@
-use Rattle.std.proofs.Common.{◌≡◌, Bool, true, false, Option, refl, subst}
-use Rattle.sqlite.specs.Held.{Held}
-use Rattle.sqlite_trees.specs.declared.memory.MemStore.{MemStore}
+use Rattle.canoffice_cli.proofs.Common.{◌≡◌, Bool, true, false, Option, refl, subst, Held, MemStore}
 use Rattle.canoffice_cli.specs.Databases.{HoldsInSomeForm, known_of}
 use Rattle.canoffice_cli.proofs.Opened.{no_office_is_new, some_form}
 use Rattle.canoffice_cli.proofs.databases.memory.MemoryDatabase.is_new.Goals as goal

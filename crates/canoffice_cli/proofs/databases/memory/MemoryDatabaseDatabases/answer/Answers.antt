@@ -1,10 +1,6 @@
-use Rattle.std.proofs.Common.{[], Some, inl, inr, sym, ap, subst, ◌∙◌}
+use Rattle.canoffice_cli.proofs.Common.{[], Some, inl, inr, sym, ap, subst, ◌∙◌, Holding, Memory, state, over_memory}
 use Rattle.canoffice_cli.specs.Answered.{InDatabase, answered_with}
 use Rattle.canoffice_cli.specs.Databases.{known_of}
-use Rattle.store.specs.Holding.{Holding}
-use Rattle.store.specs.declared.lost.Lost.TheVariants.{Memory}
-use Rattle.sqlite.specs.Held.{state}
-use Rattle.sqlite.specs.Steps.{over_memory}
 use Rattle.canoffice_cli.proofs.Opened.{closed_in_memory, err_of, if_err, if_ok, none_answered, none_reported, ok_of}
 use Rattle.canoffice_cli.proofs.Opened.{reported_in, unanswered_in}
 use Rattle.canoffice_cli.proofs.Reported.{reported_none}

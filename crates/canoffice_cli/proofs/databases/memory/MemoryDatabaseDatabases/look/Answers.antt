@@ -1,4 +1,5 @@
-use Rattle.std.proofs.Common.{Some, sym, true≢false, ◌∙◌}
+use Rattle.canoffice_cli.proofs.Common.{Some, sym, ◌∙◌}
+use Rattle.std.proofs.Common.{true≢false}
 use Rattle.store.specs.Looking.{bytes_of}
 use Rattle.canoffice_cli.specs.Databases.{known_of}
 use Rattle.canoffice_cli.proofs.Opened.{closed_in_memory, looked, none_looked_up}

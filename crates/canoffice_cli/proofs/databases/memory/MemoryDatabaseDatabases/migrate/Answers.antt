@@ -1,4 +1,4 @@
-use Rattle.std.proofs.Common.{Some}
+use Rattle.canoffice_cli.proofs.Common.{Some}
 use Rattle.canoffice_cli.specs.Databases.{known_of}
 use Rattle.canoffice_cli.proofs.Opened.{closed_in_memory, migrated_at}
 use Rattle.canoffice_cli.proofs.databases.memory.MemoryDatabaseDatabases.migrate.Goals as goal

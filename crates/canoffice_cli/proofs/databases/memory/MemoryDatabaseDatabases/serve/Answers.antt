@@ -1,4 +1,4 @@
-use Rattle.std.proofs.Common.{[], inr, refl, sym, subst, zero-le, append-nil}
+use Rattle.canoffice_cli.proofs.Common.{[], inr, refl, sym, subst, zero-le, append-nil}
 use Rattle.canoffice_cli.specs.Databases.{known_of}
 use Rattle.canoffice_cli.proofs.databases.memory.MemoryDatabaseDatabases.serve.Goals as goal
 

@@ -1,9 +1,9 @@
 -- What a function on a transaction keeps, whatever else it does: one record for each kind of function. After them,
 -- words for what else it does. A transaction is its connection's: `conn`.
-use Rattle.std.specs.Prelude.{◌≡◌, ℕ, IfOk, OnOk, Result}
+use Rattle.std.specs.Prelude.{◌≡◌, OnOk, Result}
 use Rattle.sqlite.specs.Held.{state}
 use Rattle.sqlite.specs.Schema.{Schema}
-use Rattle.sqlite.specs.State.{HasCleanDisk, State}
+use Rattle.sqlite.specs.State.{HasCleanDisk}
 use Rattle.sqlite.specs.declared.transaction.Transaction.{Transaction}
 use Rattle.sqlite.specs.Tree.{Trees}
 use Rattle.sqlite_trees.specs.declared.store.Store.{Ghosts}
@@ -11,7 +11,7 @@ use Rattle.store_tables.specs.Statements.{AddsNoCommit, ChangesNothing, CommitsN
 use Rattle.store_tables.specs.Statements.{KeepsSchema, KeepsStatistics, LeavesNothing, MakesTables, StaysInside}
 use Rattle.store_tables.specs.Statements.{StaysOffice, StaysSame, Writes}
 use Rattle.store_tables.specs.Statements.{AreMade, Grows, HasNoTable, IsEmptyOffice, IsOfficeWith}
-use Rattle.store_tables.specs.Tables.{Tables}
+use Rattle.store_tables.specs.Tables.{IsEmptyWith, Tables}
 
 -- it only reads: if it succeeds, it leaves everything as it is
 pub record ReadsOnly {S X E : Type 0} (g : Ghosts S) (old new : Transaction S) (result : Result X E) : Type 0 where
@@ -110,11 +110,11 @@ abbrev pub MakesOffice : {S X E : Type 0} → (g : Ghosts S) → Transaction S �
 MakesOffice g old new result = HasCleanDisk (state g new.conn.now) → HasNoTable (state g old.conn.now)
     → OnOk result (IsEmptyOffice (state g new.conn.now))
 
--- where those of a schema were just made, if it succeeds, it makes those of a schema with more, with no row
+-- where those of a schema have no row, if it succeeds, it makes those of a schema with more, with no row
 abbrev pub MakesNext : {S X E : Type 0} → (g : Ghosts S) → Transaction S → Transaction S → Result X E
     → Schema → Schema → Type 0
-MakesNext g old new result before after = HasCleanDisk (state g new.conn.now) → AreMade before (state g old.conn.now)
-    → OnOk result (AreMade after (state g new.conn.now))
+MakesNext g old new result before after = HasCleanDisk (state g new.conn.now)
+    → IsEmptyWith before (state g old.conn.now).now → OnOk result (AreMade after (state g new.conn.now))
 
 -- where there are those of a schema, with whatever rows, if it succeeds, it makes those of a schema with more, and no
 -- row changes
@@ -129,9 +129,3 @@ abbrev pub Extends : {S X E : Type 0} → (g : Ghosts S) → Transaction S → T
     → Schema → Schema → Type 0
 Extends g old new result before after = HasCleanDisk (state g new.conn.now) → (state g old.conn.now).now.schema ≡ before
     → OnOk result ((state g new.conn.now).now.schema ≡ after)
-
--- where this holds before it, if it succeeds, its answer is 0: no row was written
-abbrev pub WritesNoRow : {S E : Type 0} → (g : Ghosts S) → Transaction S → Transaction S → Result ℕ E
-    → (State → Type 0) → Type 0
-WritesNoRow g old new result IsBefore =
-    HasCleanDisk (state g new.conn.now) → IsBefore (state g old.conn.now) → IfOk result (λ rows. rows ≡ 0)

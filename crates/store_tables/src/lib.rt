@@ -25,9 +25,5 @@ mod office_table;
 mod opening;
 
 pub use comparing::is_begun;
-pub use creating::{
-    create_approval, create_block, create_frozen, create_held, create_message, create_msg,
-    create_net, create_part, create_profile, create_receiver, create_reply, create_sig,
-    create_sigvalue, create_spn, make_live_tables, make_tables,
-};
+pub use creating::{create_part, make_live_tables, make_tables};
 pub use opening::{is_new, knows_none, knows_schema, knows_tables};

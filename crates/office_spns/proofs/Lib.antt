@@ -1,3 +1,4 @@
+pub mod OfNumber
 pub mod SpnPlaces
 pub mod LastPlaces
 mod SpnRows

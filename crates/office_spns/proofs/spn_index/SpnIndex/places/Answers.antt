@@ -1,9 +1,9 @@
 use Rattle.std.proofs.Common.{◌≡◌, ℕ, ◌+◌, ◌-◌, ◌≤◌, List, length, take, drop, ap, sym, ◌∙◌, subst, arith}
 use Rattle.std.proofs.Math.Seq.{take-length}
 use Rattle.std.proofs.lemmas.List.{length-drop}
-use Rattle.office_spns.specs.SpnIndex.{AreBelow}
+use Rattle.office_spns.specs.SpnIndex.{AreBelow, spn_at}
 use Rattle.office_spns.specs.Spns.{Place, places}
-use Rattle.office_spns.proofs.SpnPlaces.{between}
+use Rattle.office_spns.proofs.OfNumber.{between}
 use Rattle.office_spns.proofs.spn_index.SpnIndex.places.Goals as goal
 
 pub returns : goal.returns
@@ -24,5 +24,5 @@ returns c =
     let last : AreBelow (n + 1) rest c.count_below-count.result =
     subst (λ (m : ℕ). AreBelow (m + 1) rest c.count_below-count.result) c.from-2.ensures
     c.count_below-count.ensures.below in
-    between n all rest i c.count_below-count.result short is first last c.count_below-count.ensures.bound
+    between spn_at n all rest i c.count_below-count.result short is first last c.count_below-count.ensures.bound
     ∙ c.self.invariant.of_number n ∙ ap (places n) c.self.view_is

@@ -1,8 +1,8 @@
 use Rattle.page_numbers.proofs.Common.{◌≡◌, ℕ, ◌+◌, ◌-◌, ◌≤◌, List, length, take, drop, map, ap, sym, ◌∙◌, subst, arith}
 use Rattle.page_numbers.proofs.Common.{length-drop}
 use Rattle.std.proofs.Math.Seq.{take-length}
-use Rattle.page_numbers.specs.Index.{AreBelow, Indexed, Numbered, live_at, message_at}
-use Rattle.page_numbers.proofs.Places.{between}
+use Rattle.page_numbers.specs.Index.{AreBelow, Indexed, Numbered, live_at, message_at, number_at}
+use Rattle.office_spns.proofs.OfNumber.{between}
 use Rattle.page_numbers.proofs.index.LiveIndex.places.Goals as goal
 
 pub returns : goal.returns
@@ -24,5 +24,5 @@ returns c =
     subst (λ (m : ℕ). AreBelow (m + 1) rest c.count_below-count.result) c.from-2.ensures
     c.count_below-count.ensures.below in
     ap (map message_at)
-    (between n all rest i c.count_below-count.result short is first last c.count_below-count.ensures.bound)
+    (between number_at n all rest i c.count_below-count.result short is first last c.count_below-count.ensures.bound)
     ∙ c.self.invariant.of_number n ∙ ap (λ (x : Indexed). live_at x.messages x.form n) c.self.view_is

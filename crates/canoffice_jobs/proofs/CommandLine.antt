@@ -13,8 +13,8 @@ use Rattle.clap.specs.Words.{Rule, Shape, subcommand_name_of, subcommand_rows_of
 use Rattle.clap.specs.Words.{raw_values, fault_of, is_simple_and_free}
 use Rattle.clap.specs.declared.error.kind.ErrorKind.{ErrorKind}
 use Rattle.clap.specs.declared.error.kind.ErrorKind.TheVariants.{OutOfMemory, ValueValidation}
-use Rattle.canoffice_jobs.specs.CommandLine.{HasRequired, HasSome, HasValueFault, IsEntered, IsFaultOfKind, IsJobFault}
-use Rattle.canoffice_jobs.specs.CommandLine.{IsWhole, are_absent, are_files, is_set, line_faults}
+use Rattle.canoffice_jobs.specs.CommandLine.{HasRequired, HasSome, HasValueFault, IsEnteredAs, IsFaultOfKind}
+use Rattle.canoffice_jobs.specs.CommandLine.{IsJobFault, IsWhole, are_absent, are_files, is_set, line_faults}
 use Rattle.canoffice_jobs.specs.Subcommands.{canoffice_app}
 use Rattle.canoffice_jobs.specs.declared.job.JobFault.{JobFault}
 use Rattle.canoffice_jobs.specs.declared.job.JobFault.TheVariants.{Help, Usage, Memory}
@@ -80,18 +80,14 @@ line_fault_of words kind (Usage text) (inl memory) is = absurd (is.2 memory)
 line_fault_of words kind (Usage text) (inr among) is = inl (kind, is.0, is.1, among)
 line_fault_of words kind Memory has is = tt
 
-abbrev pub is_memory : ValueFault → Bool
-is_memory value.Memory = true
-is_memory v = false
-
 -- a fault of the values of the subcommand that was entered is one that the words have
 pub value_fault_of : (words : List Text) (found : ValueFault) (fault : JobFault) → HasValueFault words found
-    → is_memory found ≡ false → IsFaultOfKind ValueValidation fault → IsJobFault words fault
-value_fault_of words found (Help text) has other (inl help) = cc
-value_fault_of words found (Help text) has other (inr version) = cc
-value_fault_of words found (Usage text) has other is =
-    inr (found, (λ same. absurd (true≢false (sym (ap is_memory same) ∙ other))), has)
-value_fault_of words found Memory has other is = tt
+    → (found ≡ value.Memory → fault ≡ Memory) → IsFaultOfKind ValueValidation fault → IsJobFault words fault
+value_fault_of words found (Help text) has memory (inl help) = cc
+value_fault_of words found (Help text) has memory (inr version) = cc
+value_fault_of words found (Usage text) has memory is =
+    inr (found, (λ same. let bad : Usage text ≡ Memory = memory same in cc), has)
+value_fault_of words found Memory has memory is = tt
 
 is_simple_line : is_simple_and_free canoffice_app ≡ true
 is_simple_line = refl
@@ -106,19 +102,6 @@ line_fault_by app words kind fault same kinds is =
     line_fault_of words kind fault (known is_simple_line) is
 
 -- ---- what is there where clap finds no fault
-
--- an argument that has a value is given by its getter
-pub text_is_given : (f : Found) (id : Text) (r : Option (Bor Text)) → option_map (λ s. s.now) r ≡ first_value f id
-    → HasSome (rows_of f) id → IsSome r
-text_is_given f id None is h = let bad : None ≡ Some h.0 = is ∙ first_value-rows f id ∙ h.2 in cc
-text_is_given f id (Some text) is h = refl
-
--- and so are all its values
-pub texts_are_given : (f : Found) (id : Text) (r : Option (Bor (List (Bor Text))))
-    → option_map (λ s. map (λ v. v.now) s.now) r ≡ option_map raw_values (matched_of f id)
-    → HasSome (rows_of f) id → IsSome r
-texts_are_given f id None is h = let bad : None ≡ Some (h.0 ∷ h.1) = is ∙ raw_values-rows f id ∙ h.3 in cc
-texts_are_given f id (Some texts) is h = refl
 
 -- whether the program's subcommand of this name requires the argument
 abbrev pub requires : Text → Text → Bool
@@ -147,11 +130,29 @@ required_of : (o : Option Shape) (rows : List Row) (id : Text) → IsWhole o row
 required_of None rows id whole e = absurd whole
 required_of (Some s) rows id whole e = required_among s.rules rows id whole e
 
--- the subcommand that was entered has the arguments that the program's own of that name requires
-pub entered_has : (m : ArgMatches) (name : Text) (rows : List Row) (known id : Text) → requires known id ≡ true
-    → Some name ≡ subcommand_name_of m → Some rows ≡ option_map (λ p. p.1) (subcommand_rows_of m)
-    → bytes_eq name known ≡ true → IsEntered (subcommand_rows_of m) → HasSome rows id
-entered_has m name rows known id needs a b same entered =
-    let by_name : IsEntered (Some (name, rows)) = subst IsEntered (found_pair m name rows a b) entered in
-    required_of (find (λ s. bytes_eq known s.name) canoffice_app.subs) rows id
-    (subst (λ n. IsEntered (Some (n, rows))) ((bytes_eq-Decides name known).0 same) by_name) needs
+-- a name that is entered is known by its letters
+pub entered_by : (name known : Text) (rows : List Row) → bytes_eq name known ≡ true → IsEnteredAs name rows
+    → IsEnteredAs known rows
+entered_by name known rows same = subst (λ n. IsEnteredAs n rows) ((bytes_eq-Decides name known).0 same)
+
+-- it has the arguments that it requires
+entered_has : (known : Text) (rows : List Row) (id : Text) → IsEnteredAs known rows → requires known id ≡ true
+    → HasSome rows id
+entered_has known rows id = required_of (find (λ s. bytes_eq known s.name) canoffice_app.subs) rows id
+
+-- so the getter of such an argument gives its value
+pub required_is_given : (f : Found) (known id : Text) (r : Option (Bor Text)) → IsEnteredAs known (rows_of f)
+    → option_map (λ s. s.now) r ≡ first_value f id → requires known id ≡ true → IsSome r
+required_is_given f known id (Some text) whole is needs = refl
+required_is_given f known id None whole is needs =
+    let h = entered_has known (rows_of f) id whole needs in
+    let bad : None ≡ Some h.0 = is ∙ first_value-rows f id ∙ h.2 in cc
+
+-- and all its values
+pub required_are_given : (f : Found) (known id : Text) (r : Option (Bor (List (Bor Text)))) → IsEnteredAs known (rows_of f)
+    → option_map (λ s. map (λ v. v.now) s.now) r ≡ option_map raw_values (matched_of f id)
+    → requires known id ≡ true → IsSome r
+required_are_given f known id (Some texts) whole is needs = refl
+required_are_given f known id None whole is needs =
+    let h = entered_has known (rows_of f) id whole needs in
+    let bad : None ≡ Some (h.0 ∷ h.1) = is ∙ raw_values-rows f id ∙ h.3 in cc

@@ -172,10 +172,14 @@ abbrev pub IsWhole : Option Shape → List Row → Type 0
 IsWhole None rows = ⊥
 IsWhole (Some s) rows = HasRequired s.rules rows
 
--- one of the subcommands was entered, with all its required arguments
+-- the subcommand of this name was entered, with all its required arguments
+abbrev pub IsEnteredAs : Text → List Row → Type 0
+IsEnteredAs name rows = IsWhole (find (λ s. bytes_eq name s.name) canoffice_app.subs) rows
+
+-- one of the subcommands was
 abbrev pub IsEntered : Option (Text × List Row) → Type 0
 IsEntered None = ⊥
-IsEntered (Some found) = IsWhole (find (λ s. bytes_eq found.0 s.name) canoffice_app.subs) found.1
+IsEntered (Some found) = IsEnteredAs found.0 found.1
 
 -- ---- the fault of words that request no job
 

@@ -2,9 +2,11 @@
 ghost use Rattle.std.specs.Prelude.{◌≡◌, IfOk, IfErr, None, Some, map, option_and_then, codes};
 ghost use Rattle.std.specs.Option.{option_map};
 ghost use Rattle.clap.specs.Words.{first_of, found_of, kind_of, rows_of, subcommand_rows_of};
-ghost use Rattle.canoffice_jobs.specs.CommandLine.{HasSome, IsEntered, IsJob, IsJobIn, IsJobOf, IsFaultOfKind};
+ghost use Rattle.canoffice_jobs.specs.CommandLine.{IsEntered, IsEnteredAs, IsJob, IsJobIn, IsJobOf, IsFaultOfKind};
 ghost use Rattle.canoffice_jobs.specs.CommandLine.{IsJobFault, IsValueFault, IsValueFaultIn, are_absent, are_files, are_input};
 ghost use Rattle.canoffice_jobs.specs.CommandLine.{is_set, manner_in};
+ghost use Rattle.canoffice_jobs.specs.declared.job.JobFault.TheVariants.{Memory};
+ghost use Rattle.canoffice_jobs.specs.declared.job.ValueFault.TheVariants.{Memory as NoMemory};
 ghost use Rattle.dbc_lint.specs.Kind.{first_unknown};
 
 use crate::command_line::canoffice_command;
@@ -209,12 +211,7 @@ pub fn job_of<'a>(alloc: Global, words: &'a [&'a str]) -> Result<Job<'a>, JobFau
     match command.try_get_matches_from(words) {
         Ok(matches) => match job_in(alloc, &matches) {
             Ok(job) => Ok(job),
-            Err(ValueFault::WrongNumber(number, word)) => Err(wrong_number(alloc, number, word)),
-            Err(ValueFault::WrongPlace(command, fault)) => Err(wrong_place(alloc, command, fault)),
-            Err(ValueFault::WrongWhat(fault)) => Err(wrong_what(alloc, fault)),
-            Err(ValueFault::UnknownRemark(word)) => Err(unknown_remark(alloc, word)),
-            Err(ValueFault::InputTwice) => Err(input_twice(alloc)),
-            Err(ValueFault::Memory) => Err(JobFault::Memory),
+            Err(fault) => Err(value_fault(alloc, fault)),
         },
         Err(error) => Err(line_fault(alloc, &error)),
     }
@@ -231,54 +228,32 @@ pub fn not_utf8_fault(alloc: Global) -> JobFault
     }
 }
 
-/// The fault that the word gives no such number, in its range: `Usage`, that of the number's subcommand, unless memory
-/// runs out.
-fn wrong_number(alloc: Global, number: Number, word: &str) -> JobFault
-    ensures { IsFaultOfKind ErrorKind.ValueValidation result }
+/// The fault for that of the values: `Usage`, with what is wrong and the usage of the subcommand, unless memory runs
+/// out, or did.
+fn value_fault(alloc: Global, fault: ValueFault<'_>) -> JobFault
+    ensures usage { IsFaultOfKind ErrorKind.ValueValidation result }
+    ensures memory { fault.entry ≡ NoMemory → result ≡ Memory }
 {
-    match number.refusal(alloc, word) {
-        Ok(message) => fault_of(alloc, &number.subcommand(), &message),
+    let (subcommand, message) = match fault {
+        ValueFault::WrongNumber(number, word) => (number.subcommand(), number.refusal(alloc, word)),
+        ValueFault::WrongPlace(command, fault) => (command.subcommand(), fault.message(alloc)),
+        ValueFault::WrongWhat(fault) => (SHOW, fault.message(alloc)),
+        ValueFault::UnknownRemark(word) => (CHECK, remark_refusal(alloc, word)),
+        ValueFault::InputTwice => (COMPARE, input_twice(alloc)),
+        ValueFault::Memory => return JobFault::Memory,
+    };
+    match message {
+        Ok(message) => fault_of(alloc, &subcommand, &message),
         Err(AllocError) => JobFault::Memory,
     }
 }
 
-/// The fault that the values of `--db` and `--port` name no place: `Usage`, that of the subcommand, unless memory runs
-/// out.
-fn wrong_place(alloc: Global, command: LookCommand, fault: PlaceFault<'_>) -> JobFault
-    ensures { IsFaultOfKind ErrorKind.ValueValidation result }
-{
-    match fault.message(alloc) {
-        Ok(message) => fault_of(alloc, &command.subcommand(), &message),
-        Err(AllocError) => JobFault::Memory,
-    }
-}
-
-/// The fault that nothing is shown by the words of `show`: `Usage`, unless memory runs out.
-fn wrong_what(alloc: Global, fault: WhatFault<'_>) -> JobFault
-    ensures { IsFaultOfKind ErrorKind.ValueValidation result }
-{
-    match fault.message(alloc) {
-        Ok(message) => fault_of(alloc, &SHOW, &message),
-        Err(AllocError) => JobFault::Memory,
-    }
-}
-
-/// The fault that no kind of remark has the name: `Usage`, unless memory runs out.
-fn unknown_remark(alloc: Global, word: &str) -> JobFault
-    ensures { IsFaultOfKind ErrorKind.ValueValidation result }
-{
-    match remark_refusal(alloc, word) {
-        Ok(message) => fault_of(alloc, &CHECK, &message),
-        Err(AllocError) => JobFault::Memory,
-    }
-}
-
-/// The fault that both files that are compared are standard input, which is read once: `Usage`, unless memory runs out.
-fn input_twice(alloc: Global) -> JobFault
-    ensures { IsFaultOfKind ErrorKind.ValueValidation result }
-{
-    let message = "invalid value '-' for '<B>': standard input is read once";
-    fault_of(alloc, &COMPARE, message)
+/// That both files that are compared are standard input, which is read once.
+fn input_twice(alloc: Global) -> Result<String, AllocError> {
+    String::from_str(
+        alloc,
+        "invalid value '-' for '<B>': standard input is read once",
+    )
 }
 
 /// The fault that a word of the subcommand isn't as it must be, with the subcommand's usage.
@@ -335,6 +310,20 @@ fn job_in<'a>(alloc: Global, matches: &ArgMatches<'a>) -> Result<Job<'a>, ValueF
     let Some((name, found)) = matches.subcommand() else {
         unreachable!("clap wants a subcommand")
     };
+    job_named(alloc, name, found)
+}
+
+/// The job of the subcommand of this name, with these values. The error is that of [`job_in`].
+#[tactic(auto, using(crate::proofs::CommandLine::entered_by))]
+fn job_named<'a>(
+    alloc: Global,
+    name: &str,
+    found: &ArgMatches<'a>,
+) -> Result<Job<'a>, ValueFault<'a>>
+    requires { IsEnteredAs name.now (rows_of (found_of found.now)) }
+    ensures job { IfOk result (λ job. IsJobOf job name.now (rows_of (found_of found.now))) }
+    ensures fault { IfErr result (IsValueFault name.now (rows_of (found_of found.now))) }
+{
     if name == "apply" {
         return Ok(apply_job(found));
     }
@@ -398,9 +387,9 @@ fn manner_given(found: &ArgMatches) -> Manner
 }
 
 /// `apply [--db FILE] [--explain] [--strict] [--echo] SCRIPT`
-#[tactic(auto, using(crate::proofs::CommandLine::value_in_rows, crate::proofs::CommandLine::optional_in_rows, crate::proofs::CommandLine::text_is_given))]
+#[tactic(auto, using(crate::proofs::CommandLine::value_in_rows, crate::proofs::CommandLine::optional_in_rows, crate::proofs::CommandLine::required_is_given))]
 fn apply_job<'a>(found: &ArgMatches<'a>) -> Job<'a>
-    requires { HasSome (rows_of (found_of found.now)) (codes "SCRIPT") }
+    requires { IsEnteredAs (codes "apply") (rows_of (found_of found.now)) }
     ensures { IsJobOf result (codes "apply") (rows_of (found_of found.now)) }
 {
     let database = found.get_str("db");
@@ -416,10 +405,9 @@ fn apply_job<'a>(found: &ArgMatches<'a>) -> Job<'a>
 }
 
 /// `chart LENGTH SIGNAL..`
-#[tactic(auto, using(crate::proofs::CommandLine::optional_in_rows, crate::proofs::CommandLine::text_is_given, crate::proofs::CommandLine::texts_are_given))]
+#[tactic(auto, using(crate::proofs::CommandLine::optional_in_rows, crate::proofs::CommandLine::required_is_given, crate::proofs::CommandLine::required_are_given))]
 fn chart_job<'a>(alloc: Global, found: &ArgMatches<'a>) -> Result<Job<'a>, ValueFault<'a>>
-    requires length { HasSome (rows_of (found_of found.now)) (codes "LENGTH") }
-    requires signals { HasSome (rows_of (found_of found.now)) (codes "SIGNAL") }
+    requires { IsEnteredAs (codes "chart") (rows_of (found_of found.now)) }
     ensures job { IfOk result (λ job. IsJobOf job (codes "chart") (rows_of (found_of found.now))) }
     ensures fault { IfErr result (IsValueFault (codes "chart") (rows_of (found_of found.now))) }
 {
@@ -452,9 +440,9 @@ fn lint_given(names: Option<&str>) -> Result<Option<&str>, &str>
 }
 
 /// `check [--explain] [--json] [--lint[=NAME,..]] FILE`
-#[tactic(auto, using(crate::proofs::CommandLine::value_in_rows, crate::proofs::CommandLine::optional_in_rows, crate::proofs::CommandLine::text_is_given))]
+#[tactic(auto, using(crate::proofs::CommandLine::value_in_rows, crate::proofs::CommandLine::optional_in_rows, crate::proofs::CommandLine::required_is_given))]
 fn check_job<'a>(found: &ArgMatches<'a>) -> Result<Job<'a>, ValueFault<'a>>
-    requires { HasSome (rows_of (found_of found.now)) (codes "FILE") }
+    requires { IsEnteredAs (codes "check") (rows_of (found_of found.now)) }
     ensures job { IfOk result (λ job. IsJobOf job (codes "check") (rows_of (found_of found.now))) }
     ensures fault { IfErr result (IsValueFault (codes "check") (rows_of (found_of found.now))) }
 {
@@ -506,10 +494,9 @@ fn are_input(old: &str, new: &str) -> bool
 }
 
 /// `compare [--json] A B`, or `compare (--db FILE | --port N) [--json] NET M N`
-#[tactic(auto, using(crate::proofs::CommandLine::value_in_rows, crate::proofs::CommandLine::optional_in_rows, crate::proofs::CommandLine::text_is_given))]
+#[tactic(auto, using(crate::proofs::CommandLine::value_in_rows, crate::proofs::CommandLine::optional_in_rows, crate::proofs::CommandLine::required_is_given))]
 fn compare_job<'a>(found: &ArgMatches<'a>) -> Result<Job<'a>, ValueFault<'a>>
-    requires first { HasSome (rows_of (found_of found.now)) (codes "A") }
-    requires second { HasSome (rows_of (found_of found.now)) (codes "B") }
+    requires { IsEnteredAs (codes "compare") (rows_of (found_of found.now)) }
     ensures job { IfOk result (λ job. IsJobOf job (codes "compare") (rows_of (found_of found.now))) }
     ensures fault { IfErr result (IsValueFault (codes "compare") (rows_of (found_of found.now))) }
 {
@@ -561,11 +548,9 @@ fn extras_given<'a>(found: &ArgMatches<'a>) -> Extras<'a>
 }
 
 /// `export [--keep ORIGINAL] [--j1939] --db FILE NET N`
-#[tactic(auto, using(crate::proofs::CommandLine::value_in_rows, crate::proofs::CommandLine::optional_in_rows, crate::proofs::CommandLine::text_is_given))]
+#[tactic(auto, using(crate::proofs::CommandLine::value_in_rows, crate::proofs::CommandLine::optional_in_rows, crate::proofs::CommandLine::required_is_given))]
 fn export_job<'a>(found: &ArgMatches<'a>) -> Result<Job<'a>, ValueFault<'a>>
-    requires database { HasSome (rows_of (found_of found.now)) (codes "db") }
-    requires net { HasSome (rows_of (found_of found.now)) (codes "NET") }
-    requires number { HasSome (rows_of (found_of found.now)) (codes "N") }
+    requires { IsEnteredAs (codes "export") (rows_of (found_of found.now)) }
     ensures job { IfOk result (λ job. IsJobOf job (codes "export") (rows_of (found_of found.now))) }
     ensures fault { IfErr result (IsValueFault (codes "export") (rows_of (found_of found.now))) }
 {
@@ -585,9 +570,9 @@ fn export_job<'a>(found: &ArgMatches<'a>) -> Result<Job<'a>, ValueFault<'a>>
 }
 
 /// `format [--explain] [--keep] FILE`
-#[tactic(auto, using(crate::proofs::CommandLine::value_in_rows, crate::proofs::CommandLine::text_is_given))]
+#[tactic(auto, using(crate::proofs::CommandLine::value_in_rows, crate::proofs::CommandLine::optional_in_rows, crate::proofs::CommandLine::required_is_given))]
 fn format_job<'a>(found: &ArgMatches<'a>) -> Job<'a>
-    requires { HasSome (rows_of (found_of found.now)) (codes "FILE") }
+    requires { IsEnteredAs (codes "format") (rows_of (found_of found.now)) }
     ensures { IsJobOf result (codes "format") (rows_of (found_of found.now)) }
 {
     let file = found.get_str("FILE").unwrap();
@@ -601,9 +586,9 @@ fn format_job<'a>(found: &ArgMatches<'a>) -> Job<'a>
 }
 
 /// `migrate --db FILE`
-#[tactic(auto, using(crate::proofs::CommandLine::value_in_rows, crate::proofs::CommandLine::text_is_given))]
+#[tactic(auto, using(crate::proofs::CommandLine::value_in_rows, crate::proofs::CommandLine::optional_in_rows, crate::proofs::CommandLine::required_is_given))]
 fn migrate_job<'a>(found: &ArgMatches<'a>) -> Job<'a>
-    requires { HasSome (rows_of (found_of found.now)) (codes "db") }
+    requires { IsEnteredAs (codes "migrate") (rows_of (found_of found.now)) }
     ensures { IsJobOf result (codes "migrate") (rows_of (found_of found.now)) }
 {
     let database = found.get_str("db").unwrap();
@@ -611,9 +596,9 @@ fn migrate_job<'a>(found: &ArgMatches<'a>) -> Job<'a>
 }
 
 /// `page FILE`, or `page (--db FILE | --port N) NET [N]`
-#[tactic(auto, using(crate::proofs::CommandLine::value_in_rows, crate::proofs::CommandLine::optional_in_rows, crate::proofs::CommandLine::text_is_given))]
+#[tactic(auto, using(crate::proofs::CommandLine::value_in_rows, crate::proofs::CommandLine::optional_in_rows, crate::proofs::CommandLine::required_is_given))]
 fn page_job<'a>(found: &ArgMatches<'a>) -> Result<Job<'a>, ValueFault<'a>>
-    requires { HasSome (rows_of (found_of found.now)) (codes "NET") }
+    requires { IsEnteredAs (codes "page") (rows_of (found_of found.now)) }
     ensures job { IfOk result (λ job. IsJobOf job (codes "page") (rows_of (found_of found.now))) }
     ensures fault { IfErr result (IsValueFault (codes "page") (rows_of (found_of found.now))) }
 {
@@ -632,9 +617,9 @@ fn page_job<'a>(found: &ArgMatches<'a>) -> Result<Job<'a>, ValueFault<'a>>
 }
 
 /// `requests (--db FILE | --port N) [--json] TEAM`
-#[tactic(auto, using(crate::proofs::CommandLine::value_in_rows, crate::proofs::CommandLine::optional_in_rows, crate::proofs::CommandLine::text_is_given))]
+#[tactic(auto, using(crate::proofs::CommandLine::value_in_rows, crate::proofs::CommandLine::optional_in_rows, crate::proofs::CommandLine::required_is_given))]
 fn requests_job<'a>(found: &ArgMatches<'a>) -> Result<Job<'a>, ValueFault<'a>>
-    requires { HasSome (rows_of (found_of found.now)) (codes "TEAM") }
+    requires { IsEnteredAs (codes "requests") (rows_of (found_of found.now)) }
     ensures job { IfOk result (λ job. IsJobOf job (codes "requests") (rows_of (found_of found.now))) }
     ensures fault { IfErr result (IsValueFault (codes "requests") (rows_of (found_of found.now))) }
 {
@@ -647,9 +632,9 @@ fn requests_job<'a>(found: &ArgMatches<'a>) -> Result<Job<'a>, ValueFault<'a>>
 }
 
 /// `send [--port N] [--tries N] [--strict] [--echo] SCRIPT`
-#[tactic(auto, using(crate::proofs::CommandLine::value_in_rows, crate::proofs::CommandLine::optional_in_rows, crate::proofs::CommandLine::text_is_given))]
+#[tactic(auto, using(crate::proofs::CommandLine::value_in_rows, crate::proofs::CommandLine::optional_in_rows, crate::proofs::CommandLine::required_is_given))]
 fn send_job<'a>(found: &ArgMatches<'a>) -> Result<Job<'a>, ValueFault<'a>>
-    requires { HasSome (rows_of (found_of found.now)) (codes "SCRIPT") }
+    requires { IsEnteredAs (codes "send") (rows_of (found_of found.now)) }
     ensures job { IfOk result (λ job. IsJobOf job (codes "send") (rows_of (found_of found.now))) }
     ensures fault { IfErr result (IsValueFault (codes "send") (rows_of (found_of found.now))) }
 {
@@ -673,9 +658,9 @@ fn send_job<'a>(found: &ArgMatches<'a>) -> Result<Job<'a>, ValueFault<'a>>
 }
 
 /// `serve --db FILE [--port N] [--count N] [--explain]`
-#[tactic(auto, using(crate::proofs::CommandLine::value_in_rows, crate::proofs::CommandLine::optional_in_rows, crate::proofs::CommandLine::text_is_given))]
+#[tactic(auto, using(crate::proofs::CommandLine::value_in_rows, crate::proofs::CommandLine::optional_in_rows, crate::proofs::CommandLine::required_is_given))]
 fn serve_job<'a>(found: &ArgMatches<'a>) -> Result<Job<'a>, ValueFault<'a>>
-    requires { HasSome (rows_of (found_of found.now)) (codes "db") }
+    requires { IsEnteredAs (codes "serve") (rows_of (found_of found.now)) }
     ensures job { IfOk result (λ job. IsJobOf job (codes "serve") (rows_of (found_of found.now))) }
     ensures fault { IfErr result (IsValueFault (codes "serve") (rows_of (found_of found.now))) }
 {
@@ -722,9 +707,9 @@ fn show_job<'a>(found: &ArgMatches<'a>) -> Result<Job<'a>, ValueFault<'a>>
 }
 
 /// `table [--json] FILE`
-#[tactic(auto, using(crate::proofs::CommandLine::value_in_rows, crate::proofs::CommandLine::text_is_given))]
+#[tactic(auto, using(crate::proofs::CommandLine::value_in_rows, crate::proofs::CommandLine::optional_in_rows, crate::proofs::CommandLine::required_is_given))]
 fn table_job<'a>(found: &ArgMatches<'a>) -> Job<'a>
-    requires { HasSome (rows_of (found_of found.now)) (codes "FILE") }
+    requires { IsEnteredAs (codes "table") (rows_of (found_of found.now)) }
     ensures { IsJobOf result (codes "table") (rows_of (found_of found.now)) }
 {
     let file = found.get_str("FILE").unwrap();

@@ -16,7 +16,6 @@
 
 mod command_line;
 mod extras;
-mod help;
 mod job;
 mod manner;
 mod meant;

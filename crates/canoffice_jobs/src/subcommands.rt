@@ -6,7 +6,6 @@ ghost use Rattle.clap.specs.Words.{rule_of};
 ghost use Rattle.canoffice_jobs.specs.Built.{IsBuilt};
 ghost use Rattle.canoffice_jobs.specs.Subcommands.{app_with, rule_by};
 
-use crate::help::end_of_help;
 use clap::{Arg, ArgAction, Command};
 use std::alloc::{AllocError, Global};
 
@@ -369,6 +368,173 @@ pub const SUBCOMMANDS: &[&Subcommand] = &[
     &SHOW, &TABLE,
 ];
 
+/// What the help of each ends with: examples, and its exit statuses. They are beside the subcommands, since definitions
+/// cite those and would have each letter of the texts.
+const ENDS: &[(&str, &str)] = &[
+    (
+        "apply",
+        "Examples:\n  \
+         canoffice apply --db office.db script.txt\n  \
+         canoffice apply --strict --echo script.txt\n\
+         \n\
+         Exit status:\n  \
+         0  it ran, whatever was refused\n  \
+         1  with --strict: a command was refused\n  \
+         2  a line of the script is wrong, or the command line is\n  \
+         3  the script can't be read, or the database fails",
+    ),
+    (
+        "chart",
+        "Examples:\n  \
+         canoffice chart 8 Speed=7|16@0 Gear=24|4@1\n  \
+         canoffice chart 8 'Mode=0|4@1,M' 'Torque=8|16@1,m2'\n\
+         \n\
+         Exit status:\n  \
+         0  no two signals share a bit, and each fits\n  \
+         1  there is a clash\n  \
+         2  a signal is no such word, or the command line is wrong",
+    ),
+    (
+        "check",
+        "Examples:\n  \
+         canoffice check network.dbc\n  \
+         canoffice check --explain --lint network.dbc\n\
+         \n\
+         Exit status:\n  \
+         0  the file is clear, and there is no remark\n  \
+         1  a fault, a clash or a remark was found\n  \
+         2  the command line is wrong\n  \
+         3  the file can't be read",
+    ),
+    (
+        "compare",
+        "Examples:\n  \
+         canoffice compare older.dbc newer.dbc\n  \
+         canoffice compare --db office.db truck 1 0\n\
+         \n\
+         Exit status:\n  \
+         0  both are equal\n  \
+         1  there is a difference or a fault, or there is no such release\n  \
+         2  the command line is wrong\n  \
+         3  a file can't be read, or the database or the desk fails",
+    ),
+    (
+        "export",
+        "Examples:\n  \
+         canoffice export --db office.db truck 1\n  \
+         canoffice export --j1939 --keep original.dbc --db office.db truck 0\n\
+         \n\
+         Exit status:\n  \
+         0  it was printed\n  \
+         1  there is no such release, or ORIGINAL has a fault\n  \
+         2  the command line is wrong\n  \
+         3  ORIGINAL can't be read, or the database fails",
+    ),
+    (
+        "format",
+        "Examples:\n  \
+         canoffice format network.dbc\n  \
+         canoffice format --keep network.dbc\n\
+         \n\
+         Exit status:\n  \
+         0  it was printed\n  \
+         1  the file has a fault\n  \
+         2  the command line is wrong\n  \
+         3  the file can't be read",
+    ),
+    (
+        "migrate",
+        "Example:\n  \
+         canoffice migrate --db office.db\n\
+         \n\
+         Exit status:\n  \
+         0  the database is of this version\n  \
+         2  the command line is wrong\n  \
+         3  the database fails",
+    ),
+    (
+        "page",
+        "Examples:\n  \
+         canoffice page network.dbc\n  \
+         canoffice page --db office.db truck 1\n\
+         \n\
+         Exit status:\n  \
+         0  it was printed\n  \
+         1  the file has a fault, or there is no such network or release\n  \
+         2  the command line is wrong\n  \
+         3  the file can't be read, or the database or the desk fails",
+    ),
+    (
+        "requests",
+        "Examples:\n  \
+         canoffice requests --db office.db engine\n  \
+         canoffice requests --port 8089 --json engine\n\
+         \n\
+         Exit status:\n  \
+         0  they were printed\n  \
+         1  there is no such database\n  \
+         2  the command line is wrong\n  \
+         3  the database or the desk fails",
+    ),
+    (
+        "send",
+        "Examples:\n  \
+         canoffice send script.txt\n  \
+         canoffice send --port 8090 --strict --echo script.txt\n\
+         \n\
+         Exit status:\n  \
+         0  all was answered, whatever was refused\n  \
+         1  with --strict: a command was refused\n  \
+         2  a line of the script is wrong, or the command line is\n  \
+         3  the script can't be read, or the desk gives no answer",
+    ),
+    (
+        "serve",
+        "Examples:\n  \
+         canoffice serve --db office.db\n  \
+         canoffice serve --db office.db --port 8090 --explain\n\
+         \n\
+         Exit status:\n  \
+         0  all connections were served\n  \
+         2  the command line is wrong\n  \
+         3  the port can't be listened on, or the database fails",
+    ),
+    (
+        "show",
+        "Examples:\n  \
+         canoffice show --db office.db truck\n  \
+         canoffice show --db office.db truck who 65280\n\
+         \n\
+         Exit status:\n  \
+         0  it was printed\n  \
+         1  there is no such network, message, node, name or number\n  \
+         2  the command line is wrong\n  \
+         3  the database or the desk fails",
+    ),
+    (
+        "table",
+        "Examples:\n  \
+         canoffice table network.dbc\n  \
+         canoffice table --json network.dbc\n\
+         \n\
+         Exit status:\n  \
+         0  it was printed\n  \
+         1  the file has a fault\n  \
+         2  the command line is wrong\n  \
+         3  the file can't be read",
+    ),
+];
+
+/// The text that is beside this name, or none.
+fn beside(name: &str, texts: &[(&str, &'static str)]) -> &'static str {
+    for (other, text) in texts {
+        if *other == name {
+            return text;
+        }
+    }
+    ""
+}
+
 /// The argument, as clap takes it.
 fn clap_argument<'a>(alloc: Global, argument: &Argument) -> Arg<'a>
     ensures rule { rule_of result ≡ rule_by argument.now.1 argument.now.0.now }
@@ -396,7 +562,7 @@ pub(crate) fn clap_command<'a>(
     let (name, about, usage, arguments) = *subcommand;
     let mut command = Command::new(alloc, name)
         .about(about)
-        .after_help(end_of_help(name));
+        .after_help(beside(name, ENDS));
     for argument in arguments {
         command = command.arg(clap_argument(alloc, argument))?;
     }

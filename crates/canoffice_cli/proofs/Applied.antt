@@ -9,7 +9,7 @@ use Rattle.office_script.specs.declared.keys.Dash.TheVariants.{LineNumber}
 use Rattle.office_script.specs.declared.script.ScriptFault.TheVariants.{Memory}
 use Rattle.store.specs.declared.lost.Lost.TheVariants as why
 use Rattle.canoffice_cli.specs.Answered.{InMemory, IsFarEnough, answered_with, answers_outcome}
-use Rattle.canoffice_cli.specs.Applied.{AreTold, IsApplyOutcome, IsScriptOutcome, Reports}
+use Rattle.canoffice_cli.specs.Jobs.Applied.{AreTold, IsApplyOutcome, IsScriptOutcome, Reports}
 use Rattle.canoffice_cli.specs.Databases.{Databases}
 use Rattle.canoffice_cli.specs.Numbers.{HaveLines, request_numbers}
 use Rattle.canoffice_cli.specs.Outcome.{Outcome, outcome_of}

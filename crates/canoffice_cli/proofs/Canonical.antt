@@ -2,7 +2,7 @@
 use Rattle.canoffice_cli.proofs.Common.{◌≡◌, ◌∙◌, ℕ, List, sym, ap, subst, canonical_text, Sheet, ReadsAsNothing}
 use Rattle.dbc_grammar.specs.Reads.{Reads}
 use Rattle.dbc_law.specs.Law.{GrammarLaw}
-use Rattle.canoffice_cli.specs.Formatted.{KeepsCanonical}
+use Rattle.canoffice_cli.specs.Jobs.Formatted.{KeepsCanonical}
 use Rattle.canoffice_cli.specs.Outcome.{Outcome, success}
 
 -- the canonical text of what it reads as is that text

@@ -4,9 +4,9 @@ use Rattle.canoffice_cli.proofs.Common.{Bor, AllocError, Files}
 use Rattle.dbc_keep.specs.Completed.{NamedText}
 use Rattle.office_script.specs.Files.{Holding}
 use Rattle.canoffice_cli.specs.Databases.{Databases}
-use Rattle.canoffice_cli.specs.Exported.{IsCompletedOutcome, IsTextOutcome}
+use Rattle.canoffice_cli.specs.Jobs.Exported.{IsCompletedOutcome, IsTextOutcome}
 use Rattle.canoffice_cli.specs.Outcome.{outcome_of}
-use Rattle.canoffice_cli.specs.Performance.{IsExportedBy}
+use Rattle.canoffice_cli.specs.Jobs.{IsExportedBy}
 use Rattle.canoffice_cli.specs.declared.report.Report.{Report}
 
 module _ (text : List ℕ) (r : Result Report AllocError) where

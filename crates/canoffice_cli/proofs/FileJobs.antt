@@ -2,10 +2,10 @@
 use Rattle.canoffice_cli.proofs.Common.{◌≡◌, ℕ, List, [], inl, inr, subst, sym, ◌∙◌, Result, Ok, Err, IfOk, AllocError}
 use Rattle.canoffice_cli.proofs.Common.{Answer}
 use Rattle.office_script.specs.Files.{FailsWith, Gives, Holding, unknown, absent, holding}
-use Rattle.canoffice_cli.specs.Applied.{AreTold}
+use Rattle.canoffice_cli.specs.Jobs.Applied.{AreTold}
 use Rattle.canoffice_cli.specs.Databases.{AreKept, Databases}
 use Rattle.canoffice_cli.specs.Outcome.{Outcome, outcome_of, unreadable}
-use Rattle.canoffice_cli.specs.Performance.{IsOfFile}
+use Rattle.canoffice_cli.specs.Jobs.{IsOfFile}
 use Rattle.canoffice_cli.specs.declared.reasons.Reasons.{Reasons}
 use Rattle.canoffice_cli.proofs.Opened.{kept_same}
 use Rattle.office_script.specs.declared.files.PathFault.{PathFault}

@@ -8,8 +8,8 @@ use Rattle.dbc_keep_law.specs.Law.{IsKept, KeptIsOne, KeptIsRead}
 use Rattle.dbc_lex.specs.declared.fault.ReadCode.TheVariants.{Memory}
 use Rattle.dbc_lex.specs.declared.fault.ReadFault.{ReadFault}
 use Rattle.dbc_read.specs.Reading.{IsReadFault}
-use Rattle.canoffice_cli.specs.Checked.{fault_line}
-use Rattle.canoffice_cli.specs.Formatted.{IsKeptOutcome, KeepsKept, KeepsNothing, fault_errors}
+use Rattle.canoffice_cli.specs.Jobs.Checked.{fault_line}
+use Rattle.canoffice_cli.specs.Jobs.Formatted.{IsKeptOutcome, KeepsKept, KeepsNothing, fault_errors}
 use Rattle.canoffice_cli.specs.Outcome.{Outcome, outcome_of, success}
 use Rattle.canoffice_cli.specs.declared.report.Report.{Report}
 

@@ -6,7 +6,7 @@ use Rattle.desk_client.specs.declared.fault.AskFault.TheVariants.{Connect, Conne
 use Rattle.desk_client.specs.declared.received.Status.TheVariants.{NotFound, Other, Success}
 use Rattle.desk_types.specs.declared.fault.DeskFault.TheVariants.{Memory, Read, Write}
 use Rattle.canoffice_cli.specs.Desks.{asked_outcome}
-use Rattle.canoffice_cli.specs.Looked.{shown_outcome}
+use Rattle.canoffice_cli.specs.Jobs.Looked.{shown_outcome}
 use Rattle.canoffice_cli.specs.Outcome.{failure, memory_lost, not_found, success}
 
 -- the body as it is, whatever bytes it has

@@ -17,8 +17,8 @@ use Rattle.store.proofs.TablesInForm.{schema_in_form}
 use Rattle.canoffice_cli.specs.Answered.{InDatabase, NoneAnswered}
 use Rattle.canoffice_cli.specs.Databases.{AreKept, Begins, Databases, HasBegun, HoldsInSomeForm, Statistics}
 use Rattle.canoffice_cli.specs.Databases.{StatisticsStay, known_of, nothing_known}
-use Rattle.canoffice_cli.specs.Looked.{IsLookedUp}
-use Rattle.canoffice_cli.specs.Migrated.{IsMigrated}
+use Rattle.canoffice_cli.specs.Jobs.Looked.{IsLookedUp}
+use Rattle.canoffice_cli.specs.Jobs.Migrated.{IsMigrated}
 use Rattle.canoffice_cli.proofs.Reported.{same_in_form, same_older}
 
 -- what is known stays known where nothing is done

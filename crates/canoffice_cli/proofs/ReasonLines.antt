@@ -1,15 +1,15 @@
 -- Why commands of a script were refused, after what is stated of it.
 use Rattle.canoffice_cli.proofs.Common.{◌≡◌, ◌⊎◌, ◌++◌, ℕ, Bool, true, false, List, [], inl, inr, refl, sym, ap, ◌∙◌}
 use Rattle.canoffice_cli.proofs.Common.{append_assoc, append-nil, subst, if◌then◌else◌, flat_map, Answer, Files}
-use Rattle.canoffice_cli.specs.Explaining.{Explains, IsExplanation, IsStated}
+use Rattle.canoffice_cli.specs.Jobs.Explaining.{Explains, IsExplanation, IsStated}
 use Rattle.canoffice_cli.specs.Outcome.{Outcome, and_errors}
 use Rattle.canoffice_cli.specs.Numbers.{script_numbers}
 use Rattle.canoffice_cli.specs.Reasons.{AreReasons, HasReasons, TellsOf, reason_line, refused_lines}
 use Rattle.canoffice_cli.proofs.Told.{none_of}
 use Rattle.canoffice_cli.specs.declared.reasons.Reasons.{Reasons}
 use Rattle.canoffice_cli.specs.declared.refused_line.RefusedLine.{RefusedLine}
-use Rattle.canoffice_cli.specs.declared.file_jobs.FileTask.{FileTask}
-use Rattle.canoffice_cli.specs.declared.file_jobs.FileTask.TheVariants as task
+use Rattle.canoffice_cli.specs.declared.jobs.file_jobs.FileTask.{FileTask}
+use Rattle.canoffice_cli.specs.declared.jobs.file_jobs.FileTask.TheVariants as task
 
 -- none are
 none_are : (name script : List ℕ) (answers : List Answer) → AreReasons name script answers []

@@ -6,7 +6,7 @@ use Rattle.canoffice_cli.proofs.Common.{AreArrivalsOf, requests_of_lines, Dash, 
 use Rattle.std.proofs.Common.{◌==◌, if◌then◌else◌}
 use Rattle.std.proofs.lemmas.Bool.Decides.{nat_tests}
 use Rattle.std.proofs.lemmas.Option.{slice_get_within}
-use Rattle.canoffice_cli.specs.Sent.{requesting_line}
+use Rattle.canoffice_cli.specs.Jobs.Sent.{requesting_line}
 
 abbrev Requests : Type 0
 Requests = List LineRequest

@@ -13,9 +13,9 @@ use Rattle.desk_send.specs.Request.{IsSentAs}
 use Rattle.office_script.specs.declared.keys.Dash.TheVariants.{Wrong}
 use Rattle.office_script.specs.declared.script.ScriptFault.TheVariants.{Memory}
 use Rattle.canoffice_cli.specs.Answered.{IsFarEnough, answers_outcome}
-use Rattle.canoffice_cli.specs.Applied.{Reports}
+use Rattle.canoffice_cli.specs.Jobs.Applied.{Reports}
 use Rattle.canoffice_cli.specs.Outcome.{Outcome, outcome_of, wrong_line}
-use Rattle.canoffice_cli.specs.Sent.{AreSent, AreTaken, ComeInTurn, IsSendOutcome, lost_by, requesting_line}
+use Rattle.canoffice_cli.specs.Jobs.Sent.{AreSent, AreTaken, ComeInTurn, IsSendOutcome, lost_by, requesting_line}
 use Rattle.canoffice_cli.specs.Unprinted.{IsUnprinted}
 use Rattle.canoffice_cli.specs.declared.report.Report.{Report}
 use Rattle.canoffice_jobs.specs.declared.manner.Sending.{Sending}

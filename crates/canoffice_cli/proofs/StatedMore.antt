@@ -2,7 +2,7 @@
 use Rattle.canoffice_cli.proofs.Common.{◌≡◌, ◌⊎◌, ℕ, Bool, List, map, inl, inr, refl, subst, sym, Result, Ok, Err, IfOk}
 use Rattle.canoffice_cli.proofs.Common.{AllocError, ReadsAs, Sheet, start_and_keyword, ReadsAsNothing, Passed, Answer}
 use Rattle.dbc_advice.specs.Explained.{IsExplained}
-use Rattle.canoffice_cli.specs.Explaining.{
+use Rattle.canoffice_cli.specs.Jobs.Explaining.{
   IsExplainedBy,
   IsStatedOfFormat,
   IsStatedOfReading,
@@ -11,8 +11,8 @@ use Rattle.canoffice_cli.specs.Explaining.{
   MayState,
 }
 use Rattle.canoffice_cli.specs.Outcome.{Outcome, and_errors, outcome_of}
-use Rattle.canoffice_cli.specs.declared.explaining.Advice.{Advice}
-use Rattle.canoffice_cli.specs.declared.explaining.Advice.TheVariants.{Everything, Nothing, WrongLine}
+use Rattle.canoffice_cli.specs.declared.jobs.explaining.Advice.{Advice}
+use Rattle.canoffice_cli.specs.declared.jobs.explaining.Advice.TheVariants.{Everything, Nothing, WrongLine}
 use Rattle.canoffice_cli.specs.declared.report.Report.{Report}
 
 -- with something after the errors

@@ -7,7 +7,7 @@ use Rattle.std.proofs.lemmas.Option.{slice_get-get_or}
 use Rattle.std.proofs.lemmas.List.{get_or-map, take-map}
 use Rattle.office_views.specs.declared.signal.ChartSignal.{ChartSignal}
 use Rattle.office_views.specs.Word.{signal_of}
-use Rattle.canoffice_cli.specs.Charted.{AreSignals, IsFirstWrongWord}
+use Rattle.canoffice_cli.specs.Jobs.Charted.{AreSignals, IsFirstWrongWord}
 
 abbrev texts : List (Bor (List ℕ)) → List (List ℕ)
 texts words = map (λ s. s.now) words

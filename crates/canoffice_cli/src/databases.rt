@@ -4,18 +4,18 @@ ghost use Rattle.std.specs.Option.{option_map};
 ghost use Rattle.std.specs.Result.{result_map_both};
 ghost use Rattle.canoffice_cli.specs.Answered.{InDatabase, IsFarEnough, answered_with};
 ghost use Rattle.canoffice_cli.specs.Databases.{Databases as Known};
-ghost use Rattle.canoffice_cli.specs.Looked.{IsLookedUp};
-ghost use Rattle.canoffice_cli.specs.Migrated.{IsMigrated};
+ghost use Rattle.canoffice_cli.specs.Jobs.Looked.{IsLookedUp};
+ghost use Rattle.canoffice_cli.specs.Jobs.Migrated.{IsMigrated};
 ghost use Rattle.canoffice_cli.specs.Numbers.{HaveLines};
 ghost use Rattle.canoffice_cli.specs.Reasons.{TellsOf};
-ghost use Rattle.canoffice_cli.specs.Served.{IsServed};
+ghost use Rattle.canoffice_cli.specs.Jobs.Served.{IsServed};
 
 mod memory;
 
 use crate::answering::Answers;
+use crate::jobs::ServeEnd;
 use crate::progress::Progress;
 use crate::reasons::Reasons;
-use crate::serving::ServeEnd;
 pub use memory::MemoryDatabase;
 use office_history::Arrival;
 use office_types::Look;

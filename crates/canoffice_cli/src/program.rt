@@ -2,25 +2,16 @@
 ghost use Rattle.std.specs.Prelude.{IfOk, OnErr, is_some, map};
 ghost use Rattle.canoffice_cli.specs.Outcome.{outcome_of};
 ghost use Rattle.canoffice_jobs.specs.CommandLine.{entered};
-ghost use Rattle.canoffice_cli.specs.Performance.{IsAnswered, IsDone, IsEnteredAnswer, IsFaultAnswer, IsPerformed};
+ghost use Rattle.canoffice_cli.specs.Performance.{IsAnswered, IsEnteredAnswer, IsFaultAnswer, IsPerformed};
 ghost use Rattle.canoffice_cli.specs.Unprinted.{IsUnprinted};
 
-use crate::charting::chart_report;
-use crate::comparing::{compare_releases_report, compare_report};
 use crate::databases::Databases;
 use crate::delivery::deliver;
-use crate::explaining::Advice;
-use crate::exporting::export_report;
-use crate::file_jobs::{FileJob, FileTask, file_report};
 use crate::files::{FileSource, StandardInput};
-use crate::looking::{requests_report, show_report};
-use crate::migrating::migrate_report;
-use crate::paging::page_report;
+use crate::jobs::report_of;
 use crate::progress::Progress;
 use crate::report::{Report, Status, help, usage};
-use crate::sending::send_report;
-use crate::serving::serve_report;
-use canoffice_jobs::{Job, JobFault, is_check, job_of, lint_entered, name_before_help};
+use canoffice_jobs::{JobFault, is_check, job_of, lint_entered, name_before_help};
 use desk_send::Desks;
 use std::alloc::{AllocError, Global};
 use std::io::Write;
@@ -145,104 +136,5 @@ pub fn fault_report(alloc: Global, fault: JobFault) -> Result<Report, AllocError
         JobFault::Help(text) => Ok(help(alloc, text)),
         JobFault::Usage(text) => Ok(usage(alloc, text)),
         JobFault::Memory => Err(AllocError),
-    }
-}
-
-/// Does the job, and reports on it.
-pub fn report_of<F: FileSource + StandardInput, D: Databases, K: Desks, W: Write>(
-    alloc: Global,
-    job: &Job<'_>,
-    files: &F,
-    databases: &mut D,
-    desks: &mut K,
-    progress: &mut Progress<W>,
-) -> Result<Report, AllocError>
-    ensures done { IfOk result (λ report. IsDone
-        (F.held files.now) (F.given files.now)
-        (is_some progress.old.to) (K.known desks.old) (K.known desks.new)
-        (D.known databases.old) (D.known databases.new) job.now (outcome_of report)) }
-    ensures lost { OnErr result (IsUnprinted (K.known desks.old) (K.known desks.new)
-        (IsDone
-        (F.held files.now) (F.given files.now)
-        (is_some progress.old.to) (K.known desks.old) (K.known desks.new)
-        (D.known databases.old) (D.known databases.new) job.now)) }
-{
-    match job {
-        Job::Apply {
-            database,
-            script,
-            explain,
-            manner,
-        } => {
-            let task = FileTask::Apply(*database, *manner);
-            let advice = Advice::of_script(*explain, progress.to.is_some());
-            let job = FileJob::new(task, script, advice);
-            file_report(alloc, job, files, databases, progress)
-        }
-        Job::Chart { length, signals } => chart_report(alloc, *length, signals),
-        Job::Check {
-            file,
-            explain,
-            lint,
-            json,
-        } => {
-            let task = FileTask::Check(*lint, *json);
-            let job = FileJob::new(task, file, Advice::requested(*explain));
-            file_report(alloc, job, files, databases, progress)
-        }
-        Job::Compare { old, new, json } => compare_report(alloc, files, old, new, *json),
-        Job::CompareReleases {
-            place,
-            net,
-            old,
-            new,
-            json,
-        } => compare_releases_report(alloc, databases, desks, *place, net, *old, *new, *json),
-        Job::Export {
-            database,
-            net,
-            number,
-            extras,
-        } => export_report(alloc, files, databases, database, net, *number, *extras),
-        Job::Format {
-            file,
-            explain,
-            keep,
-        } => {
-            let advice = Advice::requested(*explain);
-            let job = FileJob::new(FileTask::Format(*keep), file, advice);
-            file_report(alloc, job, files, databases, progress)
-        }
-        Job::Migrate { database } => migrate_report(alloc, databases, database, progress),
-        Job::Page { place, net, number } => {
-            page_report(alloc, databases, desks, *place, net, *number)
-        }
-        Job::PageFile { file } => {
-            let job = FileJob::new(FileTask::Page(file), file, Advice::Nothing);
-            file_report(alloc, job, files, databases, progress)
-        }
-        Job::Requests { place, team, json } => {
-            requests_report(alloc, databases, desks, *place, team, *json)
-        }
-        Job::Send { sending, script } => {
-            send_report(alloc, script, files, desks, *sending, progress)
-        }
-        Job::Serve {
-            database,
-            port,
-            count,
-            explain,
-        } => serve_report(alloc, databases, database, *port, *count, *explain),
-        Job::Show {
-            place,
-            net,
-            what,
-            name,
-            json,
-        } => show_report(alloc, databases, desks, *place, *net, *what, *name, *json),
-        Job::Table { file, json } => {
-            let job = FileJob::new(FileTask::Table(*json), file, Advice::Nothing);
-            file_report(alloc, job, files, databases, progress)
-        }
     }
 }

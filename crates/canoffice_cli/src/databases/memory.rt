@@ -10,11 +10,9 @@ ghost use Rattle.canoffice_cli.specs.Databases.{HoldsInSomeForm, Statistics, kno
 
 use super::Databases;
 use crate::answering::{Answers, answer_on, nothing_answered};
-use crate::looking::look_on;
-use crate::migrating::migrate_on;
+use crate::jobs::{ServeEnd, look_on, migrate_on};
 use crate::progress::Progress;
 use crate::reasons::Reasons;
-use crate::serving::ServeEnd;
 use office_history::Arrival;
 use office_types::Look;
 use sqlite::{Connection, MemStore};

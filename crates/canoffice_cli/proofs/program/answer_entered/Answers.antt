@@ -1,5 +1,6 @@
 use Rattle.canoffice_cli.proofs.Common.{Ok, map, is_some}
-use Rattle.canoffice_cli.specs.Performance.{IsDone, IsEnteredAnswer}
+use Rattle.canoffice_cli.specs.Jobs.{IsDone}
+use Rattle.canoffice_cli.specs.Performance.{IsEnteredAnswer}
 use Rattle.canoffice_cli.proofs.Unprinted.{done_more}
 use Rattle.canoffice_cli.proofs.program.answer_entered.Goals as goal
 

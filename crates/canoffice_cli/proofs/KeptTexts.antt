@@ -27,36 +27,3 @@ pub nothing_kept : ReadsAsOneAtMost → (bytes text : List ℕ) (s : Sheet) (pas
 nothing_kept once bytes text s passed o reads plain is t none =
     let same = once bytes s t (map start_and_keyword passed) [] reads none in
     is ∙ ap success (plain (none_passed passed same.1) ∙ ap canonical_text same.0)
-
--- of a text that reads as no sheet
-module _ (bytes : List ℕ) (fault : ReadFault) (r : Result Report AllocError)
-    (reported : IfOk r (λ report. (fault.code ≢ Memory) × (outcome_of report ≡ fault_errors (fault_line fault)))) where
-  pub fault_outcome : (fault.code ≢ Memory → IsReadFault bytes fault)
-      → IfOk r (λ report. IsKeptOutcome bytes (outcome_of report))
-  fault_outcome is = by_result r reported
-    where
-      by_result : (r : Result Report AllocError)
-          → IfOk r (λ report. (fault.code ≢ Memory) × (outcome_of report ≡ fault_errors (fault_line fault)))
-          → IfOk r (λ report. IsKeptOutcome bytes (outcome_of report))
-      by_result (Ok report) h = inr (fault, is h.0, h.1)
-      by_result (Err lost) h = tt
-
-  pub fault_unchanged : KeptIsRead → (fault.code ≢ Memory → ReadsAsNothing bytes)
-      → IfOk r (λ report. KeepsKept bytes (outcome_of report))
-  fault_unchanged read nothing = by_result r reported
-    where
-      by_result : (r : Result Report AllocError)
-          → IfOk r (λ report. (fault.code ≢ Memory) × (outcome_of report ≡ fault_errors (fault_line fault)))
-          → IfOk r (λ report. KeepsKept bytes (outcome_of report))
-      by_result (Ok report) h = λ own. absurd (nothing h.0 own.sheet (read bytes own.sheet own.passages own.keeps))
-      by_result (Err lost) h = tt
-
-  pub fault_nothing : (fault.code ≢ Memory → ReadsAsNothing bytes)
-      → IfOk r (λ report. KeepsNothing bytes (outcome_of report))
-  fault_nothing nothing = by_result r reported
-    where
-      by_result : (r : Result Report AllocError)
-          → IfOk r (λ report. (fault.code ≢ Memory) × (outcome_of report ≡ fault_errors (fault_line fault)))
-          → IfOk r (λ report. KeepsNothing bytes (outcome_of report))
-      by_result (Ok report) h = λ s reads. absurd (nothing h.0 s ([], reads))
-      by_result (Err lost) h = tt

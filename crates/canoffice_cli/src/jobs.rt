@@ -15,6 +15,7 @@ mod formatting;
 mod looking;
 mod migrating;
 mod paging;
+mod reading;
 mod sending;
 mod serving;
 mod tabling;

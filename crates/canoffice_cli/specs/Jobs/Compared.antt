@@ -7,7 +7,6 @@ use Rattle.dbc_compare.specs.List.{compare_text, has_no_difference}
 use Rattle.dbc_grammar.specs.Reads.{Reads}
 use Rattle.dbc_lex.specs.Fault as reading
 use Rattle.dbc_lex.specs.declared.fault.ReadFault.{ReadFault}
-use Rattle.dbc_read.specs.Reading.{IsReadFault}
 use Rattle.dbc_sheet.specs.declared.sheet.Sheet.{Sheet}
 use Rattle.office_fields.specs.Value.{plain_name_of}
 use Rattle.office_types.specs.Look.{formed}
@@ -16,7 +15,7 @@ use Rattle.office_types.specs.declared.look.Look.TheVariants as look
 use Rattle.office_types.specs.declared.look.LookForm.TheVariants.{Lines}
 use Rattle.office_types.specs.declared.look.NetLook.TheVariants as of_net
 use Rattle.canoffice_cli.specs.Databases.{Databases}
-use Rattle.canoffice_cli.specs.Jobs.Formatted.{fault_errors}
+use Rattle.canoffice_cli.specs.Jobs.Formatted.{IsUnreadAs}
 use Rattle.canoffice_cli.specs.Jobs.Looked.{IsLookOutcome}
 use Rattle.canoffice_cli.specs.Outcome.{Outcome}
 use Rattle.canoffice_jobs.specs.declared.place.Place.{Place}
@@ -36,10 +35,6 @@ fault_in path fault =
     ++ (codes " " ++ (reading.code_name fault.code
     ++ (codes " " ++ (decimal fault.at ++ (codes " " ++ (shown_path path ++ codes "\n")))))))
 
--- the text at the path reads as no sheet, and the line is that of the fault of `read`
-abbrev pub IsUnread : List ℕ → List ℕ → Outcome → Type 0
-IsUnread path bytes o = (fault : ReadFault) × IsReadFault bytes fault × (o ≡ fault_errors (fault_in path fault))
-
 abbrev pub comparison : List ℕ → Bool → Outcome
 comparison text are_equal = record { output = text; errors = []; status = status_by are_equal }
 
@@ -51,12 +46,12 @@ IsComparison json old new o =
 -- the sheet is compared with that of the text at the path, if this reads as one
 abbrev pub IsComparedWith : Bool → Sheet → List ℕ → List ℕ → Outcome → Type 0
 IsComparedWith json old path bytes o =
-    ((s : Sheet) × Reads bytes s × IsComparison json old s o) ⊎ IsUnread path bytes o
+    ((s : Sheet) × Reads bytes s × IsComparison json old s o) ⊎ IsUnreadAs (fault_in path) bytes o
 
 -- so is the sheet of the text at the first path, if this reads as one
 abbrev pub IsCompareOutcome : Bool → List ℕ → List ℕ → List ℕ → List ℕ → Outcome → Type 0
 IsCompareOutcome json old_path new_path old new o =
-    ((s : Sheet) × Reads old s × IsComparedWith json s new_path new o) ⊎ IsUnread old_path old o
+    ((s : Sheet) × Reads old s × IsComparedWith json s new_path new o) ⊎ IsUnreadAs (fault_in old_path) old o
 
 -- ---- two releases
 

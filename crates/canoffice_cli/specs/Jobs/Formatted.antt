@@ -16,6 +16,14 @@ use Rattle.canoffice_cli.specs.declared.report.Status.TheVariants.{FaultFound}
 abbrev pub fault_errors : List ℕ → Outcome
 fault_errors text = record { output = []; errors = text; status = FaultFound }
 
+-- the text reads as no sheet, and the line is this one of the fault of `read`
+abbrev pub IsUnreadAs : (ReadFault → List ℕ) → List ℕ → Outcome → Type 0
+IsUnreadAs line bytes o = (fault : ReadFault) × IsReadFault bytes fault × (o ≡ fault_errors (line fault))
+
+-- its code and its offset
+abbrev pub IsUnread : List ℕ → Outcome → Type 0
+IsUnread bytes o = IsUnreadAs fault_line bytes o
+
 -- The text reads as the sheet of the source, and as no other. Its skipped statements are those of the source, each once
 -- and at its place, with the declarations of the attribute `SPN` that its canonical lines add; and it is its own kept
 -- text.
@@ -27,17 +35,13 @@ pub record IsKeptText (source text : List ℕ) : Type 0 where
   pub each : KeepsEach source text sheet
   pub again : IsKept text text
 
--- such a text is printed; or the source reads as no sheet, and the line is that of the fault of `read`
+-- such a text is printed, or the source reads as no sheet
 abbrev pub IsKeptOutcome : List ℕ → Outcome → Type 0
-IsKeptOutcome bytes o =
-    ((text : List ℕ) × IsKeptText bytes text × (o ≡ success text))
-    ⊎ ((fault : ReadFault) × IsReadFault bytes fault × (o ≡ fault_errors (fault_line fault)))
+IsKeptOutcome bytes o = ((text : List ℕ) × IsKeptText bytes text × (o ≡ success text)) ⊎ IsUnread bytes o
 
--- the text reads as a sheet, whose canonical text is printed; or as none, and the line is that of the fault of `read`
+-- the text reads as a sheet, whose canonical text is printed, or as none
 abbrev pub IsFormatOutcome : List ℕ → Outcome → Type 0
-IsFormatOutcome bytes o =
-    ((s : Sheet) × Reads bytes s × (o ≡ success (canonical_text s)))
-    ⊎ ((fault : ReadFault) × IsReadFault bytes fault × (o ≡ fault_errors (fault_line fault)))
+IsFormatOutcome bytes o = ((s : Sheet) × Reads bytes s × (o ≡ success (canonical_text s))) ⊎ IsUnread bytes o
 
 -- the skipped statements are left out, or kept
 abbrev pub IsFormatted : Bool → List ℕ → Outcome → Type 0

@@ -5,14 +5,11 @@ use Rattle.std.specs.Str.{bytes_eq}
 use Rattle.desk_send.specs.Desks.{Desks}
 use Rattle.canoffice_jobs.specs.Words.{page_look}
 use Rattle.dbc_grammar.specs.Reads.{ReadsAs}
-use Rattle.dbc_lex.specs.declared.fault.ReadFault.{ReadFault}
 use Rattle.dbc_read.specs.Passed.{start_and_keyword}
-use Rattle.dbc_read.specs.Reading.{IsReadFault}
 use Rattle.dbc_read.specs.declared.reading.Reading.{Reading}
 use Rattle.office_page.specs.Page.{IsFilePage}
-use Rattle.canoffice_cli.specs.Jobs.Checked.{fault_line}
 use Rattle.canoffice_cli.specs.Databases.{Databases}
-use Rattle.canoffice_cli.specs.Jobs.Formatted.{fault_errors}
+use Rattle.canoffice_cli.specs.Jobs.Formatted.{IsUnread}
 use Rattle.canoffice_cli.specs.Jobs.Looked.{IsLookOutcome}
 use Rattle.canoffice_cli.specs.Outcome.{Outcome, success}
 use Rattle.canoffice_jobs.specs.declared.place.Place.{Place}
@@ -40,11 +37,9 @@ pub record IsPaged (path bytes : List ℕ) (o : Outcome) : Type 0 where
   pub is : IsFilePage (page_name path) bytes reading page
   pub printed : o ≡ success page
 
--- the same; or it reads as none, and the line is that of the fault of `read`
+-- the same, or it reads as none
 abbrev pub IsFilePageOutcome : List ℕ → List ℕ → Outcome → Type 0
-IsFilePageOutcome path bytes o =
-    IsPaged path bytes o
-    ⊎ ((fault : ReadFault) × IsReadFault bytes fault × (o ≡ fault_errors (fault_line fault)))
+IsFilePageOutcome path bytes o = IsPaged path bytes o ⊎ IsUnread bytes o
 
 -- a page of the release of a network, or of the live network for 0, as the office at the place has it
 abbrev pub IsPageOutcome : Desks → Desks → Databases → Databases → Place → List ℕ → ℕ → Outcome → Type 0

@@ -9,9 +9,10 @@ ghost use Rattle.dbc_lint.specs.Listing.{remark_rows};
 ghost use Rattle.dbc_read.specs.Passed.{start_and_keyword};
 ghost use Rattle.rows.specs.Fact.{fact_of};
 
+use crate::jobs::reading::reading_of;
 use crate::report::{Report, Status};
 use dbc_lint::{REMARKS, Remark, remark_rows, remarks_on};
-use dbc_read::{Passed, ReadCode, ReadFault, Reading, read};
+use dbc_read::{Passed, ReadFault, Reading};
 use dbc_sheet::Sheet;
 use dbc_words::{SheetCode, SheetFault};
 use office_views::signal_count;
@@ -243,19 +244,16 @@ pub fn check_report(
     ensures { IfOk result (λ report. IsCheckedOutcome json (option_map (λ names. names.now) lint.entry)
         source.now (outcome_of report)) }
 {
-    match read(alloc, source) {
+    match reading_of(alloc, source)? {
         Ok(reading) => {
             let report = sheet_check(alloc, source, &reading, lint, json);
             // The program ends soon, so the many blocks of a sheet aren't given back one by one.
             forget(reading);
             report
         }
-        Err(fault) => match fault.code {
-            ReadCode::Memory => Err(AllocError),
-            _ => {
-                let kinds = vec![in alloc; fault_kind(alloc, fault)?]?;
-                listed(alloc, kinds, json, Status::FaultFound)
-            }
-        },
+        Err(fault) => {
+            let kinds = vec![in alloc; fault_kind(alloc, fault)?]?;
+            listed(alloc, kinds, json, Status::FaultFound)
+        }
     }
 }

@@ -1,7 +1,5 @@
 //! Comparing two DBC texts, or two releases of a network.
-ghost use Rattle.std.specs.Prelude.{◌≡◌, ⊤, IfErr, IfOk, OnErr};
-ghost use Rattle.dbc_grammar.specs.Reads.{Reads};
-ghost use Rattle.dbc_read.specs.Reading.{IsReadFault};
+ghost use Rattle.std.specs.Prelude.{◌≡◌, ⊤, IfOk, OnErr};
 ghost use Rattle.canoffice_cli.specs.Jobs.Compared.{IsCompareOutcome, IsComparedWith, IsComparison, IsReleasesOutcome};
 ghost use Rattle.canoffice_cli.specs.Jobs.Compared.{compare_look, fault_in, judged, status_by};
 ghost use Rattle.canoffice_cli.specs.Jobs.Formatted.{fault_errors};
@@ -14,30 +12,17 @@ use crate::databases::Databases;
 use crate::files::{FileSource, StandardInput, bytes_at};
 use crate::jobs::file_jobs::unreadable_report;
 use crate::jobs::looking::look_report;
+use crate::jobs::reading::reading_of;
 use crate::report::{Report, Status};
 use canoffice_jobs::Place;
 use dbc_advice::shown_path;
 use dbc_compare::{compare, has_no_difference};
-use dbc_read::{ReadCode, ReadFault, Reading, read};
+use dbc_read::ReadFault;
 use dbc_sheet::Sheet;
 use desk_send::Desks;
 use office_types::{Look, LookForm, NetLook, NetName};
 use std::alloc::{AllocError, Global};
 use std::mem::{forget, replace};
-
-/// What the DBC text reads as, or its fault. The error is out of memory.
-fn reading_of(alloc: Global, source: &[u8]) -> Result<Result<Reading, ReadFault>, AllocError>
-    ensures reads { IfOk result (λ read. IfOk read (λ reading. Reads source.now reading.sheet)) }
-    ensures fault { IfOk result (λ read. IfErr read (IsReadFault source.now)) }
-{
-    match read(alloc, source) {
-        Ok(reading) => Ok(Ok(reading)),
-        Err(fault) => match fault.code {
-            ReadCode::Memory => Err(AllocError),
-            _ => Ok(Err(fault)),
-        },
-    }
-}
 
 /// The report that the file at the path reads as no sheet.
 fn fault_report(alloc: Global, path: &str, fault: ReadFault) -> Result<Report, AllocError>

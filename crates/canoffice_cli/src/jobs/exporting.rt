@@ -11,12 +11,13 @@ ghost use Rattle.store.specs.Looking.{bytes_of};
 use crate::databases::Databases;
 use crate::files::{FileSource, StandardInput, bytes_at};
 use crate::jobs::file_jobs::unreadable_report;
-use crate::jobs::formatting::fault_report;
 use crate::jobs::looking::{not_found, shown_report};
+use crate::jobs::reading::unread_report;
 use crate::report::{Report, Status};
 use canoffice_jobs::Extras;
 use dbc_advice::{Source, shown_path};
 use dbc_keep::{Besides, complete};
+use dbc_read::ReadCode;
 use office_types::{Look, NetName};
 use std::alloc::{AllocError, Global};
 use store::Lost;
@@ -47,7 +48,10 @@ fn completed_report(alloc: Global, text: Vec<u8>, besides: Besides) -> Result<Re
                 status: Status::Success,
             })
         }
-        Err(fault) => fault_report(alloc, fault),
+        Err(fault) => match fault.code {
+            ReadCode::Memory => Err(AllocError),
+            _ => unread_report(alloc, fault),
+        },
     }
 }
 

@@ -1,35 +1,18 @@
 //! Formatting DBC texts.
-ghost use Rattle.std.specs.Prelude.{◌≡◌, ◌≢◌, IfOk};
-ghost use Rattle.canoffice_cli.specs.Jobs.Checked.{fault_line};
+ghost use Rattle.std.specs.Prelude.{IfOk};
 ghost use Rattle.canoffice_cli.specs.Outcome.{outcome_of};
 ghost use Rattle.canoffice_cli.specs.Jobs.Formatted.{IsFormatOutcome, IsKeptOutcome, KeepsCanonical, KeepsKept};
-ghost use Rattle.canoffice_cli.specs.Jobs.Formatted.{KeepsNothing, fault_errors};
-ghost use Rattle.dbc_lex.specs.declared.fault.ReadCode.TheVariants.{Memory};
+ghost use Rattle.canoffice_cli.specs.Jobs.Formatted.{KeepsNothing};
 
-use crate::jobs::checking::fault_line;
+use crate::jobs::reading::{reading_of, unread_report};
 use crate::report::{Report, Status};
 use dbc_grammar::texts_read_as_one_sheet;
 use dbc_keep::kept_text_of;
 use dbc_keep_law::kept_texts_read_as_their_sheets;
 use dbc_law::canonical_texts_read_as_their_sheets;
-use dbc_read::{ReadCode, ReadFault, read};
 use dbc_write::text_of;
 use std::alloc::{AllocError, Global};
 use std::mem::forget;
-
-/// The report of a fault of reading, unless memory ran out.
-pub(crate) fn fault_report(alloc: Global, fault: ReadFault) -> Result<Report, AllocError>
-    ensures { IfOk result (λ report. (fault.code ≢ Memory)
-        × (outcome_of report ≡ fault_errors (fault_line fault))) }
-{
-    match fault.code {
-        ReadCode::Memory => Err(AllocError),
-        _ => {
-            let line = fault_line(alloc, fault)?;
-            Ok(Report::of_errors(alloc, line, Status::FaultFound))
-        }
-    }
-}
 
 /// The canonical text of the sheet that the DBC text reads as, and in it the statements that are skipped: each
 /// verbatim, on a line of its own, at its place. A fault is reported as by [`format_report`]. A text that this printed
@@ -41,14 +24,14 @@ pub fn kept_report(alloc: Global, source: &[u8]) -> Result<Report, AllocError>
 {
     kept_texts_read_as_their_sheets();
     texts_read_as_one_sheet();
-    match read(alloc, source) {
+    match reading_of(alloc, source)? {
         Ok(reading) => {
             let written = kept_text_of(alloc, source, &reading);
             // As in a check, the sheet's blocks aren't given back.
             forget(reading);
             Ok(Report::of_output(alloc, written?, Status::Success))
         }
-        Err(fault) => fault_report(alloc, fault),
+        Err(fault) => unread_report(alloc, fault),
     }
 }
 
@@ -60,19 +43,13 @@ pub fn format_report(alloc: Global, source: &[u8]) -> Result<Report, AllocError>
     ensures canonical { IfOk result (λ report. KeepsCanonical source.now (outcome_of report)) }
 {
     canonical_texts_read_as_their_sheets();
-    match read(alloc, source) {
+    match reading_of(alloc, source)? {
         Ok(reading) => {
             let written = text_of(alloc, &reading.sheet);
             // As in a check, the sheet's blocks aren't given back.
             forget(reading);
             Ok(Report::of_output(alloc, written?, Status::Success))
         }
-        Err(fault) => match fault.code {
-            ReadCode::Memory => Err(AllocError),
-            _ => {
-                let line = fault_line(alloc, fault)?;
-                Ok(Report::of_errors(alloc, line, Status::FaultFound))
-            }
-        },
+        Err(fault) => unread_report(alloc, fault),
     }
 }

@@ -9,12 +9,11 @@ ghost use Rattle.canoffice_cli.specs.Unprinted.{IsUnprinted};
 
 use crate::databases::Databases;
 use crate::files::{FileSource, StandardInput, bytes_at};
-use crate::jobs::checking::fault_line;
 use crate::jobs::file_jobs::unreadable_report;
 use crate::jobs::looking::look_report;
+use crate::jobs::reading::{reading_of, unread_report};
 use crate::report::{Report, Status};
 use canoffice_jobs::{Place, page_look};
-use dbc_read::{ReadCode, read};
 use desk_send::Desks;
 use office_page::file_page;
 use std::alloc::{AllocError, Global};
@@ -58,18 +57,12 @@ fn page_name(path: &str) -> &[u8]
 fn page_of_text(alloc: Global, path: &str, source: &[u8]) -> Result<Report, AllocError>
     ensures { IfOk result (λ report. IsFilePageOutcome path.now source.now (outcome_of report)) }
 {
-    match read(alloc, source) {
+    match reading_of(alloc, source)? {
         Ok(reading) => {
             let output = file_page(alloc, page_name(path), source, &reading)?;
             Ok(Report::of_output(alloc, output, Status::Success))
         }
-        Err(fault) => match fault.code {
-            ReadCode::Memory => Err(AllocError),
-            _ => {
-                let line = fault_line(alloc, fault)?;
-                Ok(Report::of_errors(alloc, line, Status::FaultFound))
-            }
-        },
+        Err(fault) => unread_report(alloc, fault),
     }
 }
 

@@ -6,10 +6,9 @@ ghost use Rattle.canoffice_cli.specs.Jobs.{IsOfFile};
 ghost use Rattle.canoffice_cli.specs.Jobs.Tabled.{IsTableOutcome};
 
 use crate::files::{FileSource, StandardInput, bytes_at};
-use crate::jobs::checking::fault_line;
 use crate::jobs::file_jobs::unreadable_report;
+use crate::jobs::reading::{reading_of, unread_report};
 use crate::report::{Report, Status};
-use dbc_read::{ReadCode, read};
 use office_views::sheet_table;
 use rows::list_text;
 use std::alloc::{AllocError, Global};
@@ -19,19 +18,13 @@ use std::alloc::{AllocError, Global};
 fn table_of_text(alloc: Global, source: &[u8], json: bool) -> Result<Report, AllocError>
     ensures { IfOk result (λ report. IsTableOutcome json source.now (outcome_of report)) }
 {
-    match read(alloc, source) {
+    match reading_of(alloc, source)? {
         Ok(reading) => {
             let table = sheet_table(alloc, &reading.sheet)?;
             let output = list_text(alloc, &table, json)?;
             Ok(Report::of_output(alloc, output, Status::Success))
         }
-        Err(fault) => match fault.code {
-            ReadCode::Memory => Err(AllocError),
-            _ => {
-                let line = fault_line(alloc, fault)?;
-                Ok(Report::of_errors(alloc, line, Status::FaultFound))
-            }
-        },
+        Err(fault) => unread_report(alloc, fault),
     }
 }
 

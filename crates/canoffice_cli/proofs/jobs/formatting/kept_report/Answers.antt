@@ -1,5 +1,5 @@
-use Rattle.canoffice_cli.proofs.Common.{inl, refl, read_fault}
-use Rattle.canoffice_cli.proofs.KeptTexts.{fault_nothing, fault_outcome, fault_unchanged, nothing_kept, unchanged}
+use Rattle.canoffice_cli.proofs.Common.{[], inl, IfOk-weaker}
+use Rattle.canoffice_cli.proofs.KeptTexts.{nothing_kept, unchanged}
 use Rattle.canoffice_cli.proofs.jobs.formatting.kept_report.Goals as goal
 
 pub returns-in_ok-written-in-Ok-clause-outcome : goal.returns-in_ok-written-in-Ok-clause-outcome
@@ -9,7 +9,7 @@ returns-in_ok-written-in-Ok-clause-outcome c =
       _,
       record {
         sheet = c.in-Ok.reading.sheet;
-        reads = (_, c.in-Ok.ensures.reads);
+        reads = rw c.in-Ok.is at c.in_ok-reading.ensures.sheet;
         only = made.reads;
         kept = made.kept;
         each = made.each;
@@ -26,17 +26,17 @@ returns-in_ok-written-in-Ok-clause-unchanged c =
 pub returns-in_ok-written-in-Ok-clause-nothing : goal.returns-in_ok-written-in-Ok-clause-nothing
 returns-in_ok-written-in-Ok-clause-nothing c =
     nothing_kept c.texts_read_as_one_sheet.ensures c.args.source.now _ c.in-Ok.reading.sheet c.in-Ok.reading.passed _
-    c.in-Ok.ensures.reads c.in_ok-written-in-Ok.ensures.nothing c.of_output.ensures
+    (rw c.in-Ok.is at c.in_ok-reading.ensures.reads) c.in_ok-written-in-Ok.ensures.nothing c.of_output.ensures
 
-pub returns-in-Err : goal.returns-in-Err
-returns-in-Err c =
-    let source = c.args.source.now in
-    let fault = c.in-Err.fault in
-    record {
-      outcome = fault_outcome source fault c.fault_report.result c.fault_report.ensures
-          (λ named. read_fault source fault _
-          refl named (c.in-Err.ensures.none named) c.in-Err.ensures.within c.in-Err.ensures.tokens);
-      unchanged = fault_unchanged source fault c.fault_report.result c.fault_report.ensures
-          c.kept_texts_read_as_their_sheets.ensures.read c.in-Err.ensures.none;
-      nothing = fault_nothing source fault c.fault_report.result c.fault_report.ensures c.in-Err.ensures.none;
-    }
+pub returns-in-Err-clause-unchanged : goal.returns-in-Err-clause-unchanged
+returns-in-Err-clause-unchanged c =
+    let is = rw c.in-Err.is at c.in_ok-reading.ensures.fault in
+    IfOk-weaker c.unread_report.result _ _ (λ report same own. absurd (is.nothing own.sheet
+    (c.kept_texts_read_as_their_sheets.ensures.read c.args.source.now own.sheet own.passages own.keeps)))
+    c.unread_report.ensures
+
+pub returns-in-Err-clause-nothing : goal.returns-in-Err-clause-nothing
+returns-in-Err-clause-nothing c =
+    let is = rw c.in-Err.is at c.in_ok-reading.ensures.fault in
+    IfOk-weaker c.unread_report.result _ _ (λ report same s reads. absurd (is.nothing s ([], reads)))
+    c.unread_report.ensures

@@ -9,7 +9,7 @@ mod files;
 use crate::databases::HostDatabases;
 use crate::desks::HostDesks;
 use canoffice_cli::{
-    HostFiles, JobFault, Progress, Status, deliver, fault_report, not_utf8_fault, perform,
+    ExitStatus, HostFiles, JobFault, Progress, deliver, fault_report, not_utf8_fault, perform,
 };
 use std::alloc::AllocError;
 use std::env;
@@ -21,7 +21,7 @@ fn main(rt: HostRuntime) -> ExitCode {
 }
 
 /// Reads the words, and performs what they request.
-fn run(rt: &HostRuntime) -> Status {
+fn run(rt: &HostRuntime) -> ExitStatus {
     let words = match words(rt) {
         Ok(words) => words,
         Err(fault) => {
@@ -36,7 +36,7 @@ fn run(rt: &HostRuntime) -> Status {
 }
 
 /// Performs what the words request. How far it is, is shown on standard error if that is a terminal.
-fn run_words(rt: &HostRuntime, words: &[&str]) -> Status {
+fn run_words(rt: &HostRuntime, words: &[&str]) -> ExitStatus {
     let errors = rt.stderr();
     let mut progress = Progress {
         to: if errors.is_terminal() {

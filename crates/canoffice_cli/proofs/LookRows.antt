@@ -3,7 +3,7 @@ use Rattle.canoffice_cli.proofs.Common.{◌≡◌, [], ◌∷◌, Ok, Err, None,
 use Rattle.std.specs.Fmt.{digits}
 use Rattle.desk_client.specs.Received.{cut, not_http, too_long, whole}
 use Rattle.desk_client.specs.declared.fault.AskFault.TheVariants.{Connect, Connection}
-use Rattle.desk_client.specs.declared.received.Status.TheVariants.{NotFound, Other, Success}
+use Rattle.desk_client.specs.declared.received.DeskStatus.TheVariants.{NotFound, Other, Success}
 use Rattle.desk_types.specs.declared.fault.DeskFault.TheVariants.{Memory, Read, Write}
 use Rattle.canoffice_cli.specs.Desks.{asked_outcome}
 use Rattle.canoffice_cli.specs.Jobs.Looked.{shown_outcome}

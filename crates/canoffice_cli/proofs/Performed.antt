@@ -3,7 +3,7 @@ use Rattle.canoffice_cli.proofs.Common.{◌≡◌, ◌∷◌, Bool, true, false,
 use Rattle.canoffice_cli.proofs.Common.{refl, sym, ap, subst, inl, inr, IfOk, OnErr, if◌then◌else◌, AllocError, Files}
 use Rattle.canoffice_cli.proofs.Common.{Desks, entered, lint_entered}
 use Rattle.canoffice_cli.specs.declared.report.Report.{Report}
-use Rattle.canoffice_cli.specs.declared.report.Status.{Status}
+use Rattle.canoffice_cli.specs.declared.report.ExitStatus.{ExitStatus}
 use Rattle.canoffice_cli.specs.Delivery.{IsDelivered, Writing}
 use Rattle.canoffice_cli.specs.Outcome.{memory_lost, outcome_of, final_outcome}
 use Rattle.office_script.specs.Files.{Holding}
@@ -42,7 +42,7 @@ module _ (files : Files) (input : Holding) (terminal : Bool) (earlier later : De
 -- ---- a run
 
 module _ (words : List (List ℕ)) (files : Files) (input : Holding) (terminal : Bool) (earlier later : Desks)
-    (before after : Databases) (output errors : Writing) (status : Status) where
+    (before after : Databases) (output errors : Writing) (status : ExitStatus) where
   pub performed : (answer : Result Report AllocError)
       → IfOk answer (λ report. IsAnswered words files input terminal earlier later before after (outcome_of report))
       → OnErr answer (IsUnprinted earlier later (IsAnswered words files input terminal earlier later before after))

@@ -12,8 +12,8 @@ use Rattle.store.specs.Running.{answered_of}
 use Rattle.canoffice_cli.specs.Databases.{Databases, HasBegun, StatisticsStay}
 use Rattle.canoffice_cli.specs.Outcome.{Outcome, failure}
 use Rattle.canoffice_jobs.specs.declared.manner.Manner.{Manner}
-use Rattle.canoffice_cli.specs.declared.report.Status.{Status}
-use Rattle.canoffice_cli.specs.declared.report.Status.TheVariants.{Failed, FaultFound, Success}
+use Rattle.canoffice_cli.specs.declared.report.ExitStatus.{ExitStatus}
+use Rattle.canoffice_cli.specs.declared.report.ExitStatus.TheVariants.{Failed, FaultFound, Success}
 
 -- each answer on a line of its own
 abbrev pub answer_lines : List Answer → List ℕ
@@ -31,7 +31,7 @@ abbrev pub printed : Bool → List Arrival → List Answer → List ℕ
 printed echo arrivals answers = if echo then echoes arrivals answers else answer_lines answers
 
 -- the status where nothing was lost: a refusal is a fault where the script stops at it
-abbrev pub status_of : Bool → List Answer → Status
+abbrev pub status_of : Bool → List Answer → ExitStatus
 status_of strict answers = if strict && list_any is_refused answers then FaultFound else Success
 
 -- the answers are printed, and then why the next one was lost, if it was

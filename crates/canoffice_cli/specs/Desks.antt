@@ -3,8 +3,8 @@ use Rattle.std.specs.Prelude.{ℕ, ◌++◌, List, Ok, Err, codes, decimal}
 use Rattle.desk_send.specs.Desks.{Asked}
 use Rattle.desk_client.specs.Received.{cut, not_http, too_long, whole}
 use Rattle.desk_client.specs.declared.fault.AskFault.TheVariants.{Connect, Connection}
-use Rattle.desk_client.specs.declared.received.Status.{Status}
-use Rattle.desk_client.specs.declared.received.Status.TheVariants.{NotFound, Other, Success}
+use Rattle.desk_client.specs.declared.received.DeskStatus.{DeskStatus}
+use Rattle.desk_client.specs.declared.received.DeskStatus.TheVariants.{NotFound, Other, Success}
 use Rattle.desk_types.specs.declared.fault.DeskFault.TheVariants.{Memory, Read, Write}
 use Rattle.canoffice_cli.specs.Outcome.{Outcome, failure, memory_lost, not_found, success}
 
@@ -16,7 +16,7 @@ abbrev pub cut_response : Outcome
 cut_response = failure (codes "the desk's response is cut\n")
 
 -- of a whole response: its body, or that what was asked for isn't there, or another status
-abbrev pub response_outcome : Status → List ℕ → Outcome
+abbrev pub response_outcome : DeskStatus → List ℕ → Outcome
 response_outcome Success body = success body
 response_outcome NotFound body = not_found
 response_outcome (Other status) body =

@@ -3,20 +3,20 @@ use Rattle.std.specs.Prelude.{◌++◌, ℕ, List, [], codes, decimal, Result, O
 use Rattle.std.specs.declared.alloc.AllocError.{AllocError}
 use Rattle.dbc_advice.specs.ShownPath.{shown_path}
 use Rattle.canoffice_cli.specs.declared.report.Report.{Report}
-use Rattle.canoffice_cli.specs.declared.report.Status.{Status}
-use Rattle.canoffice_cli.specs.declared.report.Status.TheVariants.{Success, FaultFound, WrongInput, Failed}
+use Rattle.canoffice_cli.specs.declared.report.ExitStatus.{ExitStatus}
+use Rattle.canoffice_cli.specs.declared.report.ExitStatus.TheVariants.{Success, FaultFound, WrongInput, Failed}
 
 -- the bytes for standard output and for standard error, and the status
 pub record Outcome : Type 0 where
   pub output : List ℕ
   pub errors : List ℕ
-  pub status : Status
+  pub status : ExitStatus
 
 abbrev pub outcome_of : Report → Outcome
 outcome_of report = record { output = report.output.items; errors = report.errors.items; status = report.status }
 
 -- the number of a status, with which the program ends
-abbrev pub code_of : Status → ℕ
+abbrev pub code_of : ExitStatus → ℕ
 code_of Success = 0
 code_of FaultFound = 1
 code_of WrongInput = 2

@@ -12,7 +12,7 @@ use Rattle.canoffice_cli.specs.Databases.{AreKept, Databases}
 use Rattle.canoffice_cli.specs.Delivery.{IsDelivered, Writing}
 use Rattle.canoffice_cli.specs.Jobs.{IsDone}
 use Rattle.canoffice_cli.specs.Unprinted.{IsUnprinted}
-use Rattle.canoffice_cli.specs.declared.report.Status.{Status}
+use Rattle.canoffice_cli.specs.declared.report.ExitStatus.{ExitStatus}
 
 -- the outcome of words that request no job: the text of their fault
 abbrev pub IsFaultAnswer : JobFault → Outcome → Type 0
@@ -44,7 +44,7 @@ IsAnswered words files input terminal earlier later before after o =
 -- A run of the program: the outcome of its words is delivered, or that memory ran out. Then no desk was sent anything,
 -- or just what it is sent for an outcome of these words.
 abbrev pub IsPerformed : List (List ℕ) → Files → Holding → Bool → Desks → Desks → Databases → Databases → Writing
-    → Writing → Status → Type 0
+    → Writing → ExitStatus → Type 0
 IsPerformed words files input terminal earlier later before after output errors status =
     (o : Outcome)
     × (((o ≡ memory_lost)

@@ -21,7 +21,7 @@ ghost use Rattle.canoffice_cli.specs.Reasons.{TellsOf};
 use crate::lines::{PrintedLine, add_lines};
 use crate::progress::{Progress, RequestLines};
 use crate::reasons::Reasons;
-use crate::report::{Report, Status};
+use crate::report::{ExitStatus, Report};
 use crate::room::Room;
 use canoffice_jobs::Manner;
 use office::KeyedOffice;
@@ -296,7 +296,7 @@ pub(crate) fn lost_report(alloc: Global, lost: Lost) -> Result<Report, AllocErro
     ensures { IfOk result (λ report. outcome_of report ≡ lost_outcome lost) }
 {
     let text = format!(in alloc; "{lost}\n")?;
-    Ok(Report::of_errors(alloc, text.into_bytes(), Status::Failed))
+    Ok(Report::of_errors(alloc, text.into_bytes(), ExitStatus::Failed))
 }
 
 /// The line of each answer, or the echo of each of the first arrivals with it, put into the room in the place of what
@@ -331,16 +331,16 @@ fn is_some_refused(answers: &[Answer]) -> bool
 }
 
 /// The status where nothing was lost: where it is strict, a refusal is a fault.
-fn status_of(strict: bool, answers: &[Answer]) -> Status
+fn status_of(strict: bool, answers: &[Answer]) -> ExitStatus
     ensures { result ≡ status_of strict answers.now }
 {
     if !strict {
-        return Status::Success;
+        return ExitStatus::Success;
     }
     if is_some_refused(answers) {
-        Status::FaultFound
+        ExitStatus::FaultFound
     } else {
-        Status::Success
+        ExitStatus::Success
     }
 }
 
@@ -376,7 +376,7 @@ impl Answers {
                 Ok(Report {
                     output,
                     errors: errors.into_bytes(),
-                    status: Status::Failed,
+                    status: ExitStatus::Failed,
                 })
             }
         }

@@ -3,7 +3,7 @@ ghost use Rattle.std.specs.Prelude.{OnErr, OnOk};
 ghost use Rattle.canoffice_cli.specs.Outcome.{final_outcome};
 ghost use Rattle.canoffice_cli.specs.Delivery.{IsCut, IsDelivered, IsWritten};
 
-use crate::report::{LOST_MEMORY, Report, Status};
+use crate::report::{ExitStatus, LOST_MEMORY, Report};
 use std::alloc::AllocError;
 use std::io::Write;
 
@@ -20,7 +20,7 @@ pub fn deliver<O: Write, E: Write>(
     report: Result<Report, AllocError>,
     out: &mut O,
     errors: &mut E,
-) -> Status
+) -> ExitStatus
     ensures { IsDelivered (final_outcome report) (O.contents out.old, O.contents out.new)
         (E.contents errors.old, E.contents errors.new) result }
 {
@@ -32,7 +32,7 @@ pub fn deliver<O: Write, E: Write>(
                 status,
             },
         ) => write_both(&output, &text, status, out, errors),
-        Err(AllocError) => write_both(&[], LOST_MEMORY, Status::Failed, out, errors),
+        Err(AllocError) => write_both(&[], LOST_MEMORY, ExitStatus::Failed, out, errors),
     }
 }
 
@@ -40,19 +40,19 @@ pub fn deliver<O: Write, E: Write>(
 fn write_both<O: Write, E: Write>(
     output: &[u8],
     text: &[u8],
-    status: Status,
+    status: ExitStatus,
     out: &mut O,
     errors: &mut E,
-) -> Status
+) -> ExitStatus
     ensures { IsDelivered (record { output = output.now; errors = text.now; status = status })
         (O.contents out.old, O.contents out.new) (E.contents errors.old, E.contents errors.new)
         result }
 {
     if write_whole(out, output).is_err() {
-        return Status::Failed;
+        return ExitStatus::Failed;
     }
     if write_whole(errors, text).is_err() {
-        return Status::Failed;
+        return ExitStatus::Failed;
     }
     status
 }

@@ -26,22 +26,25 @@ use crate::progress::Progress;
 use crate::report::Report;
 pub use apply::apply_script;
 use canoffice_jobs::Job;
-pub use charting::chart_report;
-pub use checking::check_report;
-pub use comparing::{compare_releases_report, compare_report};
+use charting::chart_report;
+use checking::check_report;
+use comparing::{compare_releases_report, compare_report};
 use desk_send::Desks;
 use explaining::Advice;
-pub use exporting::export_report;
+use exporting::export_report;
 use file_jobs::{FileJob, FileTask, file_report};
-pub use formatting::{format_report, kept_report};
-pub use looking::{look_on, requests_report, show_report};
-pub use migrating::{migrate_on, migrate_report};
-pub use paging::{file_page_report, page_report};
-pub use sending::send_report;
-pub use serving::{ServeEnd, serve_report};
+use formatting::{format_report, kept_report};
+pub use looking::look_on;
+use looking::{requests_report, show_report};
+pub use migrating::migrate_on;
+use migrating::migrate_report;
+use paging::{file_page_report, page_report};
+use sending::send_report;
+pub use serving::ServeEnd;
+use serving::serve_report;
 use std::alloc::{AllocError, Global};
 use std::io::Write;
-pub use tabling::table_report;
+use tabling::table_report;
 
 /// Does the job, and reports on it.
 pub fn report_of<F: FileSource + StandardInput, D: Databases, K: Desks, W: Write>(

@@ -9,7 +9,7 @@
 //! - `answering` answers the arrivals of a script, by an office in memory or on a connection to a database, `progress`
 //!   shows how far it is, `room` is taken before for what is printed after, and `reasons` has what `--explain` adds of
 //!   the commands of a script that are refused.
-//! - `report` is the result of a run: bytes for standard output and standard error, and a `Status`.
+//! - `report` is the result of a run: bytes for standard output and standard error, and a `ExitStatus`.
 //! - `delivery` writes a report to the two streams.
 //! - `program` joins them: `perform` is a whole run.
 //!
@@ -31,7 +31,9 @@ mod report;
 mod room;
 
 pub use answering::{Answers, answer_on, answers_when_closed, nothing_answered};
-pub use canoffice_jobs::{Extras, Job, JobFault, Manner, Place, Sending, job_of, not_utf8_fault};
+pub use canoffice_jobs::{
+    Extras, Job, JobFault, Manner, OfficePlace, Sending, job_of, not_utf8_fault,
+};
 pub use databases::{Databases, MemoryDatabase};
 pub use delivery::deliver;
 pub use desk_send::{Desks, NoDesk};
@@ -42,6 +44,6 @@ pub use jobs::{ServeEnd, apply_script, look_on, migrate_on, report_of};
 pub use program::{fault_report, perform};
 pub use progress::Progress;
 pub use reasons::Reasons;
-pub use report::{LOST_MEMORY, Report, Status, bad_line, bad_word, cannot_read, help, usage};
+pub use report::{ExitStatus, LOST_MEMORY, Report, bad_line, bad_word, cannot_read, help, usage};
 pub use room::answers_fit;
 pub use store::{Arrival, Look, Lost, StoredOffice};

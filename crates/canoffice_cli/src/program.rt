@@ -10,7 +10,7 @@ use crate::delivery::deliver;
 use crate::files::{FileSource, StandardInput};
 use crate::jobs::report_of;
 use crate::progress::Progress;
-use crate::report::{Report, Status, help, usage};
+use crate::report::{ExitStatus, Report, help, usage};
 use canoffice_jobs::{JobFault, is_check, job_of, lint_entered, name_before_help};
 use desk_send::Desks;
 use std::alloc::{AllocError, Global};
@@ -39,7 +39,7 @@ pub fn perform<
     out: &mut O,
     errors: &mut E,
     progress: &mut Progress<W>,
-) -> Status
+) -> ExitStatus
     ensures { IsPerformed (map (λ s. s.now) words.entry.now) (F.held files.now) (F.given files.now)
         (is_some progress.old.to) (K.known desks.old) (K.known desks.new)
         (D.known databases.old) (D.known databases.new) (O.contents out.old, O.contents out.new)

@@ -8,7 +8,7 @@ use std::alloc::{AllocError, Global};
 
 /// How the program ends.
 #[derive(Clone, Copy, PartialEq, Eq)]
-pub enum Status {
+pub enum ExitStatus {
     /// All went well: 0.
     Success,
     /// A fault was found in what was checked, formatted or charted, or there is a remark on it, what was looked up
@@ -20,16 +20,16 @@ pub enum Status {
     Failed,
 }
 
-impl Status {
+impl ExitStatus {
     /// The exit status, 0 to 3.
     pub fn code(self) -> u8
         ensures { result ≡ code_of self }
     {
         match self {
-            Status::Success => 0,
-            Status::FaultFound => 1,
-            Status::WrongInput => 2,
-            Status::Failed => 3,
+            ExitStatus::Success => 0,
+            ExitStatus::FaultFound => 1,
+            ExitStatus::WrongInput => 2,
+            ExitStatus::Failed => 3,
         }
     }
 }
@@ -42,12 +42,12 @@ pub struct Report {
     /// The bytes for standard error.
     pub errors: Vec<u8>,
     /// How the program ends.
-    pub status: Status,
+    pub status: ExitStatus,
 }
 
 impl Report {
     /// The report with these bytes for standard output and none for standard error.
-    pub fn of_output(alloc: Global, output: Vec<u8>, status: Status) -> Report
+    pub fn of_output(alloc: Global, output: Vec<u8>, status: ExitStatus) -> Report
         ensures { outcome_of result
             ≡ record { output = output.items; errors = []; status = status } }
     {
@@ -59,7 +59,7 @@ impl Report {
     }
 
     /// The report with these bytes for standard error and none for standard output.
-    pub fn of_errors(alloc: Global, errors: Vec<u8>, status: Status) -> Report
+    pub fn of_errors(alloc: Global, errors: Vec<u8>, status: ExitStatus) -> Report
         ensures { outcome_of result
             ≡ record { output = []; errors = errors.items; status = status } }
     {
@@ -100,7 +100,7 @@ pub fn cannot_read(alloc: Global, path: &str) -> Result<Report, AllocError>
 {
     let shown = shown_path(alloc, path)?;
     let text = format!(in alloc; "cannot read {shown}\n")?;
-    Ok(Report::of_errors(alloc, text.into_bytes(), Status::Failed))
+    Ok(Report::of_errors(alloc, text.into_bytes(), ExitStatus::Failed))
 }
 
 /// The report that the script's line of this number, from 1, is wrong.
@@ -108,7 +108,7 @@ pub fn bad_line(alloc: Global, number: usize) -> Result<Report, AllocError>
     ensures { IfOk result (λ report. outcome_of report ≡ wrong_line number) }
 {
     let text = format!(in alloc; "bad line {number}\n")?;
-    Ok(Report::of_errors(alloc, text.into_bytes(), Status::WrongInput))
+    Ok(Report::of_errors(alloc, text.into_bytes(), ExitStatus::WrongInput))
 }
 
 /// The report that this word of the command line is malformed.
@@ -123,12 +123,12 @@ pub fn bad_word(alloc: Global, word: &str) -> Result<Report, AllocError>
 pub fn help(alloc: Global, text: String) -> Report
     ensures { outcome_of result ≡ success (string_bytes text) }
 {
-    Report::of_output(alloc, text.into_bytes(), Status::Success)
+    Report::of_output(alloc, text.into_bytes(), ExitStatus::Success)
 }
 
 /// The report that the command line is wrong, with this text about the error and the usage.
 pub fn usage(alloc: Global, text: String) -> Report
     ensures { outcome_of result ≡ wrong_input (string_bytes text) }
 {
-    Report::of_errors(alloc, text.into_bytes(), Status::WrongInput)
+    Report::of_errors(alloc, text.into_bytes(), ExitStatus::WrongInput)
 }

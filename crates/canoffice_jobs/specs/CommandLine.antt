@@ -19,7 +19,7 @@ use Rattle.canoffice_jobs.specs.declared.numbers.Number.{Number}
 use Rattle.canoffice_jobs.specs.declared.numbers.Number.TheVariants as number
 use Rattle.canoffice_jobs.specs.declared.place.LookCommand.{LookCommand}
 use Rattle.canoffice_jobs.specs.declared.place.LookCommand.TheVariants as look
-use Rattle.canoffice_jobs.specs.declared.place.Place.{Place}
+use Rattle.canoffice_jobs.specs.declared.place.OfficePlace.{OfficePlace}
 use Rattle.canoffice_jobs.specs.declared.place.PlaceFault.{PlaceFault}
 use Rattle.canoffice_jobs.specs.declared.place.PlaceFault.TheVariants.{NoRelease}
 use Rattle.canoffice_jobs.specs.declared.what.WhatFault.{WhatFault}
@@ -77,7 +77,7 @@ abbrev pub manner_in : List Row → Manner
 manner_in rows = record { strict = is_set rows (codes "strict"); echo = is_set rows (codes "echo") }
 
 -- the values of `--db` and `--port` name the place
-abbrev pub IsPlaceIn : Place → List Row → Type 0
+abbrev pub IsPlaceIn : OfficePlace → List Row → Type 0
 IsPlaceIn place rows = IsPlace place (first_of (codes "db") rows) (first_of (codes "port") rows)
 
 -- the words name files: neither a place is given nor the number of a release
@@ -191,7 +191,7 @@ IsFaultOfKind kind Memory = Unit {0}
 
 -- the values of `--db` and `--port` name some place
 abbrev pub HasPlace : List Row → Type 0
-HasPlace rows = (place : Place) × IsPlaceIn place rows
+HasPlace rows = (place : OfficePlace) × IsPlaceIn place rows
 
 -- of the subcommand with these arguments, this word for this number gives none in its range. The place is looked at
 -- before a number, the older release before the newer one, and the port before the count and before the tries.

@@ -15,7 +15,7 @@ use crate::manner::{Manner, Sending};
 use crate::numbers::{
     Number, count_given, length_given, page_number, port_given, release_number, tries_given,
 };
-use crate::place::{LookCommand, Place, PlaceFault, place_given};
+use crate::place::{LookCommand, OfficePlace, PlaceFault, place_given};
 use crate::remarks::remark_refusal;
 use crate::subcommands::{CHECK, COMPARE, SHOW, Subcommand, clap_command};
 use crate::what::{What, WhatFault, shown_by};
@@ -69,7 +69,7 @@ pub enum Job<'a> {
     /// Print what changed from one release of a network to another.
     CompareReleases {
         /// Where the office is looked at.
-        place: Place<'a>,
+        place: OfficePlace<'a>,
         /// The word that names the network.
         net: &'a str,
         /// The number of the older release, 1 to 65535, or 0 for the live sheet.
@@ -107,7 +107,7 @@ pub enum Job<'a> {
     /// Print a network, or a release of it, as one page.
     Page {
         /// Where the office is looked at.
-        place: Place<'a>,
+        place: OfficePlace<'a>,
         /// The word that names the network.
         net: &'a str,
         /// The number of the release, 1 to 65535, or 0 for the live network.
@@ -121,7 +121,7 @@ pub enum Job<'a> {
     /// Print the requests of a team with their replies.
     Requests {
         /// Where the office is looked at.
-        place: Place<'a>,
+        place: OfficePlace<'a>,
         /// The word that names the team.
         team: &'a str,
         /// Whether they are wanted as JSON.
@@ -148,7 +148,7 @@ pub enum Job<'a> {
     /// Print what a network has, or the list of networks.
     Show {
         /// Where the office is looked at.
-        place: Place<'a>,
+        place: OfficePlace<'a>,
         /// The word that names the network; without one the networks are listed.
         net: Option<&'a str>,
         /// What is shown of the network.

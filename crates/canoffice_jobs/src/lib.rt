@@ -30,7 +30,7 @@ pub use extras::Extras;
 pub use job::{Job, JobFault, job_of, not_utf8_fault};
 pub use manner::{Manner, Sending};
 pub use meant::name_before_help;
-pub use place::Place;
+pub use place::OfficePlace;
 pub use remarks::{is_check, lint_entered};
 pub use what::{What, WhatFault, shown_by};
 pub use words::{page_look, requests_look, show_look};

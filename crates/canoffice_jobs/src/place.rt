@@ -10,7 +10,7 @@ use std::alloc::{AllocError, Global};
 
 /// Where an office is looked at.
 #[derive(Clone, Copy)]
-pub enum Place<'a> {
+pub enum OfficePlace<'a> {
     /// In the database of this path.
     Database(&'a str),
     /// At the desk on this port of this machine, from 1.
@@ -78,7 +78,7 @@ impl PlaceFault<'_> {
 pub(crate) fn place_given<'a>(
     database: Option<&'a str>,
     port: Option<&'a str>,
-) -> Result<Place<'a>, PlaceFault<'a>>
+) -> Result<OfficePlace<'a>, PlaceFault<'a>>
     ensures given { IfOk result
         (λ place. IsPlace place (option_map (λ w. w.now) database.entry)
         (option_map (λ w. w.now) port.entry)) }
@@ -90,9 +90,9 @@ pub(crate) fn place_given<'a>(
         (option_map (λ w. w.now) port.entry) fault) }
 {
     match (database, port) {
-        (Some(path), None) => Ok(Place::Database(path)),
+        (Some(path), None) => Ok(OfficePlace::Database(path)),
         (None, Some(word)) => match port_number(word) {
-            Some(port) => Ok(Place::Desk(port)),
+            Some(port) => Ok(OfficePlace::Desk(port)),
             None => Err(PlaceFault::WrongPort(word)),
         },
         (Some(_), Some(_)) => Err(PlaceFault::Both),

@@ -9,11 +9,11 @@ use Rattle.dbc_advice.specs.Clashes.{AreClashLines, AreCutLines, Clashing, IsCla
 use Rattle.dbc_advice.specs.Limits.{clashes_reported, reasons_reported}
 use Rattle.dbc_advice.specs.Reasons.{AreReasons, reasons_at, reasons_from}
 use Rattle.dbc_advice.specs.ReportedLine.{AreLinesOf, more_text}
-use Rattle.dbc_advice.specs.declared.reasons.Reason.{Reason}
+use Rattle.dbc_advice.specs.declared.reasons.ClashReason.{ClashReason}
 use Rattle.dbc_advice.proofs.ReportedLines.{is_more, lines_append, lines_map, no_more}
 
 -- no more reasons than are reported are all
-pub all_reasons : (bytes : ℕ) (places : List Place) (reasons : List Reason) → AreReasons bytes places reasons
+pub all_reasons : (bytes : ℕ) (places : List Place) (reasons : List ClashReason) → AreReasons bytes places reasons
     → length reasons ≤ reasons_reported → reasons ≡ reasons_from bytes places 0
 all_reasons bytes places reasons are few = elim are.enough [
   | inl le ↦
@@ -42,13 +42,13 @@ clashes_split ms i m lt item =
     (sym item))
 
 -- how many they are
-pub count_more : (ms : List Message) (i reported : ℕ) (m : Message) (reasons : List Reason) → i < length ms
+pub count_more : (ms : List Message) (i reported : ℕ) (m : Message) (reasons : List ClashReason) → i < length ms
     → m ≡ get_or ms i m
     → AreReasons m.length (places_of m.signals) reasons → length reasons ≤ reasons_reported
     → length (clashes_of (take i ms)) ≡ reported → length (clashes_of (take (i + 1) ms)) ≡ reported + length reasons
 count_more ms i reported m reasons lt item are few before =
     let here : length (message_clashes m) ≡ length reasons =
-    length-map (reasons_from m.length (places_of m.signals) 0) (λ (r : Reason). (m, r))
+    length-map (reasons_from m.length (places_of m.signals) 0) (λ (r : ClashReason). (m, r))
     ∙ ap length (sym (all_reasons m.length (places_of m.signals) reasons are few)) in
     let both : length (clashes_of (take i ms) ++ message_clashes m) ≡ length (clashes_of (take i ms)) + length
     (message_clashes m) = length-append (clashes_of (take i ms)) (message_clashes m) in
@@ -57,25 +57,25 @@ count_more ms i reported m reasons lt item are few before =
     omega (arith, here, both, whole, before)
 
 -- where there is no room for all reasons of a message: those before, the first ones of its own, and then others
-module _ (ms : List Message) (i reported room : ℕ) (m : Message) (reasons : List Reason) (lt : i < length ms)
+module _ (ms : List Message) (i reported room : ℕ) (m : Message) (reasons : List ClashReason) (lt : i < length ms)
     (item : m ≡ get_or ms i m) (are : AreReasons m.length (places_of m.signals) reasons)
     (count : length (clashes_of (take i ms)) ≡ reported) (few : reported ≤ clashes_reported)
     (room_is : room ≡ clashes_reported - reported) (full : room < length reasons) where
-  abbrev others : List Reason
+  abbrev others : List ClashReason
   others = reasons_from m.length (places_of m.signals) are.looked_at
 
-  abbrev left : List Reason
+  abbrev left : List ClashReason
   left = drop room reasons ++ others
 
   abbrev shown : List Clashing
-  shown = clashes_of (take i ms) ++ map (λ (r : Reason). (m, r)) (take room reasons)
+  shown = clashes_of (take i ms) ++ map (λ (r : ClashReason). (m, r)) (take room reasons)
 
   abbrev tail : List Clashing
-  tail = map (λ (r : Reason). (m, r)) left ++ clashes_of (drop (i + 1) ms)
+  tail = map (λ (r : ClashReason). (m, r)) left ++ clashes_of (drop (i + 1) ms)
 
   whole : clashes_of ms ≡ shown ++ tail
   whole =
-      let f : Reason → Clashing = λ r. (m, r) in
+      let f : ClashReason → Clashing = λ r. (m, r) in
       let C : List Clashing = clashes_of (take i ms) in
       let D : List Clashing = clashes_of (drop (i + 1) ms) in
       let here : List Clashing = map f (take room reasons) in
@@ -88,7 +88,7 @@ module _ (ms : List Message) (i reported room : ℕ) (m : Message) (reasons : Li
 
   shown_count : length shown ≡ clashes_reported
   shown_count =
-      let f : Reason → Clashing = λ r. (m, r) in
+      let f : ClashReason → Clashing = λ r. (m, r) in
       let C : List Clashing = clashes_of (take i ms) in
       let here : List Clashing = map f (take room reasons) in
       let n1 : length (take room reasons) ≡ room = length-take-le room reasons (omega (arith, full)) in
@@ -106,7 +106,7 @@ module _ (ms : List Message) (i reported room : ℕ) (m : Message) (reasons : Li
   -- and there are more
   pub more_clashes : clashes_reported < length (clashes_of ms)
   more_clashes =
-      let f : Reason → Clashing = λ r. (m, r) in
+      let f : ClashReason → Clashing = λ r. (m, r) in
       let D : List Clashing = clashes_of (drop (i + 1) ms) in
       let d1 : length (drop room reasons) ≡ length reasons - room = length-drop room reasons in
       let d2 : length left ≡ length (drop room reasons) + length others = length-append (drop room reasons) others in
@@ -118,19 +118,19 @@ module _ (ms : List Message) (i reported room : ℕ) (m : Message) (reasons : Li
 
 module _ (file text : List ℕ) where
   -- all reasons of one more message
-  pub message_more : (ms : List Message) (i : ℕ) (old lines new : List ℕ) (m : Message) (reasons : List Reason)
+  pub message_more : (ms : List Message) (i : ℕ) (old lines new : List ℕ) (m : Message) (reasons : List ClashReason)
       → i < length ms → m ≡ get_or ms i m
       → AreReasons m.length (places_of m.signals) reasons → length reasons ≤ reasons_reported
       → AreLinesOf (IsClashLine file text) (clashes_of (take i ms)) old
-      → AreLinesOf (λ (r : Reason). IsClashLine file text (m, r)) reasons lines → new ≡ old ++ lines
+      → AreLinesOf (λ (r : ClashReason). IsClashLine file text (m, r)) reasons lines → new ≡ old ++ lines
       → AreLinesOf (IsClashLine file text) (clashes_of (take (i + 1) ms)) new
   message_more ms i old lines new m reasons lt item are few before here e =
-      let all : map (λ (r : Reason). (m, r)) reasons ≡ message_clashes m =
-      ap (λ (rs : List Reason). map (λ (r : Reason). (m, r)) rs)
+      let all : map (λ (r : ClashReason). (m, r)) reasons ≡ message_clashes m =
+      ap (λ (rs : List ClashReason). map (λ (r : ClashReason). (m, r)) rs)
       (all_reasons m.length (places_of m.signals) reasons are few) in
       let pairs : AreLinesOf (IsClashLine file text) (message_clashes m) lines =
       subst (λ cs. AreLinesOf (IsClashLine file text) cs lines) all
-      (lines_map (IsClashLine file text) (λ (r : Reason). (m, r)) reasons lines here) in
+      (lines_map (IsClashLine file text) (λ (r : ClashReason). (m, r)) reasons lines here) in
       let P : List Clashing → Type 0 = λ cs. AreLinesOf (IsClashLine file text) cs new in
       let Q : List ℕ → Type 0 = λ v. AreLinesOf (IsClashLine file text) (clashes_of (take i ms) ++ message_clashes m)
       v in
@@ -159,7 +159,7 @@ module _ (file text : List ℕ) where
 
   -- where there is no room for all reasons of a message
   pub cut_reported : (ms : List Message) (i reported room : ℕ) (old last new : List ℕ) (m : Message)
-      (reasons first : List Reason) → i < length ms → m ≡ get_or ms i m
+      (reasons first : List ClashReason) → i < length ms → m ≡ get_or ms i m
       → AreReasons m.length (places_of m.signals) reasons
       → AreLinesOf (IsClashLine file text) (clashes_of (take i ms)) old
       → length (clashes_of (take i ms)) ≡ reported → reported ≤ clashes_reported → room ≡ clashes_reported - reported
@@ -168,7 +168,7 @@ module _ (file text : List ℕ) where
       → AreClashLines file text ms new
   cut_reported ms i reported room old last new m reasons first lt item are before count few room_is full first_is cut
       e =
-      let f : Reason → Clashing = λ r. (m, r) in
+      let f : ClashReason → Clashing = λ r. (m, r) in
       let C : List Clashing = clashes_of (take i ms) in
       let here : List Clashing = map f (take room reasons) in
       let same : take clashes_reported (clashes_of ms) ≡ C ++ here =
@@ -177,7 +177,7 @@ module _ (file text : List ℕ) where
       more_clashes ms i reported room m reasons lt item are count few room_is full in
       let lines : AreLinesOf (IsClashLine file text) here cut.lines =
       lines_map (IsClashLine file text) f (take room reasons) cut.lines
-      (subst (λ rs. AreLinesOf (λ (r : Reason). IsClashLine file text (m, r)) rs cut.lines) first_is cut.are) in
+      (subst (λ rs. AreLinesOf (λ (r : ClashReason). IsClashLine file text (m, r)) rs cut.lines) first_is cut.are) in
       record {
         lines = old ++ cut.lines;
         are = subst (λ cs. AreLinesOf (IsClashLine file text) cs (old ++ cut.lines)) (sym same)

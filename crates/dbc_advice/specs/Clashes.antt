@@ -11,15 +11,15 @@ use Rattle.dbc_advice.specs.Position.{position_at}
 use Rattle.dbc_advice.specs.Reasons.{reasons_from}
 use Rattle.dbc_advice.specs.ReportedLine.{AreLinesOf, code_label, more_line, more_text, reported_line}
 use Rattle.dbc_advice.specs.Unclear.{reason_text}
-use Rattle.dbc_advice.specs.declared.reasons.Reason.{Reason}
+use Rattle.dbc_advice.specs.declared.reasons.ClashReason.{ClashReason}
 
 -- a message, and a reason why it isn't clear
 abbrev pub Clashing : Type 0
-Clashing = Message × Reason
+Clashing = Message × ClashReason
 
 -- all reasons of a message, in order
 abbrev pub message_clashes : Message → List Clashing
-message_clashes m = map (λ (r : Reason). (m, r)) (reasons_from m.length (places_of m.signals) 0)
+message_clashes m = map (λ (r : ClashReason). (m, r)) (reasons_from m.length (places_of m.signals) 0)
 
 abbrev pub clashes_of : List Message → List Clashing
 clashes_of messages = flat_map message_clashes messages
@@ -48,7 +48,7 @@ pub record AreClashLines (file text : List ℕ) (messages : List Message) (out :
   pub whole : out ≡ lines ++ more_text file clashes_reported (length (clashes_of messages)) (codes "clashes")
 
 -- the lines of these reasons of a message, and that there are more
-pub record AreCutLines (file text : List ℕ) (m : Message) (reasons : List Reason) (out : List ℕ) : Type 0 where
+pub record AreCutLines (file text : List ℕ) (m : Message) (reasons : List ClashReason) (out : List ℕ) : Type 0 where
   pub lines : List ℕ
-  pub are : AreLinesOf (λ (r : Reason). IsClashLine file text (m, r)) reasons lines
+  pub are : AreLinesOf (λ (r : ClashReason). IsClashLine file text (m, r)) reasons lines
   pub whole : out ≡ lines ++ more_line file clashes_reported (codes "clashes")

@@ -7,7 +7,7 @@ use Rattle.bitlayout.specs.declared.clash.Clash.{Clash}
 use Rattle.can_id.specs.Ident.{ident_number}
 use Rattle.dbc_sheet.specs.declared.message.Message.{Message}
 use Rattle.dbc_sheet.specs.declared.signal.Signal.{Signal}
-use Rattle.dbc_advice.specs.declared.reasons.Reason.{Reason}
+use Rattle.dbc_advice.specs.declared.reasons.ClashReason.{ClashReason}
 
 -- the name of the signal at an index
 abbrev pub name_at : List Signal → ℕ → List ℕ
@@ -43,5 +43,5 @@ clash_text m bit (NoMultiplexor i) =
 clash_text m bit (Overlap j i) =
     codes "signals " ++ (pair_text m.signals j i ++ (share_text bit ++ message_text m))
 
-abbrev pub reason_text : Message → Reason → List ℕ
+abbrev pub reason_text : Message → ClashReason → List ℕ
 reason_text m reason = clash_text m reason.bit reason.clash

@@ -13,7 +13,7 @@ use crate::first::Stated;
 use crate::notes::Source;
 use crate::offsets::{Heading, headings, message_offset, signal_offset};
 use crate::position::position_of;
-use crate::reasons::{Reason, reasons_of};
+use crate::reasons::{ClashReason, reasons_of};
 use crate::sentences::{code_label, more_line, reported_line};
 use crate::unclear::reason_text;
 use bitlayout::{Clash, first_clash};
@@ -38,7 +38,7 @@ fn signal_index(clash: Clash) -> usize
 }
 
 /// The offset of the signal at which the reason is reported.
-fn reason_offset(text: &[u8], headings: &[Heading], message: &Message, reason: Reason) -> usize
+fn reason_offset(text: &[u8], headings: &[Heading], message: &Message, reason: ClashReason) -> usize
     ensures { result ≤ length text.now }
 {
     let from = message_offset(headings, message.number()).min(text.len());
@@ -62,7 +62,7 @@ fn clash_line(
     source: Source,
     headings: &[Heading],
     message: &Message,
-    reason: Reason,
+    reason: ClashReason,
 ) -> Result<Vec<u8>, AllocError>
     ensures { IfOk result (λ line. IsClashLine source.entry.name.now source.entry.text.now
         (message.now, reason) line.items) }
@@ -80,7 +80,7 @@ fn clash_lines(
     source: Source,
     headings: &[Heading],
     message: &Message,
-    reasons: &[Reason],
+    reasons: &[ClashReason],
 ) -> Result<Vec<u8>, AllocError>
     ensures { IfOk result (λ lines. AreLinesOf
         (λ r. IsClashLine source.entry.name.now source.entry.text.now
@@ -95,7 +95,7 @@ fn clash_lines(
 }
 
 /// Why the message isn't clear: all reasons, or more than are reported.
-fn message_reasons(alloc: Global, message: &Message) -> Result<Vec<Reason>, AllocError>
+fn message_reasons(alloc: Global, message: &Message) -> Result<Vec<ClashReason>, AllocError>
     ensures { IfOk result (λ reasons. AreReasons message.now.length (places_of message.now.signals)
         reasons.items) }
 {
@@ -114,7 +114,7 @@ fn cut_lines(
     source: Source,
     headings: &[Heading],
     message: &Message,
-    reasons: &[Reason],
+    reasons: &[ClashReason],
 ) -> Result<Vec<u8>, AllocError>
     ensures { IfOk result
         (λ out. AreCutLines source.entry.name.now source.entry.text.now message.now reasons.now
@@ -131,7 +131,7 @@ fn stated_reason(
     alloc: Global,
     text: &[u8],
     message: &Message,
-    reason: Reason,
+    reason: ClashReason,
 ) -> Result<Stated, AllocError>
     ensures { IfOk result (IsStatedClash text.now (message.now, reason)) }
 {
@@ -164,7 +164,11 @@ pub(crate) fn first_unclear(
 }
 
 /// The name of the code of a reason, and what is stated of it.
-fn clash_sentence(alloc: Global, message: &Message, reason: Reason) -> Result<Vec<u8>, AllocError>
+fn clash_sentence(
+    alloc: Global,
+    message: &Message,
+    reason: ClashReason,
+) -> Result<Vec<u8>, AllocError>
     ensures { IfOk result (λ text. text.items ≡ clash_sentence (message.now, reason)) }
 {
     let words = reason_text(alloc, message, reason)?;
@@ -177,7 +181,7 @@ fn add_sentences(
     alloc: Global,
     sentences: &mut Vec<Vec<u8>>,
     message: &Message,
-    reasons: &[Reason],
+    reasons: &[ClashReason],
 ) -> Result<(), AllocError>
     ensures { OnOk result (map bytes_of sentences.new.items ≡ map bytes_of sentences.old.items
         ++ map (λ r. clash_sentence (message.now, r)) reasons.now) }

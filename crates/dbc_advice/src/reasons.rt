@@ -11,7 +11,7 @@ use std::alloc::{AllocError, Global};
 
 /// A reason why the signals of a message do not fit together.
 #[derive(Clone, Copy)]
-pub(crate) struct Reason {
+pub(crate) struct ClashReason {
     /// The clash, with the indices of its signals.
     pub clash: Clash,
     /// The position of the least bit of the payload that both signals have, or of the least one past it that the signal
@@ -58,7 +58,7 @@ fn overlap_reasons(
     index: usize,
     place: &Place,
     bytes: u16,
-) -> Result<Vec<Reason>, AllocError>
+) -> Result<Vec<ClashReason>, AllocError>
     ensures { IfOk result (λ reasons. reasons.items ≡ overlap_reasons bytes earlier.now index
         place.now) }
 {
@@ -70,32 +70,32 @@ fn overlap_reasons(
                 later: index,
             };
             let bit = first_shared(other.layout, place.layout, bytes);
-            reasons.push(Reason { clash, bit })?;
+            reasons.push(ClashReason { clash, bit })?;
         }
     }
     Ok(reasons)
 }
 
 /// That a bit of the place at `index` is outside.
-fn outside_reason(place: &Place, index: usize, bytes: u16) -> Option<Reason>
+fn outside_reason(place: &Place, index: usize, bytes: u16) -> Option<ClashReason>
     requires { bytes ≤ length_limit }
     ensures { option_to_list result ≡ outside_reason bytes index place.now }
 {
     if inside(place.layout, bytes) {
         return None;
     }
-    Some(Reason {
+    Some(ClashReason {
         clash: Clash::Outside(index),
         bit: first_outside(place.layout, bytes),
     })
 }
 
 /// That the place at `index` depends on a multiplexor, and there is none.
-fn unmultiplexed_reason(place: &Place, index: usize, multiplexed: bool) -> Option<Reason>
+fn unmultiplexed_reason(place: &Place, index: usize, multiplexed: bool) -> Option<ClashReason>
     ensures { option_to_list result ≡ unmultiplexed_reason multiplexed index place.now }
 {
     if place.mux.is_under() && !multiplexed {
-        Some(Reason {
+        Some(ClashReason {
             clash: Clash::NoMultiplexor(index),
             bit: None,
         })
@@ -112,7 +112,7 @@ fn reasons_at(
     place: &Place,
     bytes: u16,
     multiplexed: bool,
-) -> Result<Vec<Reason>, AllocError>
+) -> Result<Vec<ClashReason>, AllocError>
     requires index { index ≤ length places.now }
     requires bytes { bytes ≤ length_limit }
     ensures { IfOk result (λ reasons. multiplexed ≡ has_multiplexor places.now
@@ -142,7 +142,7 @@ pub(crate) fn reasons_of(
     alloc: Global,
     places: &[Place],
     bytes: u16,
-) -> Result<Vec<Reason>, AllocError>
+) -> Result<Vec<ClashReason>, AllocError>
     requires { bytes ≤ length_limit }
     ensures { IfOk result (λ reasons. AreReasons bytes places.now reasons.items) }
 {

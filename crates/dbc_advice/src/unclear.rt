@@ -2,7 +2,7 @@
 ghost use Rattle.std.specs.Prelude.{◌≡◌, ◌++◌, IfOk, codes, string_bytes};
 ghost use Rattle.dbc_advice.specs.Unclear.{bit_text, clash_text, message_text, name_at, outside_text, reason_text};
 
-use crate::reasons::Reason;
+use crate::reasons::ClashReason;
 use bitlayout::Clash;
 use columns::concat;
 use dbc_sheet::{Message, Signal};
@@ -116,7 +116,7 @@ fn overlap_text(
 pub(crate) fn reason_text(
     alloc: Global,
     message: &Message,
-    reason: Reason,
+    reason: ClashReason,
 ) -> Result<Vec<u8>, AllocError>
     ensures { IfOk result (λ text. text.items ≡ reason_text message.now reason) }
 {

@@ -6,9 +6,9 @@ use Rattle.dbc_compare.specs.Differences.{changes_between, field_changes}
 use Rattle.dbc_compare.specs.Fields.{Valued}
 use Rattle.dbc_compare.specs.Laws.{swapped_change}
 use Rattle.dbc_compare.specs.Value.{Value, same_value, value_text}
-use Rattle.dbc_compare.specs.declared.difference.Change.{Change}
-use Rattle.dbc_compare.specs.declared.difference.Change.TheVariants as change
-use Rattle.dbc_compare.specs.declared.field.Field.{Field}
+use Rattle.dbc_compare.specs.declared.difference.Alteration.{Alteration}
+use Rattle.dbc_compare.specs.declared.difference.Alteration.TheVariants as change
+use Rattle.dbc_compare.specs.declared.field.SheetField.{SheetField}
 use Rattle.dbc_compare.proofs.Members.{In, in_alone, in_either, in_first, in_left, in_right, none_if_empty}
 use Rattle.dbc_compare.proofs.ValueTests.{flip, itself, value_decides}
 
@@ -22,11 +22,11 @@ none_alone false c e = cc e
 
 -- ---- of one field
 
-pub field_told : (f : Field) (x y : Value) → field_changes f x y ≡ [] → x ≡ y
+pub field_told : (f : SheetField) (x y : Value) → field_changes f x y ≡ [] → x ≡ y
 unfolding field_changes
 field_told f x y e = (value_decides x y).0 (none_alone (same_value x y) _ e)
 
-pub field_same : (f : Field) (x : Value) → field_changes f x x ≡ []
+pub field_same : (f : SheetField) (x : Value) → field_changes f x x ≡ []
 unfolding field_changes
 field_same f x =
     cond-true (same_value x x) [] (change.Changed f (value_text x) (value_text x) ∷ [])
@@ -40,7 +40,7 @@ to_choice : {A : Type 0} (b : Bool) (c d : A) → b ≡ false → d ≡ c → In
 to_choice true c d f e = cc f
 to_choice false c d f e = in_first d c [] e
 
-field_swapped : (f : Field) (x y : Value) (c : Change) → In c (field_changes f x y)
+field_swapped : (f : SheetField) (x y : Value) (c : Alteration) → In c (field_changes f x y)
     → In (swapped_change c) (field_changes f y x)
 unfolding field_changes
 field_swapped f x y c h =
@@ -74,7 +74,7 @@ AreAligned [] (y ∷ ys) = ⊥
 AreAligned (x ∷ xs) [] = ⊥
 AreAligned (x ∷ xs) (y ∷ ys) = (x.0 ≡ y.0) × AreAligned xs ys
 
-pub list_swapped : (xs ys : List Valued) → AreAligned xs ys → (c : Change) → In c (changes_between xs ys)
+pub list_swapped : (xs ys : List Valued) → AreAligned xs ys → (c : Alteration) → In c (changes_between xs ys)
     → In (swapped_change c) (changes_between ys xs)
 list_swapped [] [] aligned c h = absurd (none_if_empty [] refl c h)
 list_swapped [] (y ∷ ys) aligned c h = absurd aligned

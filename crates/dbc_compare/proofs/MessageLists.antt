@@ -8,8 +8,8 @@ use Rattle.dbc_compare.specs.Differences.{below, between, by_numbers, changes_be
 use Rattle.dbc_compare.specs.Differences.{message_differences, pair_differences, shown_message}
 use Rattle.dbc_compare.specs.Fields.{message_fields, signal_fields}
 use Rattle.dbc_compare.specs.Laws.{swapped, swapped_change}
-use Rattle.dbc_compare.specs.declared.difference.Change.{Change}
-use Rattle.dbc_compare.specs.declared.difference.Change.TheVariants as change
+use Rattle.dbc_compare.specs.declared.difference.Alteration.{Alteration}
+use Rattle.dbc_compare.specs.declared.difference.Alteration.TheVariants as change
 use Rattle.dbc_compare.specs.declared.difference.Difference.{Difference}
 use Rattle.dbc_compare.proofs.ChangeLists.{AreAligned, both_empty, list_same, list_swapped}
 use Rattle.dbc_compare.proofs.FieldsTold.{message_told, signal_told}

@@ -4,11 +4,11 @@ use Rattle.dbc_compare.proofs.Common.{ValueTable}
 use Rattle.dbc_compare.specs.Differences.{changes_between, differences, sheet_differences, thing_differences}
 use Rattle.dbc_compare.specs.Fields.{node_fields, sheet_fields, table_fields}
 use Rattle.dbc_compare.specs.Laws.{IsSwapped, swapped, swapped_change, swapped_place}
-use Rattle.dbc_compare.specs.declared.difference.Change.{Change}
-use Rattle.dbc_compare.specs.declared.difference.Change.TheVariants as change
+use Rattle.dbc_compare.specs.declared.difference.Alteration.{Alteration}
+use Rattle.dbc_compare.specs.declared.difference.Alteration.TheVariants as change
 use Rattle.dbc_compare.specs.declared.difference.Difference.{Difference}
-use Rattle.dbc_compare.specs.declared.place.Place.{Place}
-use Rattle.dbc_compare.specs.declared.place.Place.TheVariants as place
+use Rattle.dbc_compare.specs.declared.place.Region.{Region}
+use Rattle.dbc_compare.specs.declared.place.Region.TheVariants as place
 use Rattle.dbc_compare.proofs.ChangeLists.{list_swapped}
 use Rattle.dbc_compare.proofs.Members.{In, in_either, in_from, in_left, in_right, in_to}
 use Rattle.dbc_compare.proofs.MessageLists.{messages_swapped}
@@ -17,13 +17,13 @@ use Rattle.dbc_compare.proofs.ToldSheets.{all_keep}
 
 -- ---- twice the other way round
 
-place_twice : (p : Place) → swapped_place (swapped_place p) ≡ p
+place_twice : (p : Region) → swapped_place (swapped_place p) ≡ p
 place_twice place.Sheet = refl
 place_twice place.Nodes = refl
 place_twice place.Tables = refl
 place_twice (place.Message old new) = refl
 
-change_twice : (c : Change) → swapped_change (swapped_change c) ≡ c
+change_twice : (c : Alteration) → swapped_change (swapped_change c) ≡ c
 change_twice change.Added = refl
 change_twice change.Removed = refl
 change_twice change.Reordered = refl

@@ -8,10 +8,10 @@ use Rattle.dbc_compare.specs.Differences.{gone_thing, kept_names, shown_thing, t
 use Rattle.dbc_compare.specs.Fields.{Valued}
 use Rattle.dbc_compare.specs.Laws.{swapped, swapped_change, swapped_place}
 use Rattle.dbc_compare.specs.Value.{same_names}
-use Rattle.dbc_compare.specs.declared.difference.Change.{Change}
-use Rattle.dbc_compare.specs.declared.difference.Change.TheVariants as change
+use Rattle.dbc_compare.specs.declared.difference.Alteration.{Alteration}
+use Rattle.dbc_compare.specs.declared.difference.Alteration.TheVariants as change
 use Rattle.dbc_compare.specs.declared.difference.Difference.{Difference}
-use Rattle.dbc_compare.specs.declared.place.Place.{Place}
+use Rattle.dbc_compare.specs.declared.place.Region.{Region}
 use Rattle.dbc_compare.proofs.ChangeLists.{AreAligned, both_empty, list_same, list_swapped}
 use Rattle.dbc_compare.proofs.Members.{In, all_kept, any_in, empty_if_none, find_none, find_only, found_in, from_flat}
 use Rattle.dbc_compare.proofs.Members.{from_map, in_alone, in_either, in_first, in_flat, in_later, in_left, in_map}
@@ -20,28 +20,28 @@ use Rattle.dbc_compare.proofs.ValueTests.{flip, itself, names_decide}
 
 -- ---- differences in one place
 
-pub about_told : (here : Place) (name : Option (List ℕ)) (changes : List Change)
+pub about_told : (here : Region) (name : Option (List ℕ)) (changes : List Alteration)
     → differences_about here name changes ≡ [] → changes ≡ []
 unfolding differences_about
 about_told here name [] e = refl
 about_told here name (c ∷ changes) e = cc e
 
-pub about_empty : (here : Place) (name : Option (List ℕ)) (changes : List Change) → changes ≡ []
+pub about_empty : (here : Region) (name : Option (List ℕ)) (changes : List Alteration) → changes ≡ []
     → differences_about here name changes ≡ []
 unfolding differences_about
 about_empty here name changes e = ap (map (λ c. record { place = here; name = name; change = c })) e
 
 -- each has its opposite the other way round where each change has
-pub about_swapped : (here : Place) (name : Option (List ℕ)) (changes others : List Change) (d : Difference)
+pub about_swapped : (here : Region) (name : Option (List ℕ)) (changes others : List Alteration) (d : Difference)
     → In d (differences_about here name changes)
-    → ((c : Change) → In c changes → In (swapped_change c) others)
+    → ((c : Alteration) → In c changes → In (swapped_change c) others)
     → In (swapped d) (differences_about (swapped_place here) name others)
 unfolding differences_about
 about_swapped here name changes others d h opposite =
-    let it = from_map (λ (c : Change). record { place = here; name = name; change = c }) changes d h in
+    let it = from_map (λ (c : Alteration). record { place = here; name = name; change = c }) changes d h in
     subst (λ (v : Difference). In (swapped v)
-    (map (λ (c : Change). record { place = swapped_place here; name = name; change = c }) others)) (sym it.2)
-    (in_map (λ (c : Change). record { place = swapped_place here; name = name; change = c }) others
+    (map (λ (c : Alteration). record { place = swapped_place here; name = name; change = c }) others)) (sym it.2)
+    (in_map (λ (c : Alteration). record { place = swapped_place here; name = name; change = c }) others
     (swapped_change it.0) (opposite it.0 it.1))
 
 -- ---- lists
@@ -58,15 +58,15 @@ pub joined_empty : {A : Type 0} (xs ys : List A) → xs ≡ [] → ys ≡ [] →
 joined_empty xs ys e f = ap (λ v. v ++ ys) e ∙ f
 
 -- a change that isn't there, and one that is
-holds_else : (b : Bool) (c : Change) → change_if (not b) c ≡ [] → b ≡ true
+holds_else : (b : Bool) (c : Alteration) → change_if (not b) c ≡ [] → b ≡ true
 holds_else true c e = refl
 holds_else false c e = cc e
 
-from_if : (b : Bool) (c d : Change) → In d (change_if b c) → (b ≡ true) × (d ≡ c)
+from_if : (b : Bool) (c d : Alteration) → In d (change_if b c) → (b ≡ true) × (d ≡ c)
 from_if true c d h = (refl, in_alone d c h)
 from_if false c d h = absurd (none_if_empty [] refl d h)
 
-to_if : (b : Bool) (c d : Change) → b ≡ true → d ≡ c → In d (change_if b c)
+to_if : (b : Bool) (c d : Alteration) → b ≡ true → d ≡ c → In d (change_if b c)
 to_if true c d t e = in_first d c [] e
 to_if false c d t e = cc t
 
@@ -116,7 +116,7 @@ module _ {A : Type 0} (name : A → List ℕ) (fields : A → List Valued) where
       (λ z t. k z (in_later z y ys t)) in
       λ i. same i ∷ rest i
 
-  found_same : (here : Place) (old : List A) (y : A) (o : Option A) → thing_named name old (name y) ≡ o
+  found_same : (here : Region) (old : List A) (y : A) (o : Option A) → thing_named name old (name y) ≡ o
       → ((x : A) → In x old → name x ≡ name y → changes_between (fields x) (fields y) ≡ [] → x ≡ y)
       → differences_about here (Some (name y)) (changes_since fields o y) ≡ [] → o ≡ Some y
   found_same here old y None e told empty =
@@ -125,7 +125,7 @@ module _ {A : Type 0} (name : A → List ℕ) (fields : A → List Valued) where
       let it = found_named old (name y) x e in
       ap Some (told x it.0 it.1 (about_told here (Some (name y)) (changes_between (fields x) (fields y)) empty))
 
-  pub things_told : (here : Place) (old new : List A) → AreNamedApart name old
+  pub things_told : (here : Region) (old new : List A) → AreNamedApart name old
       → ((x y : A) → In x old → In y new → name x ≡ name y → changes_between (fields x) (fields y) ≡ [] → x ≡ y)
       → thing_differences here name fields old new ≡ [] → old ≡ new
   unfolding thing_differences
@@ -146,7 +146,7 @@ module _ {A : Type 0} (name : A → List ℕ) (fields : A → List Valued) where
       sym (all_names_kept old new has_new) ∙ (names_decide _ _).0 order ∙ all_names_kept new old has_old in
       same_if_found old old new names (λ x h. found_self old apart x h (name x) refl) found
 
-  pub things_same : (here : Place) (xs : List A) → AreNamedApart name xs
+  pub things_same : (here : Region) (xs : List A) → AreNamedApart name xs
       → thing_differences here name fields xs xs ≡ []
   unfolding thing_differences
   things_same here xs apart =
@@ -163,7 +163,7 @@ module _ {A : Type 0} (name : A → List ℕ) (fields : A → List Valued) where
 
   -- ---- the other way round
 
-  shown_swapped : (here : Place) (old new : List A) → AreNamedApart name new
+  shown_swapped : (here : Region) (old new : List A) → AreNamedApart name new
       → ((x y : A) → AreAligned (fields x) (fields y))
       → (y : A) → In y new → (o : Option A) → thing_named name old (name y) ≡ o → (d : Difference)
       → In d (differences_about here (Some (name y)) (changes_since fields o y))
@@ -194,7 +194,7 @@ module _ {A : Type 0} (name : A → List ℕ) (fields : A → List Valued) where
       in_left (flat_map (shown_thing (swapped_place here) name fields new) old) _ (swapped d)
       (in_flat (shown_thing (swapped_place here) name fields new) old x (swapped d) it.0 shown)
 
-  gone_swapped : (here : Place) (old new : List A) → (x : A) → In x old → (d : Difference)
+  gone_swapped : (here : Region) (old new : List A) → (x : A) → In x old → (d : Difference)
       → In d (gone_thing here name new x)
       → In (swapped d) (thing_differences (swapped_place here) name fields new old)
   unfolding thing_differences
@@ -210,7 +210,7 @@ module _ {A : Type 0} (name : A → List ℕ) (fields : A → List Valued) where
       in_left (flat_map (shown_thing (swapped_place here) name fields new) old) _ (swapped d)
       (in_flat (shown_thing (swapped_place here) name fields new) old x (swapped d) k opposite)
 
-  order_swapped : (here : Place) (old new : List A) (d : Difference)
+  order_swapped : (here : Region) (old new : List A) (d : Difference)
       → In d (differences_about here None (change_if (are_reordered name old new) change.Reordered))
       → In (swapped d) (thing_differences (swapped_place here) name fields new old)
   unfolding thing_differences
@@ -224,7 +224,7 @@ module _ {A : Type 0} (name : A → List ℕ) (fields : A → List Valued) where
       (ap not (flip same_names names_decide (kept_names name new old) (kept_names name old new)) ∙ it.0)
       (ap swapped_change it.1))))
 
-  pub things_swapped : (here : Place) (old new : List A) → AreNamedApart name new
+  pub things_swapped : (here : Region) (old new : List A) → AreNamedApart name new
       → ((x y : A) → AreAligned (fields x) (fields y)) → (d : Difference)
       → In d (thing_differences here name fields old new)
       → In (swapped d) (thing_differences (swapped_place here) name fields new old)

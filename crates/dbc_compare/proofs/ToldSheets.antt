@@ -5,7 +5,7 @@ use Rattle.dbc_sheet.specs.WellFormed.{IsWellFormedMessage}
 use Rattle.dbc_compare.specs.Differences.{differences, sheet_differences, thing_differences}
 use Rattle.dbc_compare.specs.Fields.{node_fields, sheet_fields, table_fields}
 use Rattle.dbc_compare.specs.Laws.{TellsApart}
-use Rattle.dbc_compare.specs.declared.place.Place.TheVariants as place
+use Rattle.dbc_compare.specs.declared.place.Region.TheVariants as place
 use Rattle.dbc_compare.proofs.ChangeLists.{both_empty, list_same, list_told}
 use Rattle.dbc_compare.proofs.FieldsTold.{node_told, table_told, word_is}
 use Rattle.dbc_compare.proofs.Members.{all_in, each_in}

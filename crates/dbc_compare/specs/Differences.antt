@@ -11,38 +11,38 @@ use Rattle.dbc_sheet.specs.declared.sheet.Sheet.{Sheet}
 use Rattle.dbc_sheet.specs.Pairs.{partner}
 use Rattle.dbc_compare.specs.Fields.{Valued, message_fields, node_fields, sheet_fields, signal_fields, table_fields}
 use Rattle.dbc_compare.specs.Value.{Value, same_names, same_value, value_text}
-use Rattle.dbc_compare.specs.declared.difference.Change.{Change}
-use Rattle.dbc_compare.specs.declared.difference.Change.TheVariants as change
+use Rattle.dbc_compare.specs.declared.difference.Alteration.{Alteration}
+use Rattle.dbc_compare.specs.declared.difference.Alteration.TheVariants as change
 use Rattle.dbc_compare.specs.declared.difference.Difference.{Difference}
-use Rattle.dbc_compare.specs.declared.field.Field.{Field}
-use Rattle.dbc_compare.specs.declared.place.Place.{Place}
-use Rattle.dbc_compare.specs.declared.place.Place.TheVariants as place
+use Rattle.dbc_compare.specs.declared.field.SheetField.{SheetField}
+use Rattle.dbc_compare.specs.declared.place.Region.{Region}
+use Rattle.dbc_compare.specs.declared.place.Region.TheVariants as place
 
 -- ---- the changes of fields
 
-unfoldable pub field_changes : Field → Value → Value → List Change
+unfoldable pub field_changes : SheetField → Value → Value → List Alteration
 field_changes f old new =
     if same_value old new then [] else change.Changed f (value_text old) (value_text new) ∷ []
 
 -- of each field in which the two differ
-abbrev pub changes_between : List Valued → List Valued → List Change
+abbrev pub changes_between : List Valued → List Valued → List Alteration
 changes_between [] new = []
 changes_between (o ∷ old) [] = []
 changes_between (o ∷ old) (n ∷ new) = field_changes o.0 o.1 n.1 ++ changes_between old new
 
 -- ---- differences in one place
 
-unfoldable pub differences_about : Place → Option (List ℕ) → List Change → List Difference
+unfoldable pub differences_about : Region → Option (List ℕ) → List Alteration → List Difference
 differences_about here name changes = map (λ c. record { place = here; name = name; change = c }) changes
 
 -- a change that is there under a condition
-abbrev pub change_if : Bool → Change → List Change
+abbrev pub change_if : Bool → Alteration → List Alteration
 change_if b c = if b then c ∷ [] else []
 
 -- ---- things that are known by name: nodes, value tables, the signals of a message
 
 -- of a thing of the new list, since it was the one that was found
-abbrev pub changes_since : {A : Type 0} → (A → List Valued) → Option A → A → List Change
+abbrev pub changes_since : {A : Type 0} → (A → List Valued) → Option A → A → List Alteration
 changes_since fields None x = change.Added ∷ []
 changes_since fields (Some old) x = changes_between (fields old) (fields x)
 
@@ -53,16 +53,16 @@ kept_names name things others = filter (has_name name others) (map name things)
 abbrev pub are_reordered : {A : Type 0} → (A → List ℕ) → List A → List A → Bool
 are_reordered name old new = not (same_names (kept_names name old new) (kept_names name new old))
 
-abbrev pub shown_thing : {A : Type 0} → Place → (A → List ℕ) → (A → List Valued) → List A → A → List Difference
+abbrev pub shown_thing : {A : Type 0} → Region → (A → List ℕ) → (A → List Valued) → List A → A → List Difference
 shown_thing here name fields old x =
     differences_about here (Some (name x)) (changes_since fields (thing_named name old (name x)) x)
 
-abbrev pub gone_thing : {A : Type 0} → Place → (A → List ℕ) → List A → A → List Difference
+abbrev pub gone_thing : {A : Type 0} → Region → (A → List ℕ) → List A → A → List Difference
 gone_thing here name new x =
     differences_about here (Some (name x)) (change_if (not (has_name name new (name x))) change.Removed)
 
 -- those of the new list in its order, then those that are gone, then the order of those in both
-unfoldable pub thing_differences : {A : Type 0} → Place → (A → List ℕ) → (A → List Valued) → List A → List A
+unfoldable pub thing_differences : {A : Type 0} → Region → (A → List ℕ) → (A → List Valued) → List A → List A
     → List Difference
 thing_differences here name fields old new =
     flat_map (shown_thing here name fields old) new
@@ -72,7 +72,7 @@ thing_differences here name fields old new =
 -- ---- messages
 
 -- a message as it was and as it is
-abbrev pub between : Message → Message → Place
+abbrev pub between : Message → Message → Region
 between old new =
     place.Message (record { ident = old.ident; name = old.name }) (record { ident = new.ident; name = new.name })
 

@@ -12,12 +12,12 @@ use Rattle.dbc_sheet.specs.declared.sheet.Sheet.{Sheet}
 use Rattle.dbc_sheet.specs.declared.signal.Signal.{Signal}
 use Rattle.dbc_sheet.specs.declared.value_table.ValueTable.{ValueTable}
 use Rattle.dbc_compare.specs.Value.{Value, Whole, Word, WholeOrNone, Dec, Names, Texts}
-use Rattle.dbc_compare.specs.declared.field.Field.{Field}
-use Rattle.dbc_compare.specs.declared.field.Field.TheVariants as field
+use Rattle.dbc_compare.specs.declared.field.SheetField.{SheetField}
+use Rattle.dbc_compare.specs.declared.field.SheetField.TheVariants as field
 
 -- ---- their words, and which of them a receiver goes by
 
-abbrev pub field_word : Field → List ℕ
+abbrev pub field_word : SheetField → List ℕ
 field_word field.Version = codes "version"
 field_word field.Comment = codes "comment"
 field_word field.Values = codes "values"
@@ -40,7 +40,7 @@ field_word field.Spn = codes "spn"
 field_word field.Receivers = codes "receivers"
 
 -- a receiver that was built for the old value reads the new message wrong, or doesn't see it
-abbrev pub breaks_receivers : Field → Bool
+abbrev pub breaks_receivers : SheetField → Bool
 breaks_receivers field.Number = true
 breaks_receivers field.Length = true
 breaks_receivers field.Start = true
@@ -72,7 +72,7 @@ names_of (Some n) = n ∷ []
 
 -- a field, and what it has
 abbrev pub Valued : Type 0
-Valued = Field × Value
+Valued = SheetField × Value
 
 abbrev pub sheet_fields : Sheet → List Valued
 sheet_fields s = (field.Version, Word s.version) ∷ (field.Comment, Word s.comment) ∷ []

@@ -3,11 +3,11 @@ use Rattle.std.specs.Prelude.{◌≡◌, ◌↔◌, Bool, IsTrue, [], Contains}
 use Rattle.dbc_sheet.specs.declared.sheet.Sheet.{Sheet}
 use Rattle.dbc_compare.specs.Differences.{differences}
 use Rattle.dbc_compare.specs.List.{compare_text, has_no_difference}
-use Rattle.dbc_compare.specs.declared.difference.Change.{Change}
-use Rattle.dbc_compare.specs.declared.difference.Change.TheVariants as change
+use Rattle.dbc_compare.specs.declared.difference.Alteration.{Alteration}
+use Rattle.dbc_compare.specs.declared.difference.Alteration.TheVariants as change
 use Rattle.dbc_compare.specs.declared.difference.Difference.{Difference}
-use Rattle.dbc_compare.specs.declared.place.Place.{Place}
-use Rattle.dbc_compare.specs.declared.place.Place.TheVariants as place
+use Rattle.dbc_compare.specs.declared.place.Region.{Region}
+use Rattle.dbc_compare.specs.declared.place.Region.TheVariants as place
 
 -- there is no difference if and only if the sheets are equal
 abbrev pub TellsApart : Sheet → Sheet → Type 0
@@ -20,11 +20,11 @@ ListTellsApart old new =
 
 -- ---- the other way round
 
-abbrev pub swapped_place : Place → Place
+abbrev pub swapped_place : Region → Region
 swapped_place (place.Message old new) = place.Message new old
 swapped_place here = here
 
-abbrev pub swapped_change : Change → Change
+abbrev pub swapped_change : Alteration → Alteration
 swapped_change change.Added = change.Removed
 swapped_change change.Removed = change.Added
 swapped_change change.Reordered = change.Reordered

@@ -8,12 +8,12 @@ use Rattle.dbc_sheet.specs.declared.counts.Counts.{Counts}
 use Rattle.dbc_sheet.specs.declared.sheet.Sheet.{Sheet}
 use Rattle.dbc_compare.specs.Differences.{differences}
 use Rattle.dbc_compare.specs.Fields.{breaks_receivers, field_word}
-use Rattle.dbc_compare.specs.declared.difference.Change.{Change}
-use Rattle.dbc_compare.specs.declared.difference.Change.TheVariants as change
+use Rattle.dbc_compare.specs.declared.difference.Alteration.{Alteration}
+use Rattle.dbc_compare.specs.declared.difference.Alteration.TheVariants as change
 use Rattle.dbc_compare.specs.declared.difference.Difference.{Difference}
 use Rattle.dbc_compare.specs.declared.list.TheConstants.{DIFFERENCES, DIFFERENCE_TOTALS}
-use Rattle.dbc_compare.specs.declared.place.Place.{Place}
-use Rattle.dbc_compare.specs.declared.place.Place.TheVariants as place
+use Rattle.dbc_compare.specs.declared.place.Region.{Region}
+use Rattle.dbc_compare.specs.declared.place.Region.TheVariants as place
 use Rattle.rows.specs.Fact.{Fact, of_change, of_ident, of_mark, of_name, of_number, of_path}
 use Rattle.rows.specs.Json.{columns_data, list_text}
 use Rattle.rows.specs.Table.{Listing, plain}
@@ -22,7 +22,7 @@ use Rattle.serde_json.specs.Written.{compact_text}
 -- ---- a row
 
 -- what it is about
-abbrev pub kind_word : Place → Option (List ℕ) → List ℕ
+abbrev pub kind_word : Region → Option (List ℕ) → List ℕ
 kind_word place.Sheet name = codes "sheet"
 kind_word place.Nodes name = codes "node"
 kind_word place.Tables name = codes "table"
@@ -30,30 +30,30 @@ kind_word (place.Message old new) None = codes "message"
 kind_word (place.Message old new) (Some n) = codes "signal"
 
 -- the identifier of the message as it is; nothing else has one
-abbrev pub ident_at : Place → Option Ident
+abbrev pub ident_at : Region → Option Ident
 ident_at (place.Message old new) = Some new.ident
 ident_at here = None
 
 -- the name of a message as it is, and of its signal
-abbrev pub name_fact : Place → Option (List ℕ) → Fact
+abbrev pub name_fact : Region → Option (List ℕ) → Fact
 name_fact (place.Message old new) name = of_path new.name name
 name_fact here None = of_path (codes "-") None
 name_fact here (Some n) = of_path n None
 
 -- `added`, or the word of a field
-abbrev pub change_word : Change → List ℕ
+abbrev pub change_word : Alteration → List ℕ
 change_word change.Added = codes "added"
 change_word change.Removed = codes "removed"
 change_word change.Reordered = codes "reordered"
 change_word (change.Changed f old new) = field_word f
 
 -- the word, and of a field what it had and what it has
-abbrev pub change_fact : Change → Fact
+abbrev pub change_fact : Alteration → Fact
 change_fact (change.Changed f old new) = of_change (field_word f) (Some (old, new))
 change_fact c = of_change (change_word c) None
 
 -- whether it breaks a receiver of what was there: a message or a signal that is gone, or a field that it goes by
-abbrev pub is_breaking : Place → Change → Bool
+abbrev pub is_breaking : Region → Alteration → Bool
 is_breaking (place.Message old new) change.Removed = true
 is_breaking here (change.Changed f old new) = breaks_receivers f
 is_breaking here c = false

@@ -3,8 +3,8 @@ ghost use Rattle.std.specs.Prelude.{◌≡◌, ◌++◌, ◌∷◌, [], OnOk};
 ghost use Rattle.dbc_compare.specs.Differences.{field_changes};
 ghost use Rattle.dbc_compare.specs.Value.{Dec, Names, Texts, Whole, WholeOrNone, Word};
 
-use crate::difference::Change;
-use crate::field::Field;
+use crate::difference::Alteration;
+use crate::field::SheetField;
 use crate::values::{decimal_text, digits, entries_text, spn_text};
 use base::Items;
 use columns::{word, words};
@@ -15,17 +15,17 @@ use std::alloc::{AllocError, Global};
 
 /// Adds that the field had the one word and has the other.
 fn push_words(
-    changes: &mut Vec<Change>,
-    field: Field,
+    changes: &mut Vec<Alteration>,
+    field: SheetField,
     old: Vec<u8>,
     new: Vec<u8>,
 ) -> Result<(), AllocError>
     ensures { OnOk result
-        (changes.new.items ≡ changes.old.items ++ Change.Changed field old.items new.items ∷ []) }
+        (changes.new.items ≡ changes.old.items ++ Alteration.Changed field old.items new.items ∷ []) }
 {
     let old = Items::from_vec(old);
     let new = Items::from_vec(new);
-    changes.push(Change::Changed { field, old, new })?;
+    changes.push(Alteration::Changed { field, old, new })?;
     Ok(())
 }
 
@@ -33,8 +33,8 @@ fn push_words(
 #[tactic(auto, unfolding(crate::specs::Differences::field_changes))]
 pub(crate) fn push_whole(
     alloc: Global,
-    changes: &mut Vec<Change>,
-    field: Field,
+    changes: &mut Vec<Alteration>,
+    field: SheetField,
     old: u64,
     new: u64,
 ) -> Result<(), AllocError>
@@ -53,8 +53,8 @@ pub(crate) fn push_whole(
 #[tactic(auto, unfolding(crate::specs::Differences::field_changes))]
 pub(crate) fn push_word(
     alloc: Global,
-    changes: &mut Vec<Change>,
-    field: Field,
+    changes: &mut Vec<Alteration>,
+    field: SheetField,
     old: &[u8],
     new: &[u8],
 ) -> Result<(), AllocError>
@@ -73,8 +73,8 @@ pub(crate) fn push_word(
 #[tactic(auto, unfolding(crate::specs::Differences::field_changes))]
 pub(crate) fn push_spn(
     alloc: Global,
-    changes: &mut Vec<Change>,
-    field: Field,
+    changes: &mut Vec<Alteration>,
+    field: SheetField,
     old: Spn,
     new: Spn,
 ) -> Result<(), AllocError>
@@ -93,8 +93,8 @@ pub(crate) fn push_spn(
 #[tactic(auto, unfolding(crate::specs::Differences::field_changes))]
 pub(crate) fn push_decimal(
     alloc: Global,
-    changes: &mut Vec<Change>,
-    field: Field,
+    changes: &mut Vec<Alteration>,
+    field: SheetField,
     old: &Decimal,
     new: &Decimal,
 ) -> Result<(), AllocError>
@@ -113,8 +113,8 @@ pub(crate) fn push_decimal(
 #[tactic(auto, unfolding(crate::specs::Differences::field_changes))]
 pub(crate) fn push_names(
     alloc: Global,
-    changes: &mut Vec<Change>,
-    field: Field,
+    changes: &mut Vec<Alteration>,
+    field: SheetField,
     old: &[Name],
     new: &[Name],
 ) -> Result<(), AllocError>
@@ -133,8 +133,8 @@ pub(crate) fn push_names(
 #[tactic(auto, unfolding(crate::specs::Differences::field_changes))]
 pub(crate) fn push_texts(
     alloc: Global,
-    changes: &mut Vec<Change>,
-    field: Field,
+    changes: &mut Vec<Alteration>,
+    field: SheetField,
     old: &[ValueText],
     new: &[ValueText],
 ) -> Result<(), AllocError>

@@ -1,15 +1,15 @@
 //! What differs.
 ghost use Rattle.std.specs.Prelude.{◌≡◌, IfOk};
 
-use crate::field::Field;
-use crate::place::Place;
+use crate::field::SheetField;
+use crate::place::Region;
 use base::{Copying, Items};
 use dbc_words::Name;
 use std::alloc::{AllocError, Global};
 
 /// What has become of a thing.
 #[derive(Drop)]
-pub enum Change {
+pub enum Alteration {
     /// It is in the new sheet alone.
     Added,
     /// It is in the old sheet alone.
@@ -19,7 +19,7 @@ pub enum Change {
     /// A field has another value.
     Changed {
         /// The field.
-        field: Field,
+        field: SheetField,
         /// What it had, as a word.
         old: Items<u8>,
         /// What it has, as a word.
@@ -27,7 +27,7 @@ pub enum Change {
     },
 }
 
-impl Change {
+impl Alteration {
     ghost use Rattle.dbc_compare.specs.List.{change_word};
 
     /// The word that its text begins with.
@@ -35,10 +35,10 @@ impl Change {
         ensures { result.now ≡ change_word self.now }
     {
         match self {
-            Change::Added => b"added",
-            Change::Removed => b"removed",
-            Change::Reordered => b"reordered",
-            Change::Changed { field, .. } => field.word(),
+            Alteration::Added => b"added",
+            Alteration::Removed => b"removed",
+            Alteration::Reordered => b"reordered",
+            Alteration::Changed { field, .. } => field.word(),
         }
     }
 }
@@ -46,11 +46,11 @@ impl Change {
 /// A difference of two sheets.
 pub struct Difference {
     /// Where it is.
-    pub place: Place,
+    pub place: Region,
     /// The node, the value table or the signal in that place, if it is about one.
     pub name: Option<Name>,
     /// What differs.
-    pub change: Change,
+    pub change: Alteration,
 }
 
 /// A copy of the bytes. The error is out of memory.
@@ -60,13 +60,13 @@ fn copied(alloc: Global, bytes: &Items<u8>) -> Result<Items<u8>, AllocError>
     Ok(Items::from_vec(Vec::from_slice(alloc, bytes.as_slice())?))
 }
 
-impl Copying for Change {
+impl Copying for Alteration {
     fn duplicate(&self, alloc: Global) -> Result<Self, AllocError> {
         match self {
-            Change::Added => Ok(Change::Added),
-            Change::Removed => Ok(Change::Removed),
-            Change::Reordered => Ok(Change::Reordered),
-            Change::Changed { field, old, new } => Ok(Change::Changed {
+            Alteration::Added => Ok(Alteration::Added),
+            Alteration::Removed => Ok(Alteration::Removed),
+            Alteration::Reordered => Ok(Alteration::Reordered),
+            Alteration::Changed { field, old, new } => Ok(Alteration::Changed {
                 field: *field,
                 old: copied(alloc, old)?,
                 new: copied(alloc, new)?,

@@ -3,7 +3,7 @@ ghost use Rattle.std.specs.Prelude.{◌≡◌};
 
 /// A field of a sheet, a node, a value table, a message or a signal.
 #[derive(Clone, Copy, PartialEq, Eq)]
-pub enum Field {
+pub enum SheetField {
     /// The version of a sheet.
     Version,
     /// The comment of anything that has one.
@@ -46,7 +46,7 @@ pub enum Field {
     Receivers,
 }
 
-impl Field {
+impl SheetField {
     ghost use Rattle.dbc_compare.specs.Fields.{breaks_receivers, field_word};
 
     /// The word of its change.
@@ -54,26 +54,26 @@ impl Field {
         ensures { result.now ≡ field_word self }
     {
         match self {
-            Field::Version => b"version",
-            Field::Comment => b"comment",
-            Field::Values => b"values",
-            Field::Number => b"renumbered",
-            Field::Name => b"renamed",
-            Field::Length => b"length",
-            Field::Transmitter => b"transmitter",
-            Field::Start => b"start",
-            Field::Size => b"size",
-            Field::Order => b"order",
-            Field::Signed => b"signed",
-            Field::ValueType => b"type",
-            Field::Mux => b"mux",
-            Field::Factor => b"factor",
-            Field::Offset => b"offset",
-            Field::Minimum => b"minimum",
-            Field::Maximum => b"maximum",
-            Field::Unit => b"unit",
-            Field::Spn => b"spn",
-            Field::Receivers => b"receivers",
+            SheetField::Version => b"version",
+            SheetField::Comment => b"comment",
+            SheetField::Values => b"values",
+            SheetField::Number => b"renumbered",
+            SheetField::Name => b"renamed",
+            SheetField::Length => b"length",
+            SheetField::Transmitter => b"transmitter",
+            SheetField::Start => b"start",
+            SheetField::Size => b"size",
+            SheetField::Order => b"order",
+            SheetField::Signed => b"signed",
+            SheetField::ValueType => b"type",
+            SheetField::Mux => b"mux",
+            SheetField::Factor => b"factor",
+            SheetField::Offset => b"offset",
+            SheetField::Minimum => b"minimum",
+            SheetField::Maximum => b"maximum",
+            SheetField::Unit => b"unit",
+            SheetField::Spn => b"spn",
+            SheetField::Receivers => b"receivers",
         }
     }
 
@@ -83,16 +83,16 @@ impl Field {
     {
         matches!(
             self,
-            Field::Number
-                | Field::Length
-                | Field::Start
-                | Field::Size
-                | Field::Order
-                | Field::Signed
-                | Field::ValueType
-                | Field::Mux
-                | Field::Factor
-                | Field::Offset
+            SheetField::Number
+                | SheetField::Length
+                | SheetField::Start
+                | SheetField::Size
+                | SheetField::Order
+                | SheetField::Signed
+                | SheetField::ValueType
+                | SheetField::Mux
+                | SheetField::Factor
+                | SheetField::Offset
         )
     }
 }

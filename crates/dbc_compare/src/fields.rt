@@ -5,8 +5,8 @@ ghost use Rattle.dbc_compare.specs.Fields.{layout_fields, meaning_fields, messag
 ghost use Rattle.dbc_compare.specs.Fields.{scale_fields, sheet_fields};
 
 use crate::changes::{push_decimal, push_names, push_spn, push_texts, push_whole, push_word};
-use crate::difference::Change;
-use crate::field::Field;
+use crate::difference::Alteration;
+use crate::field::SheetField;
 use crate::values::{truth_word, type_word};
 use dbc_sheet::{Message, Node, Sheet, Signal, ValueTable};
 use dbc_words::{Name, Named};
@@ -21,7 +21,7 @@ pub(crate) trait Compared: Named {
     ghost fields_of: { Self → List Valued };
 
     /// The changes of the fields since it was the old one. The error is out of memory.
-    fn changes_from(&self, alloc: Global, old: &Self) -> Result<Vec<Change>, AllocError>
+    fn changes_from(&self, alloc: Global, old: &Self) -> Result<Vec<Alteration>, AllocError>
         ensures { IfOk result (λ changes. changes.items
             ≡ changes_between (fields_of old.now) (fields_of self.now)) };
 }
@@ -31,10 +31,10 @@ impl Compared for Node {
 
     ghost fields_of = { node_fields };
 
-    fn changes_from(&self, alloc: Global, old: &Node) -> Result<Vec<Change>, AllocError> {
+    fn changes_from(&self, alloc: Global, old: &Node) -> Result<Vec<Alteration>, AllocError> {
         let mut changes = Vec::new(alloc);
         let (before, after) = (old.comment.as_bytes(), self.comment.as_bytes());
-        push_word(alloc, &mut changes, Field::Comment, before, after)?;
+        push_word(alloc, &mut changes, SheetField::Comment, before, after)?;
         Ok(changes)
     }
 }
@@ -44,10 +44,10 @@ impl Compared for ValueTable {
 
     ghost fields_of = { table_fields };
 
-    fn changes_from(&self, alloc: Global, old: &ValueTable) -> Result<Vec<Change>, AllocError> {
+    fn changes_from(&self, alloc: Global, old: &ValueTable) -> Result<Vec<Alteration>, AllocError> {
         let mut changes = Vec::new(alloc);
         let (before, after) = (old.entries.as_slice(), self.entries.as_slice());
-        push_texts(alloc, &mut changes, Field::Values, before, after)?;
+        push_texts(alloc, &mut changes, SheetField::Values, before, after)?;
         Ok(changes)
     }
 }
@@ -57,7 +57,7 @@ impl Compared for Signal {
 
     ghost fields_of = { signal_fields };
 
-    fn changes_from(&self, alloc: Global, old: &Signal) -> Result<Vec<Change>, AllocError> {
+    fn changes_from(&self, alloc: Global, old: &Signal) -> Result<Vec<Alteration>, AllocError> {
         let mut changes = Vec::new(alloc);
         push_layout(alloc, &mut changes, old, self)?;
         push_reading(alloc, &mut changes, old, self)?;
@@ -70,7 +70,7 @@ impl Compared for Signal {
 /// Adds the changes of where a signal's bits are.
 fn push_layout(
     alloc: Global,
-    changes: &mut Vec<Change>,
+    changes: &mut Vec<Alteration>,
     old: &Signal,
     new: &Signal,
 ) -> Result<(), AllocError>
@@ -78,23 +78,23 @@ fn push_layout(
         ≡ changes.old.items ++ changes_between (layout_fields old.now) (layout_fields new.now)) }
 {
     let (before, after) = (u64::from(old.layout.start), u64::from(new.layout.start));
-    push_whole(alloc, changes, Field::Start, before, after)?;
+    push_whole(alloc, changes, SheetField::Start, before, after)?;
     let (before, after) = (
         u64::from(old.layout.size.bits()),
         u64::from(new.layout.size.bits()),
     );
-    push_whole(alloc, changes, Field::Size, before, after)?;
+    push_whole(alloc, changes, SheetField::Size, before, after)?;
     let (before, after) = (
         old.layout.order.word().as_bytes(),
         new.layout.order.word().as_bytes(),
     );
-    push_word(alloc, changes, Field::Order, before, after)
+    push_word(alloc, changes, SheetField::Order, before, after)
 }
 
 /// Adds the changes of how a signal's bits are read, and when.
 fn push_reading(
     alloc: Global,
-    changes: &mut Vec<Change>,
+    changes: &mut Vec<Alteration>,
     old: &Signal,
     new: &Signal,
 ) -> Result<(), AllocError>
@@ -102,14 +102,14 @@ fn push_reading(
         ≡ changes.old.items ++ changes_between (reading_fields old.now) (reading_fields new.now)) }
 {
     let (before, after) = (truth_word(old.signed), truth_word(new.signed));
-    push_word(alloc, changes, Field::Signed, before, after)?;
+    push_word(alloc, changes, SheetField::Signed, before, after)?;
     let (before, after) = (type_word(old.value_type), type_word(new.value_type));
-    push_word(alloc, changes, Field::ValueType, before, after)?;
+    push_word(alloc, changes, SheetField::ValueType, before, after)?;
     let (before, after) = (old.mux.indicator(), new.mux.indicator());
     push_word(
         alloc,
         changes,
-        Field::Mux,
+        SheetField::Mux,
         before.as_bytes(),
         after.as_bytes(),
     )
@@ -118,23 +118,35 @@ fn push_reading(
 /// Adds the changes of a signal's factor, offset and range.
 fn push_scale(
     alloc: Global,
-    changes: &mut Vec<Change>,
+    changes: &mut Vec<Alteration>,
     old: &Signal,
     new: &Signal,
 ) -> Result<(), AllocError>
     ensures { OnOk result (changes.new.items
         ≡ changes.old.items ++ changes_between (scale_fields old.now) (scale_fields new.now)) }
 {
-    push_decimal(alloc, changes, Field::Factor, &old.factor, &new.factor)?;
-    push_decimal(alloc, changes, Field::Offset, &old.offset, &new.offset)?;
-    push_decimal(alloc, changes, Field::Minimum, &old.minimum, &new.minimum)?;
-    push_decimal(alloc, changes, Field::Maximum, &old.maximum, &new.maximum)
+    push_decimal(alloc, changes, SheetField::Factor, &old.factor, &new.factor)?;
+    push_decimal(alloc, changes, SheetField::Offset, &old.offset, &new.offset)?;
+    push_decimal(
+        alloc,
+        changes,
+        SheetField::Minimum,
+        &old.minimum,
+        &new.minimum,
+    )?;
+    push_decimal(
+        alloc,
+        changes,
+        SheetField::Maximum,
+        &old.maximum,
+        &new.maximum,
+    )
 }
 
 /// Adds the changes of what a signal means, and to whom.
 fn push_meaning(
     alloc: Global,
-    changes: &mut Vec<Change>,
+    changes: &mut Vec<Alteration>,
     old: &Signal,
     new: &Signal,
 ) -> Result<(), AllocError>
@@ -144,19 +156,19 @@ fn push_meaning(
     push_word(
         alloc,
         changes,
-        Field::Unit,
+        SheetField::Unit,
         old.unit.as_bytes(),
         new.unit.as_bytes(),
     )?;
-    push_spn(alloc, changes, Field::Spn, old.spn, new.spn)?;
+    push_spn(alloc, changes, SheetField::Spn, old.spn, new.spn)?;
     let (before, after) = (old.receivers.as_slice(), new.receivers.as_slice());
-    push_names(alloc, changes, Field::Receivers, before, after)?;
+    push_names(alloc, changes, SheetField::Receivers, before, after)?;
     let (before, after) = (old.values.as_slice(), new.values.as_slice());
-    push_texts(alloc, changes, Field::Values, before, after)?;
+    push_texts(alloc, changes, SheetField::Values, before, after)?;
     push_word(
         alloc,
         changes,
-        Field::Comment,
+        SheetField::Comment,
         old.comment.as_bytes(),
         new.comment.as_bytes(),
     )
@@ -177,29 +189,29 @@ pub(crate) fn message_changes(
     alloc: Global,
     old: &Message,
     new: &Message,
-) -> Result<Vec<Change>, AllocError>
+) -> Result<Vec<Alteration>, AllocError>
     ensures { IfOk result (λ changes. changes.items
         ≡ changes_between (message_fields old.now) (message_fields new.now)) }
 {
     let mut changes = Vec::new(alloc);
     let (before, after) = (u64::from(old.number()), u64::from(new.number()));
-    push_whole(alloc, &mut changes, Field::Number, before, after)?;
+    push_whole(alloc, &mut changes, SheetField::Number, before, after)?;
     push_word(
         alloc,
         &mut changes,
-        Field::Name,
+        SheetField::Name,
         old.name.as_bytes(),
         new.name.as_bytes(),
     )?;
     let (before, after) = (u64::from(old.length.bytes()), u64::from(new.length.bytes()));
-    push_whole(alloc, &mut changes, Field::Length, before, after)?;
+    push_whole(alloc, &mut changes, SheetField::Length, before, after)?;
     let (before, after) = (names_of(&old.transmitter), names_of(&new.transmitter));
-    push_names(alloc, &mut changes, Field::Transmitter, before, after)?;
+    push_names(alloc, &mut changes, SheetField::Transmitter, before, after)?;
     let (before, after) = (&old.comment, &new.comment);
     push_word(
         alloc,
         &mut changes,
-        Field::Comment,
+        SheetField::Comment,
         before.as_bytes(),
         after.as_bytes(),
     )?;
@@ -211,14 +223,14 @@ pub(crate) fn sheet_changes(
     alloc: Global,
     old: &Sheet,
     new: &Sheet,
-) -> Result<Vec<Change>, AllocError>
+) -> Result<Vec<Alteration>, AllocError>
     ensures { IfOk result (λ changes. changes.items
         ≡ changes_between (sheet_fields old.now) (sheet_fields new.now)) }
 {
     let mut changes = Vec::new(alloc);
     let (before, after) = (old.version().as_bytes(), new.version().as_bytes());
-    push_word(alloc, &mut changes, Field::Version, before, after)?;
+    push_word(alloc, &mut changes, SheetField::Version, before, after)?;
     let (before, after) = (old.comment().as_bytes(), new.comment().as_bytes());
-    push_word(alloc, &mut changes, Field::Comment, before, after)?;
+    push_word(alloc, &mut changes, SheetField::Comment, before, after)?;
     Ok(changes)
 }

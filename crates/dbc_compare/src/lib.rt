@@ -1,6 +1,6 @@
 //! What differs between two sheets.
 //!
-//! [`differences`] lists the differences of two sheets: a [`Change`] in a [`Place`], and there of a node, a value table
+//! [`differences`] lists the differences of two sheets: a [`Alteration`] in a [`Region`], and there of a node, a value table
 //! or a signal by its name. [`differences_table`] makes a list of them (`rows`), with totals that count them; [`compare`]
 //! gives it as lines or as JSON, and says whether the sheets are equal. A message is compared with its partner
 //! (`dbc_sheet`).
@@ -26,12 +26,12 @@ mod sheets;
 mod things;
 mod values;
 
-pub use difference::{Change, Difference};
-pub use field::Field;
+pub use difference::{Alteration, Difference};
+pub use field::SheetField;
 pub use laws::{differences_are_swapped, differences_tell_apart, list_tells_apart};
 pub use list::{
     Comparison, DIFFERENCE_TOTALS, DIFFERENCES, breaking_count, breaks, compare, differences_table,
     has_no_difference,
 };
-pub use place::{MessageKey, Place};
+pub use place::{MessageKey, Region};
 pub use sheets::differences;

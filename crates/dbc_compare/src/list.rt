@@ -4,9 +4,9 @@ ghost use Rattle.dbc_compare.specs.List.{breaks, change_fact, compare_text, diff
 ghost use Rattle.dbc_compare.specs.List.{has_no_difference, ident_at, is_breaking, kind_word, name_fact, no_difference};
 ghost use Rattle.rows.specs.Fact.{fact_of, of_path};
 
-use crate::difference::{Change, Difference};
+use crate::difference::{Alteration, Difference};
 use crate::laws::differences_tell_apart;
-use crate::place::Place;
+use crate::place::Region;
 use crate::sheets::differences;
 use can_id::Ident;
 use dbc_sheet::{Counts, Sheet, counts_of};
@@ -16,31 +16,31 @@ use std::alloc::{AllocError, Global};
 
 /// The columns of a difference.
 pub const DIFFERENCES: [Column; 5] = [
-    Column(*b"breaks      ", rows::Place::Plain),
-    Column(*b"kind        ", rows::Place::Left(7)),
-    Column(*b"identifier  ", rows::Place::Plain),
-    Column(*b"name        ", rows::Place::Plain),
-    Column(*b"change      ", rows::Place::Plain),
+    Column(*b"breaks      ", rows::Alignment::Plain),
+    Column(*b"kind        ", rows::Alignment::Left(7)),
+    Column(*b"identifier  ", rows::Alignment::Plain),
+    Column(*b"name        ", rows::Alignment::Plain),
+    Column(*b"change      ", rows::Alignment::Plain),
 ];
 
 /// How many there are, how many of them break a receiver, and how many messages were added, removed and changed.
 pub const DIFFERENCE_TOTALS: [Column; 5] = [
-    Column(*b"differences ", rows::Place::Counted(0)),
-    Column(*b"breaking    ", rows::Place::Counted(0)),
-    Column(*b"added       ", rows::Place::Counted(0)),
-    Column(*b"removed     ", rows::Place::Counted(0)),
-    Column(*b"changed     ", rows::Place::Counted(0)),
+    Column(*b"differences ", rows::Alignment::Counted(0)),
+    Column(*b"breaking    ", rows::Alignment::Counted(0)),
+    Column(*b"added       ", rows::Alignment::Counted(0)),
+    Column(*b"removed     ", rows::Alignment::Counted(0)),
+    Column(*b"changed     ", rows::Alignment::Counted(0)),
 ];
 
 /// What the row is about.
-fn kind_word(place: &Place, name: &Option<Name>) -> &'static [u8]
+fn kind_word(place: &Region, name: &Option<Name>) -> &'static [u8]
     ensures { result.now ≡ kind_word place.now name.now }
 {
     match place {
-        Place::Sheet => b"sheet",
-        Place::Nodes => b"node",
-        Place::Tables => b"table",
-        Place::Message { .. } => match name {
+        Region::Sheet => b"sheet",
+        Region::Nodes => b"node",
+        Region::Tables => b"table",
+        Region::Message { .. } => match name {
             None => b"message",
             Some(_) => b"signal",
         },
@@ -48,11 +48,11 @@ fn kind_word(place: &Place, name: &Option<Name>) -> &'static [u8]
 }
 
 /// The message's identifier; nothing else has one.
-fn ident_at(place: &Place) -> Option<Ident>
+fn ident_at(place: &Region) -> Option<Ident>
     ensures { result ≡ ident_at place.now }
 {
     match place {
-        Place::Message { old: _, new } => Some(new.ident),
+        Region::Message { old: _, new } => Some(new.ident),
         _ => None,
     }
 }
@@ -68,11 +68,11 @@ fn message_cell<'a>(message: &'a Name, name: &'a Option<Name>) -> Cell<'a>
 }
 
 /// The name of what the row is about.
-fn name_cell<'a>(place: &'a Place, name: &'a Option<Name>) -> Cell<'a>
+fn name_cell<'a>(place: &'a Region, name: &'a Option<Name>) -> Cell<'a>
     ensures { fact_of result ≡ name_fact place.now name.now }
 {
     match place {
-        Place::Message { old: _, new } => message_cell(&new.name, name),
+        Region::Message { old: _, new } => message_cell(&new.name, name),
         _ => match name {
             None => Cell::Path(b"-", None),
             Some(name) => Cell::Path(name.as_bytes(), None),
@@ -81,12 +81,12 @@ fn name_cell<'a>(place: &'a Place, name: &'a Option<Name>) -> Cell<'a>
 }
 
 /// The change: its word, and of a field what it had and what it has.
-fn change_cell(change: &Change) -> Cell<'_>
+fn change_cell(change: &Alteration) -> Cell<'_>
     ensures { fact_of result ≡ change_fact change.now }
 {
     let word = change.word();
     match change {
-        Change::Changed { field: _, old, new } => {
+        Alteration::Changed { field: _, old, new } => {
             Cell::Change(word, Some((old.as_slice(), new.as_slice())))
         }
         _ => Cell::Change(word, None),
@@ -94,12 +94,12 @@ fn change_cell(change: &Change) -> Cell<'_>
 }
 
 /// Whether the change in the place breaks a receiver of what was there.
-fn is_breaking(place: &Place, change: &Change) -> bool
+fn is_breaking(place: &Region, change: &Alteration) -> bool
     ensures { result ≡ is_breaking place.now change.now }
 {
     match change {
-        Change::Removed => matches!(place, Place::Message { .. }),
-        Change::Changed { field, .. } => field.breaks_receivers(),
+        Alteration::Removed => matches!(place, Region::Message { .. }),
+        Alteration::Changed { field, .. } => field.breaks_receivers(),
         _ => false,
     }
 }

@@ -6,9 +6,9 @@ ghost use Rattle.dbc_sheet.specs.Pairs.{partner};
 ghost use Rattle.dbc_compare.specs.Differences.{below, between, differences_about, gone_message, message_differences};
 ghost use Rattle.dbc_compare.specs.Differences.{pair_differences, shown_message};
 
-use crate::difference::{Change, Difference};
+use crate::difference::{Alteration, Difference};
 use crate::fields::message_changes;
-use crate::place::{MessageKey, Place};
+use crate::place::{MessageKey, Region};
 use crate::things::{push_difference, push_here, push_things};
 use base::Copying;
 use dbc_sheet::{Message, Sheet, partner};
@@ -26,12 +26,12 @@ fn key_of(alloc: Global, message: &Message) -> Result<MessageKey, AllocError>
 }
 
 /// The message as it was and as it is. The error is out of memory.
-fn between(alloc: Global, old: &Message, new: &Message) -> Result<Place, AllocError>
+fn between(alloc: Global, old: &Message, new: &Message) -> Result<Region, AllocError>
     ensures { IfOk result (λ place. place ≡ between old.now new.now) }
 {
     let old = key_of(alloc, old)?;
     let new = key_of(alloc, new)?;
-    Ok(Place::Message { old, new })
+    Ok(Region::Message { old, new })
 }
 
 /// Adds the differences of a message and its partner.
@@ -62,7 +62,7 @@ fn push_message(
     alloc: Global,
     found: &mut Vec<Difference>,
     message: &Message,
-    change: Change,
+    change: Alteration,
 ) -> Result<(), AllocError>
     ensures { OnOk result (found.new.items ≡ found.old.items
         ++ differences_about (between message.now message.now) None (change ∷ [])) }
@@ -83,7 +83,7 @@ fn push_shown(
 {
     match partner {
         Some(old) => push_pair(alloc, found, old, message),
-        None => push_message(alloc, found, message, Change::Added),
+        None => push_message(alloc, found, message, Alteration::Added),
     }
 }
 
@@ -99,7 +99,7 @@ fn push_if_gone(
 {
     match partner {
         Some(_) => Ok(()),
-        None => push_message(alloc, found, message, Change::Removed),
+        None => push_message(alloc, found, message, Alteration::Removed),
     }
 }
 

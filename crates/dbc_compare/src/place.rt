@@ -14,7 +14,7 @@ pub struct MessageKey {
 
 /// Where two sheets differ.
 #[derive(Drop)]
-pub enum Place {
+pub enum Region {
     /// In the sheet itself.
     Sheet,
     /// Among the nodes.
@@ -39,13 +39,13 @@ impl Copying for MessageKey {
     }
 }
 
-impl Copying for Place {
+impl Copying for Region {
     fn duplicate(&self, alloc: Global) -> Result<Self, AllocError> {
         match self {
-            Place::Sheet => Ok(Place::Sheet),
-            Place::Nodes => Ok(Place::Nodes),
-            Place::Tables => Ok(Place::Tables),
-            Place::Message { old, new } => Ok(Place::Message {
+            Region::Sheet => Ok(Region::Sheet),
+            Region::Nodes => Ok(Region::Nodes),
+            Region::Tables => Ok(Region::Tables),
+            Region::Message { old, new } => Ok(Region::Message {
                 old: old.duplicate(alloc)?,
                 new: new.duplicate(alloc)?,
             }),

@@ -5,7 +5,7 @@ ghost use Rattle.dbc_compare.specs.Differences.{differences};
 use crate::difference::Difference;
 use crate::fields::sheet_changes;
 use crate::messages::push_messages;
-use crate::place::Place;
+use crate::place::Region;
 use crate::things::{push_here, push_things};
 use dbc_sheet::Sheet;
 use std::alloc::{AllocError, Global};
@@ -17,12 +17,12 @@ pub fn differences(alloc: Global, old: &Sheet, new: &Sheet) -> Result<Vec<Differ
 {
     let mut found = Vec::new(alloc);
     let changes = sheet_changes(alloc, old, new)?;
-    push_here(alloc, &mut found, &Place::Sheet, &changes)?;
-    push_things(alloc, &mut found, &Place::Nodes, old.nodes(), new.nodes())?;
+    push_here(alloc, &mut found, &Region::Sheet, &changes)?;
+    push_things(alloc, &mut found, &Region::Nodes, old.nodes(), new.nodes())?;
     push_things(
         alloc,
         &mut found,
-        &Place::Tables,
+        &Region::Tables,
         old.tables(),
         new.tables(),
     )?;

@@ -6,9 +6,9 @@ ghost use Rattle.dbc_words.specs.Named.{has_name, thing_named};
 ghost use Rattle.dbc_compare.specs.Differences.{are_reordered, change_if, changes_since, differences_about};
 ghost use Rattle.dbc_compare.specs.Differences.{gone_thing, kept_names, shown_thing, thing_differences};
 
-use crate::difference::{Change, Difference};
+use crate::difference::{Alteration, Difference};
 use crate::fields::Compared;
-use crate::place::Place;
+use crate::place::Region;
 use base::Copying;
 use dbc_words::{Name, Named};
 use std::alloc::{AllocError, Global};
@@ -17,9 +17,9 @@ use std::alloc::{AllocError, Global};
 pub(crate) fn push_difference(
     alloc: Global,
     found: &mut Vec<Difference>,
-    place: &Place,
+    place: &Region,
     name: Option<Name>,
-    change: &Change,
+    change: &Alteration,
 ) -> Result<(), AllocError>
     ensures { OnOk result (found.new.items ≡ found.old.items
         ++ record { place = place.now; name = name; change = change.now } ∷ []) }
@@ -39,8 +39,8 @@ pub(crate) fn push_difference(
 pub(crate) fn push_here(
     alloc: Global,
     found: &mut Vec<Difference>,
-    place: &Place,
-    changes: &[Change],
+    place: &Region,
+    changes: &[Alteration],
 ) -> Result<(), AllocError>
     ensures { OnOk result (found.new.items
         ≡ found.old.items ++ differences_about place.now None changes.now) }
@@ -56,9 +56,9 @@ pub(crate) fn push_here(
 fn push_named(
     alloc: Global,
     found: &mut Vec<Difference>,
-    place: &Place,
+    place: &Region,
     name: &Name,
-    changes: &[Change],
+    changes: &[Alteration],
 ) -> Result<(), AllocError>
     ensures { OnOk result (found.new.items
         ≡ found.old.items ++ differences_about place.now (Some name.now) changes.now) }
@@ -94,7 +94,7 @@ fn changes_since<T: Compared>(
     alloc: Global,
     found: Option<&T>,
     thing: &T,
-) -> Result<Vec<Change>, AllocError>
+) -> Result<Vec<Alteration>, AllocError>
     ensures { IfOk result (λ changes. changes.items
         ≡ changes_since T.fields_of (option_copied found.entry) thing.now) }
 {
@@ -102,14 +102,18 @@ fn changes_since<T: Compared>(
         Some(old) => thing.changes_from(alloc, old),
         None => {
             let mut changes = Vec::new(alloc);
-            changes.push(Change::Added)?;
+            changes.push(Alteration::Added)?;
             Ok(changes)
         }
     }
 }
 
 /// The change where the condition holds, and else none. The error is out of memory.
-fn change_if(alloc: Global, condition: bool, change: Change) -> Result<Vec<Change>, AllocError>
+fn change_if(
+    alloc: Global,
+    condition: bool,
+    change: Alteration,
+) -> Result<Vec<Alteration>, AllocError>
     ensures { IfOk result (λ changes. changes.items ≡ change_if condition change) }
 {
     let mut changes = Vec::new(alloc);
@@ -146,7 +150,7 @@ fn are_reordered<T: Named>(alloc: Global, old: &[T], new: &[T]) -> Result<bool, 
 fn push_shown<T: Compared>(
     alloc: Global,
     found: &mut Vec<Difference>,
-    place: &Place,
+    place: &Region,
     old: &[T],
     new: &[T],
 ) -> Result<(), AllocError>
@@ -164,7 +168,7 @@ fn push_shown<T: Compared>(
 fn push_gone<T: Named>(
     alloc: Global,
     found: &mut Vec<Difference>,
-    place: &Place,
+    place: &Region,
     old: &[T],
     new: &[T],
 ) -> Result<(), AllocError>
@@ -172,7 +176,7 @@ fn push_gone<T: Named>(
         ++ flat_map (gone_thing place.now T.name_of new.now) old.now) }
 {
     for thing in old {
-        let changes = change_if(alloc, !has_name(new, thing.name()), Change::Removed)?;
+        let changes = change_if(alloc, !has_name(new, thing.name()), Alteration::Removed)?;
         push_named(alloc, found, place, thing.name(), &changes)?;
     }
     Ok(())
@@ -182,15 +186,15 @@ fn push_gone<T: Named>(
 fn push_order<T: Named>(
     alloc: Global,
     found: &mut Vec<Difference>,
-    place: &Place,
+    place: &Region,
     old: &[T],
     new: &[T],
 ) -> Result<(), AllocError>
     ensures { OnOk result (found.new.items ≡ found.old.items ++ differences_about place.now None
-        (change_if (are_reordered T.name_of old.now new.now) Change.Reordered)) }
+        (change_if (are_reordered T.name_of old.now new.now) Alteration.Reordered)) }
 {
     let reordered = are_reordered(alloc, old, new)?;
-    let changes = change_if(alloc, reordered, Change::Reordered)?;
+    let changes = change_if(alloc, reordered, Alteration::Reordered)?;
     push_here(alloc, found, place, &changes)
 }
 
@@ -200,7 +204,7 @@ fn push_order<T: Named>(
 pub(crate) fn push_things<T: Compared>(
     alloc: Global,
     found: &mut Vec<Difference>,
-    place: &Place,
+    place: &Region,
     old: &[T],
     new: &[T],
 ) -> Result<(), AllocError>

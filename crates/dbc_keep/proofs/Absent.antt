@@ -11,13 +11,13 @@ use Rattle.dbc_grammar.specs.declared.token.TokenKind.TheVariants.{Name}
 use Rattle.dbc_words.specs.Name.{no_node}
 use Rattle.dbc_keep.specs.Staying.{all_seen, seen}
 use Rattle.dbc_keep_law.specs.Staying.{Citation, CitesNode, CitesSignal, absent, is_name_word, is_word, or_else}
-use Rattle.dbc_keep_law.specs.declared.reason.Reason.{Reason}
+use Rattle.dbc_keep_law.specs.declared.reason.LeavingReason.{LeavingReason}
 
-or_none : (o : Option Reason) → or_else o None ≡ o
+or_none : (o : Option LeavingReason) → or_else o None ≡ o
 or_none None = refl
 or_none (Some r) = refl
 
-or_assoc : (a b c : Option Reason) → or_else (or_else a b) c ≡ or_else a (or_else b c)
+or_assoc : (a b c : Option LeavingReason) → or_else (or_else a b) c ≡ or_else a (or_else b c)
 or_assoc None b c = refl
 or_assoc (Some r) b c = refl
 
@@ -61,7 +61,7 @@ module _ (s : Sheet) (cited : Word → List Citation) where
   next_word : (x : TextToken) (xs : List TextToken) → first_absent s (cited (seen x)) ≡ None
       → first_absent s (flat_map cited (all_seen xs)) ≡ first_absent s (flat_map cited (all_seen (x ∷ xs)))
   next_word x xs e =
-      ap (λ (o : Option Reason). or_else o (first_absent s (flat_map cited (all_seen xs)))) (sym e)
+      ap (λ (o : Option LeavingReason). or_else o (first_absent s (flat_map cited (all_seen xs)))) (sym e)
       ∙ sym (absent_append s (cited (seen x)) (flat_map cited (all_seen xs)))
 
   pub next_of : (left : List TextToken) (d : TextToken) → 1 ≤ length left

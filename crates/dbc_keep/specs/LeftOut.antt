@@ -6,15 +6,15 @@ use Rattle.dbc_advice.specs.Lines.{line_feed}
 use Rattle.dbc_advice.specs.Position.{position_at}
 use Rattle.dbc_advice.specs.ReportedLine.{reported_line}
 use Rattle.dbc_keep.specs.declared.staying.LeftOut.{LeftOut}
-use Rattle.dbc_keep_law.specs.declared.reason.Reason.{Reason}
-use Rattle.dbc_keep_law.specs.declared.reason.Reason.TheVariants.{NoMessage, NoNode, NoSignal, SheetSays}
+use Rattle.dbc_keep_law.specs.declared.reason.LeavingReason.{LeavingReason}
+use Rattle.dbc_keep_law.specs.declared.reason.LeavingReason.TheVariants.{NoMessage, NoNode, NoSignal, SheetSays}
 
 -- the line of an offset, from 1: one more than the LFs before it
 abbrev pub line_at : List ℕ → ℕ → ℕ
 line_at text at = count_by (λ b. b == line_feed) (take at text) + 1
 
 -- why a statement is left out
-abbrev pub reason_text : Reason → List ℕ
+abbrev pub reason_text : LeavingReason → List ℕ
 reason_text NoNode = codes "left out, since a node that it names isn't in the sheet"
 reason_text NoMessage = codes "left out, since a message that it names isn't in the sheet"
 reason_text NoSignal = codes "left out, since a signal that it names isn't in the sheet"

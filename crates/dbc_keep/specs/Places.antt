@@ -1,9 +1,9 @@
 -- The places of skipped statements, as `dbc_keep_law` numbers them.
 use Rattle.std.specs.Prelude.{ℕ}
-use Rattle.dbc_keep.specs.declared.places.Place.{Place}
-use Rattle.dbc_keep.specs.declared.places.Place.TheVariants as place
+use Rattle.dbc_keep.specs.declared.places.KeptPlace.{KeptPlace}
+use Rattle.dbc_keep.specs.declared.places.KeptPlace.TheVariants as place
 
-abbrev pub place_number : Place → ℕ
+abbrev pub place_number : KeptPlace → ℕ
 place_number place.Messages = 0
 place_number place.Transmitters = 1
 place_number place.EnvironmentVariables = 2

@@ -13,7 +13,7 @@ ghost use Rattle.dbc_words.specs.declared.keyword.Keyword.TheVariants.{ValueText
 
 use crate::words::{after_first, is_name};
 use base::whole_number;
-use dbc_keep_law::Reason;
+use dbc_keep_law::LeavingReason;
 use dbc_lex::Token;
 use dbc_sheet::{Message, Node, Sheet, Signal};
 use dbc_words::{Keyword, NO_NODE};
@@ -25,13 +25,13 @@ fn has_node(nodes: &[Node], name: &[u8]) -> bool
     nodes.iter().any(|node| node.name.as_bytes() == name)
 }
 
-fn node(sheet: &Sheet, name: &[u8]) -> Option<Reason>
+fn node(sheet: &Sheet, name: &[u8]) -> Option<LeavingReason>
     ensures { result ≡ absent sheet.now (CitesNode name.now) }
 {
     if has_node(sheet.nodes(), name) {
         return None;
     }
-    Some(Reason::NoNode)
+    Some(LeavingReason::NoNode)
 }
 
 /// The message of the number, as it is spelled.
@@ -44,12 +44,12 @@ fn message_cited<'a>(sheet: &'a Sheet, number: &[u8]) -> Option<&'a Message>
     }
 }
 
-fn message(sheet: &Sheet, number: &[u8]) -> Option<Reason>
+fn message(sheet: &Sheet, number: &[u8]) -> Option<LeavingReason>
     ensures { result ≡ absent sheet.now (CitesMessage number.now) }
 {
     match message_cited(sheet, number) {
         Some(_) => None,
-        None => Some(Reason::NoMessage),
+        None => Some(LeavingReason::NoMessage),
     }
 }
 
@@ -60,7 +60,7 @@ fn has_signal(signals: &[Signal], name: &[u8]) -> bool
     signals.iter().any(|signal| signal.name.as_bytes() == name)
 }
 
-fn signal(sheet: &Sheet, number: &[u8], name: &[u8]) -> Option<Reason>
+fn signal(sheet: &Sheet, number: &[u8], name: &[u8]) -> Option<LeavingReason>
     ensures { result ≡ absent sheet.now (CitesSignal number.now name.now) }
 {
     match message_cited(sheet, number) {
@@ -68,15 +68,15 @@ fn signal(sheet: &Sheet, number: &[u8], name: &[u8]) -> Option<Reason>
             if has_signal(message.signals.as_slice(), name) {
                 return None;
             }
-            Some(Reason::NoSignal)
+            Some(LeavingReason::NoSignal)
         }
-        None => Some(Reason::NoMessage),
+        None => Some(LeavingReason::NoMessage),
     }
 }
 
 /// `number signal`
 #[tactic(auto, using(crate::proofs::Absent::one_absent))]
-fn signal_first(sheet: &Sheet, words: &[Token]) -> Option<Reason>
+fn signal_first(sheet: &Sheet, words: &[Token]) -> Option<LeavingReason>
     ensures { result ≡ first_absent sheet.now (signal_first (all_seen words.now)) }
 {
     match words {
@@ -87,7 +87,7 @@ fn signal_first(sheet: &Sheet, words: &[Token]) -> Option<Reason>
 
 /// `BU_ node`, `BO_ number` or `SG_ number signal`
 #[tactic(auto, using(crate::proofs::Absent::one_absent))]
-fn object(sheet: &Sheet, words: &[Token]) -> Option<Reason>
+fn object(sheet: &Sheet, words: &[Token]) -> Option<LeavingReason>
     ensures { result ≡ first_absent sheet.now (object (all_seen words.now)) }
 {
     match words {
@@ -107,7 +107,7 @@ fn object(sheet: &Sheet, words: &[Token]) -> Option<Reason>
 }
 
 /// The first that is there.
-fn or_else(first: Option<Reason>, other: Option<Reason>) -> Option<Reason>
+fn or_else(first: Option<LeavingReason>, other: Option<LeavingReason>) -> Option<LeavingReason>
     ensures { result ≡ or_else first other }
 {
     match first {
@@ -117,7 +117,7 @@ fn or_else(first: Option<Reason>, other: Option<Reason>) -> Option<Reason>
 }
 
 /// `BU_SG_REL_ node SG_ number signal`, `BU_BO_REL_ node number` or `BU_EV_REL_ node variable`
-fn relation(sheet: &Sheet, words: &[Token]) -> Option<Reason>
+fn relation(sheet: &Sheet, words: &[Token]) -> Option<LeavingReason>
     ensures { result ≡ first_absent sheet.now (relation (all_seen words.now)) }
 {
     match words {
@@ -138,7 +138,7 @@ fn relation(sheet: &Sheet, words: &[Token]) -> Option<Reason>
 
 /// The node that the word names, if it names one.
 #[tactic(auto, using(crate::proofs::Absent::one_absent))]
-fn node_word(sheet: &Sheet, word: &Token) -> Option<Reason>
+fn node_word(sheet: &Sheet, word: &Token) -> Option<LeavingReason>
     ensures { result ≡ first_absent sheet.now (node_cited (seen word.now)) }
 {
     if !is_name(word) {
@@ -151,7 +151,7 @@ fn node_word(sheet: &Sheet, word: &Token) -> Option<Reason>
 }
 
 #[tactic(auto, using(crate::proofs::Absent::absent_append))]
-fn node_words(sheet: &Sheet, words: &[Token]) -> Option<Reason>
+fn node_words(sheet: &Sheet, words: &[Token]) -> Option<LeavingReason>
     ensures { result ≡ first_absent sheet.now (flat_map node_cited (all_seen words.now)) }
 {
     let mut left = words;
@@ -166,7 +166,7 @@ fn node_words(sheet: &Sheet, words: &[Token]) -> Option<Reason>
 
 /// The signal of the message that the word names, if it names one.
 #[tactic(auto, using(crate::proofs::Absent::one_absent))]
-fn signal_word(sheet: &Sheet, number: &[u8], word: &Token) -> Option<Reason>
+fn signal_word(sheet: &Sheet, number: &[u8], word: &Token) -> Option<LeavingReason>
     ensures { result ≡ first_absent sheet.now (signal_cited number.now (seen word.now)) }
 {
     if !is_name(word) {
@@ -176,7 +176,7 @@ fn signal_word(sheet: &Sheet, number: &[u8], word: &Token) -> Option<Reason>
 }
 
 #[tactic(auto, using(crate::proofs::Absent::absent_append))]
-fn signal_words(sheet: &Sheet, number: &[u8], words: &[Token]) -> Option<Reason>
+fn signal_words(sheet: &Sheet, number: &[u8], words: &[Token]) -> Option<LeavingReason>
     ensures { result ≡ first_absent sheet.now
         (flat_map (signal_cited number.now) (all_seen words.now)) }
 {
@@ -191,7 +191,7 @@ fn signal_words(sheet: &Sheet, number: &[u8], words: &[Token]) -> Option<Reason>
 }
 
 /// `number : node , node`
-fn transmitters(sheet: &Sheet, words: &[Token]) -> Option<Reason>
+fn transmitters(sheet: &Sheet, words: &[Token]) -> Option<LeavingReason>
     ensures { result ≡ first_absent sheet.now (transmitters (all_seen words.now)) }
 {
     match words {
@@ -201,7 +201,7 @@ fn transmitters(sheet: &Sheet, words: &[Token]) -> Option<Reason>
 }
 
 /// `number group repetitions : signal signal`
-fn group(sheet: &Sheet, words: &[Token]) -> Option<Reason>
+fn group(sheet: &Sheet, words: &[Token]) -> Option<LeavingReason>
     ensures { result ≡ first_absent sheet.now (group (all_seen words.now)) }
 {
     match words {
@@ -214,7 +214,7 @@ fn group(sheet: &Sheet, words: &[Token]) -> Option<Reason>
 }
 
 /// The texts of values cite a signal, unless they are of an environment variable.
-fn texts(sheet: &Sheet, words: &[Token]) -> Option<Reason>
+fn texts(sheet: &Sheet, words: &[Token]) -> Option<LeavingReason>
     ensures { result ≡ first_absent sheet.now (cites ValueTexts (all_seen words.now)) }
 {
     match words {
@@ -224,7 +224,11 @@ fn texts(sheet: &Sheet, words: &[Token]) -> Option<Reason>
 }
 
 /// Why the sheet doesn't have what a statement of the keyword cites, by the words after it.
-pub(crate) fn first_absent(sheet: &Sheet, keyword: Keyword, words: &[Token]) -> Option<Reason>
+pub(crate) fn first_absent(
+    sheet: &Sheet,
+    keyword: Keyword,
+    words: &[Token],
+) -> Option<LeavingReason>
     ensures { result ≡ first_absent sheet.now (cites keyword (all_seen words.now)) }
 {
     match keyword {

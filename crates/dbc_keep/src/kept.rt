@@ -13,7 +13,7 @@ ghost use Rattle.dbc_read.specs.Passed.{start_and_keyword};
 ghost use Rattle.dbc_write.specs.Adding.{Adds};
 
 use crate::passages::passage;
-use crate::places::Place;
+use crate::places::KeptPlace;
 use crate::said::{is_defaulted, is_defined};
 use dbc_grammar::texts_read_as_one_sheet;
 use dbc_keep_law::kept_texts_read_as_their_sheets;
@@ -30,7 +30,7 @@ fn placed_one(
     text: &mut Vec<u8>,
     source: &[u8],
     one: Passed,
-    place: Place,
+    place: KeptPlace,
 ) -> Result<(), AllocError>
     ensures { OnOk result (Adds line_text text.old.items text.new.items
         (line_there source.now (place_number place) one)) }
@@ -48,7 +48,7 @@ fn placed(
     text: &mut Vec<u8>,
     source: &[u8],
     passed: &[Passed],
-    place: Place,
+    place: KeptPlace,
 ) -> Result<(), AllocError>
     ensures { OnOk result (Adds line_text text.old.items text.new.items
         (lines_there source.now (place_number place) passed.now)) }
@@ -70,11 +70,11 @@ fn sheet_part(
         (sheet_lines sheet.now source.now passed.now)) }
 {
     definitions(text, sheet)?;
-    placed(text, source, passed, Place::Messages)?;
-    placed(text, source, passed, Place::Transmitters)?;
-    placed(text, source, passed, Place::EnvironmentVariables)?;
-    placed(text, source, passed, Place::EnvironmentData)?;
-    placed(text, source, passed, Place::SignalTypes)?;
+    placed(text, source, passed, KeptPlace::Messages)?;
+    placed(text, source, passed, KeptPlace::Transmitters)?;
+    placed(text, source, passed, KeptPlace::EnvironmentVariables)?;
+    placed(text, source, passed, KeptPlace::EnvironmentData)?;
+    placed(text, source, passed, KeptPlace::SignalTypes)?;
     Ok(())
 }
 
@@ -89,7 +89,7 @@ fn comment_part(
         (comments_part sheet.now source.now passed.now)) }
 {
     comment_lines(text, sheet)?;
-    placed(text, source, passed, Place::Comments)?;
+    placed(text, source, passed, KeptPlace::Comments)?;
     Ok(())
 }
 
@@ -104,9 +104,9 @@ fn declaration_part(
     ensures { OnOk result (Adds line_text text.old.items text.new.items
         (declaration_lines sheet.now source.now passed.now)) }
 {
-    placed(text, source, passed, Place::Definitions)?;
+    placed(text, source, passed, KeptPlace::Definitions)?;
     definition_if_needed(text, source, sheet, passed)?;
-    placed(text, source, passed, Place::Defaults)?;
+    placed(text, source, passed, KeptPlace::Defaults)?;
     default_if_needed(text, source, sheet, passed)?;
     Ok(())
 }
@@ -160,7 +160,7 @@ fn attribute_part(
     ensures { OnOk result (Adds line_text text.old.items text.new.items
         (attribute_lines sheet.now source.now passed.now)) }
 {
-    placed(text, source, passed, Place::Values)?;
+    placed(text, source, passed, KeptPlace::Values)?;
     spn_lines(text, sheet)?;
     Ok(())
 }
@@ -176,12 +176,12 @@ fn text_part(
         (text_lines sheet.now source.now passed.now)) }
 {
     value_lines(text, sheet)?;
-    placed(text, source, passed, Place::ValueTexts)?;
-    placed(text, source, passed, Place::CategoryDefinitions)?;
-    placed(text, source, passed, Place::Categories)?;
-    placed(text, source, passed, Place::Filters)?;
-    placed(text, source, passed, Place::SignalTypeReferences)?;
-    placed(text, source, passed, Place::Groups)?;
+    placed(text, source, passed, KeptPlace::ValueTexts)?;
+    placed(text, source, passed, KeptPlace::CategoryDefinitions)?;
+    placed(text, source, passed, KeptPlace::Categories)?;
+    placed(text, source, passed, KeptPlace::Filters)?;
+    placed(text, source, passed, KeptPlace::SignalTypeReferences)?;
+    placed(text, source, passed, KeptPlace::Groups)?;
     Ok(())
 }
 
@@ -196,8 +196,8 @@ fn type_part(
         (type_part sheet.now source.now passed.now)) }
 {
     type_lines(text, sheet)?;
-    placed(text, source, passed, Place::ValueTypes)?;
-    placed(text, source, passed, Place::Others)?;
+    placed(text, source, passed, KeptPlace::ValueTypes)?;
+    placed(text, source, passed, KeptPlace::Others)?;
     Ok(())
 }
 

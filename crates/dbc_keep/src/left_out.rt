@@ -6,19 +6,19 @@ ghost use Rattle.dbc_keep.specs.LeftOut.{left_out_line, left_out_lines, line_at,
 use crate::counting::{line_from, position_in};
 use crate::staying::LeftOut;
 use dbc_advice::{Source, reported_line};
-use dbc_keep_law::Reason;
+use dbc_keep_law::LeavingReason;
 use dbc_words::Keyword;
 use std::alloc::{AllocError, Global};
 
 /// Why a statement is left out.
-fn reason_text(reason: Reason) -> &'static str
+fn reason_text(reason: LeavingReason) -> &'static str
     ensures { result.now ≡ reason_text reason }
 {
     match reason {
-        Reason::NoNode => "left out, since a node that it names isn't in the sheet",
-        Reason::NoMessage => "left out, since a message that it names isn't in the sheet",
-        Reason::NoSignal => "left out, since a signal that it names isn't in the sheet",
-        Reason::SheetSays => "left out, since the sheet has its own",
+        LeavingReason::NoNode => "left out, since a node that it names isn't in the sheet",
+        LeavingReason::NoMessage => "left out, since a message that it names isn't in the sheet",
+        LeavingReason::NoSignal => "left out, since a signal that it names isn't in the sheet",
+        LeavingReason::SheetSays => "left out, since the sheet has its own",
     }
 }
 

@@ -31,7 +31,7 @@ mod staying;
 mod words;
 
 pub use completing::{Besides, Completed, complete};
-pub use dbc_keep_law::Reason;
+pub use dbc_keep_law::LeavingReason;
 pub use j1939::text_with_j1939;
 pub use kept::kept_text_of;
 pub use left_out::left_out_lines;

@@ -7,7 +7,7 @@ use dbc_words::Keyword;
 
 /// A place between the parts of a canonical text, in their order.
 #[derive(Clone, Copy, PartialEq, Eq)]
-pub(crate) enum Place {
+pub(crate) enum KeptPlace {
     /// After the messages: the signals of no message.
     Messages,
     /// Further transmitters of messages.
@@ -44,37 +44,37 @@ pub(crate) enum Place {
     Others,
 }
 
-impl Place {
+impl KeptPlace {
     /// The place of a keyword's statements.
-    pub(crate) fn of(keyword: Keyword) -> Place
+    pub(crate) fn of(keyword: Keyword) -> KeptPlace
         ensures { place_number result ≡ place_of keyword }
     {
         match keyword {
-            Keyword::Message => Place::Messages,
-            Keyword::MessageTransmitters => Place::Transmitters,
-            Keyword::EnvironmentVariable => Place::EnvironmentVariables,
-            Keyword::EnvironmentVariableData => Place::EnvironmentData,
-            Keyword::EnvironmentData => Place::EnvironmentData,
-            Keyword::SignalType => Place::SignalTypes,
-            Keyword::SignalTypeValues => Place::SignalTypes,
-            Keyword::SignalTypeValueType => Place::SignalTypes,
-            Keyword::Comment => Place::Comments,
-            Keyword::AttributeDefinition => Place::Definitions,
-            Keyword::RelationAttributeDefinition => Place::Definitions,
-            Keyword::SignalTypeAttributeDefinition => Place::Definitions,
-            Keyword::AttributeDefault => Place::Defaults,
-            Keyword::RelationAttributeDefault => Place::Defaults,
-            Keyword::AttributeValue => Place::Values,
-            Keyword::RelationAttributeValue => Place::Values,
-            Keyword::SignalTypeAttributeValue => Place::Values,
-            Keyword::ValueTexts => Place::ValueTexts,
-            Keyword::CategoryDefinition => Place::CategoryDefinitions,
-            Keyword::Category => Place::Categories,
-            Keyword::Filter => Place::Filters,
-            Keyword::SignalTypeReference => Place::SignalTypeReferences,
-            Keyword::SignalGroup => Place::Groups,
-            Keyword::SignalValueType => Place::ValueTypes,
-            _ => Place::Others,
+            Keyword::Message => KeptPlace::Messages,
+            Keyword::MessageTransmitters => KeptPlace::Transmitters,
+            Keyword::EnvironmentVariable => KeptPlace::EnvironmentVariables,
+            Keyword::EnvironmentVariableData => KeptPlace::EnvironmentData,
+            Keyword::EnvironmentData => KeptPlace::EnvironmentData,
+            Keyword::SignalType => KeptPlace::SignalTypes,
+            Keyword::SignalTypeValues => KeptPlace::SignalTypes,
+            Keyword::SignalTypeValueType => KeptPlace::SignalTypes,
+            Keyword::Comment => KeptPlace::Comments,
+            Keyword::AttributeDefinition => KeptPlace::Definitions,
+            Keyword::RelationAttributeDefinition => KeptPlace::Definitions,
+            Keyword::SignalTypeAttributeDefinition => KeptPlace::Definitions,
+            Keyword::AttributeDefault => KeptPlace::Defaults,
+            Keyword::RelationAttributeDefault => KeptPlace::Defaults,
+            Keyword::AttributeValue => KeptPlace::Values,
+            Keyword::RelationAttributeValue => KeptPlace::Values,
+            Keyword::SignalTypeAttributeValue => KeptPlace::Values,
+            Keyword::ValueTexts => KeptPlace::ValueTexts,
+            Keyword::CategoryDefinition => KeptPlace::CategoryDefinitions,
+            Keyword::Category => KeptPlace::Categories,
+            Keyword::Filter => KeptPlace::Filters,
+            Keyword::SignalTypeReference => KeptPlace::SignalTypeReferences,
+            Keyword::SignalGroup => KeptPlace::Groups,
+            Keyword::SignalValueType => KeptPlace::ValueTypes,
+            _ => KeptPlace::Others,
         }
     }
 
@@ -83,23 +83,23 @@ impl Place {
         ensures { result ≡ place_number self }
     {
         match self {
-            Place::Messages => 0,
-            Place::Transmitters => 1,
-            Place::EnvironmentVariables => 2,
-            Place::EnvironmentData => 3,
-            Place::SignalTypes => 4,
-            Place::Comments => 5,
-            Place::Definitions => 6,
-            Place::Defaults => 7,
-            Place::Values => 8,
-            Place::ValueTexts => 9,
-            Place::CategoryDefinitions => 10,
-            Place::Categories => 11,
-            Place::Filters => 12,
-            Place::SignalTypeReferences => 13,
-            Place::Groups => 14,
-            Place::ValueTypes => 15,
-            Place::Others => 16,
+            KeptPlace::Messages => 0,
+            KeptPlace::Transmitters => 1,
+            KeptPlace::EnvironmentVariables => 2,
+            KeptPlace::EnvironmentData => 3,
+            KeptPlace::SignalTypes => 4,
+            KeptPlace::Comments => 5,
+            KeptPlace::Definitions => 6,
+            KeptPlace::Defaults => 7,
+            KeptPlace::Values => 8,
+            KeptPlace::ValueTexts => 9,
+            KeptPlace::CategoryDefinitions => 10,
+            KeptPlace::Categories => 11,
+            KeptPlace::Filters => 12,
+            KeptPlace::SignalTypeReferences => 13,
+            KeptPlace::Groups => 14,
+            KeptPlace::ValueTypes => 15,
+            KeptPlace::Others => 16,
         }
     }
 
@@ -107,6 +107,6 @@ impl Place {
     pub(crate) fn has(self, keyword: Keyword) -> bool
         ensures { result ≡ (place_of keyword == place_number self) }
     {
-        Place::of(keyword).number() == self.number()
+        KeptPlace::of(keyword).number() == self.number()
     }
 }

@@ -4,7 +4,7 @@ ghost use Rattle.dbc_grammar.specs.Rules.{starts};
 ghost use Rattle.dbc_keep.specs.Finding.{any_says, has_text, says_there};
 ghost use Rattle.dbc_keep_law.specs.Kept.{defaults_spn, defines_spn};
 
-use crate::places::Place;
+use crate::places::KeptPlace;
 use dbc_lex::Lexer;
 use dbc_read::Passed;
 
@@ -31,7 +31,7 @@ pub(crate) fn skip(lexer: &mut Lexer)
 fn defines_spn(source: &[u8], one: Passed) -> bool
     ensures { result ≡ says_there source.now 6 defines_spn one }
 {
-    if !Place::Definitions.has(one.keyword) {
+    if !KeptPlace::Definitions.has(one.keyword) {
         return false;
     }
     let mut lexer = Lexer::at(source, one.at);
@@ -48,7 +48,7 @@ fn defines_spn(source: &[u8], one: Passed) -> bool
 fn defaults_spn(source: &[u8], one: Passed) -> bool
     ensures { result ≡ says_there source.now 7 defaults_spn one }
 {
-    if !Place::Defaults.has(one.keyword) {
+    if !KeptPlace::Defaults.has(one.keyword) {
         return false;
     }
     let mut lexer = Lexer::at(source, one.at);

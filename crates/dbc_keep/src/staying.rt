@@ -13,7 +13,7 @@ use crate::kept::lines;
 use crate::words::{is_name, words_after};
 use base::Items;
 use dbc_grammar::{TokenKind, texts_read_as_one_sheet};
-use dbc_keep_law::{Reason, kept_texts_read_as_their_sheets};
+use dbc_keep_law::{LeavingReason, kept_texts_read_as_their_sheets};
 use dbc_lex::Token;
 use dbc_read::{Passed, Reading};
 use dbc_sheet::{Sheet, sheets_are_well_formed};
@@ -26,7 +26,7 @@ pub struct LeftOut {
     /// Where it begins, and its keyword.
     pub statement: Passed,
     /// Why it doesn't stay.
-    pub reason: Reason,
+    pub reason: LeavingReason,
 }
 
 /// `"SPN" SG_`
@@ -86,12 +86,12 @@ fn says(keyword: Keyword, words: &[Token]) -> bool
     }
 }
 
-fn reason_by(sheet: &Sheet, keyword: Keyword, words: &[Token]) -> Option<Reason>
+fn reason_by(sheet: &Sheet, keyword: Keyword, words: &[Token]) -> Option<LeavingReason>
     ensures { result ≡ reason_by sheet.now keyword (all_seen words.now) }
 {
     match first_absent(sheet, keyword, words) {
         Some(reason) => Some(reason),
-        None if says(keyword, words) => Some(Reason::SheetSays),
+        None if says(keyword, words) => Some(LeavingReason::SheetSays),
         None => None,
     }
 }
@@ -102,7 +102,7 @@ fn reason_of(
     source: &[u8],
     one: Passed,
     sheet: &Sheet,
-) -> Result<Option<Reason>, AllocError>
+) -> Result<Option<LeavingReason>, AllocError>
     ensures { IfOk result (λ found. found ≡ reason sheet.now (found_in source.now one)) }
 {
     match one.keyword {

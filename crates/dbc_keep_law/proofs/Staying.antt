@@ -19,8 +19,8 @@ use Rattle.dbc_keep_law.specs.Law.{Keeps, KeptIsRead, StatementsStay}
 use Rattle.dbc_keep_law.specs.Passages.{Passage, line_of, passage_of, pieces_from, statements_of}
 use Rattle.dbc_keep_law.specs.Staying.{Word, cites, first_absent, first_word, is_name_word, is_word, or_else, says}
 use Rattle.dbc_keep_law.specs.Staying.{says_spn, stays, word_of, words_of}
-use Rattle.dbc_keep_law.specs.declared.reason.Reason.{Reason}
-use Rattle.dbc_keep_law.specs.declared.reason.Reason.TheVariants.{SheetSays}
+use Rattle.dbc_keep_law.specs.declared.reason.LeavingReason.{LeavingReason}
+use Rattle.dbc_keep_law.specs.declared.reason.LeavingReason.TheVariants.{SheetSays}
 use Rattle.dbc_keep_law.proofs.Ends.{spn_name_open}
 use Rattle.dbc_keep_law.proofs.Found.{statement_run}
 use Rattle.dbc_keep_law.proofs.FramedStatements.{CanPass}
@@ -208,7 +208,7 @@ silent_line k = silent_other k (keyword_group k)
 
 -- ---- what stays says nothing
 
-none_there : (o : Option Reason) (b : Bool) → not (is_some (or_else o (if b then Some SheetSays else None))) ≡ true
+none_there : (o : Option LeavingReason) (b : Bool) → not (is_some (or_else o (if b then Some SheetSays else None))) ≡ true
     → b ≡ false
 none_there None true h = absurd cc
 none_there None false h = refl

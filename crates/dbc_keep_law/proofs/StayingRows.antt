@@ -19,7 +19,7 @@ use Rattle.dbc_words.specs.declared.keyword.Keyword.TheVariants.{
 }
 use Rattle.dbc_grammar.specs.declared.token.TokenKind.TheVariants.{Number as NumberKind}
 use Rattle.dbc_keep_law.specs.Staying.{Word, reason_by}
-use Rattle.dbc_keep_law.specs.declared.reason.Reason.TheVariants.{NoMessage, NoNode, NoSignal, SheetSays}
+use Rattle.dbc_keep_law.specs.declared.reason.LeavingReason.TheVariants.{NoMessage, NoNode, NoSignal, SheetSays}
 
 abbrev whole : ℕ → Number
 whole n = record { mantissa = pos n; exponent = pos 0 }

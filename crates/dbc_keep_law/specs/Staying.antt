@@ -32,8 +32,8 @@ use Rattle.dbc_grammar.specs.Inside.{inside_of}
 use Rattle.dbc_grammar.specs.declared.token.TokenKind.{TokenKind}
 use Rattle.dbc_grammar.specs.declared.token.TokenKind.TheVariants.{Name, Text}
 use Rattle.dbc_keep_law.specs.Passages.{Passage}
-use Rattle.dbc_keep_law.specs.declared.reason.Reason.{Reason}
-use Rattle.dbc_keep_law.specs.declared.reason.Reason.TheVariants.{NoMessage, NoNode, NoSignal, SheetSays}
+use Rattle.dbc_keep_law.specs.declared.reason.LeavingReason.{LeavingReason}
+use Rattle.dbc_keep_law.specs.declared.reason.LeavingReason.TheVariants.{NoMessage, NoNode, NoSignal, SheetSays}
 
 -- Words.
 
@@ -126,20 +126,20 @@ cites k ws = []
 abbrev pub message_cited : Sheet → List ℕ → Option Message
 message_cited s number = option_and_then (message_at s.messages) (whole_of number)
 
-abbrev pub signal_absent : Option Message → List ℕ → Option Reason
+abbrev pub signal_absent : Option Message → List ℕ → Option LeavingReason
 signal_absent None name = Some NoMessage
 signal_absent (Some m) name = if has_name signal_name m.signals name then None else Some NoSignal
 
-abbrev pub absent : Sheet → Citation → Option Reason
+abbrev pub absent : Sheet → Citation → Option LeavingReason
 absent s (CitesNode name) = if has_name node_name s.nodes name then None else Some NoNode
 absent s (CitesMessage number) = if is_some (message_cited s number) then None else Some NoMessage
 absent s (CitesSignal number name) = signal_absent (message_cited s number) name
 
-abbrev pub or_else : Option Reason → Option Reason → Option Reason
+abbrev pub or_else : Option LeavingReason → Option LeavingReason → Option LeavingReason
 or_else None other = other
 or_else (Some r) other = Some r
 
-abbrev pub first_absent : Sheet → List Citation → Option Reason
+abbrev pub first_absent : Sheet → List Citation → Option LeavingReason
 first_absent s [] = None
 first_absent s (c ∷ cs) = or_else (absent s c) (first_absent s cs)
 
@@ -161,10 +161,10 @@ says AttributeValue ws = says_spn ws
 says k ws = false
 
 -- why the statement doesn't stay; None if it does
-abbrev pub reason_by : Sheet → Keyword → List Word → Option Reason
+abbrev pub reason_by : Sheet → Keyword → List Word → Option LeavingReason
 reason_by s k ws = or_else (first_absent s (cites k ws)) (if says k ws then Some SheetSays else None)
 
-abbrev pub reason : Sheet → Passage → Option Reason
+abbrev pub reason : Sheet → Passage → Option LeavingReason
 reason s p = reason_by s p.keyword (words_of p.line)
 
 abbrev pub stays : Sheet → Passage → Bool

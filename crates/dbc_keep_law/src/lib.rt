@@ -21,7 +21,7 @@ ghost use Rattle.dbc_keep_law.specs.Law.{EachOnce, KeepsPassed, KeepsSheet, Kept
 ghost use Rattle.dbc_keep_law.specs.Law.{StatementsAreFound, StatementsStay};
 
 use dbc_grammar::{statements_say_one_sheet, texts_read_as_one_sheet};
-pub use reason::Reason;
+pub use reason::LeavingReason;
 
 /// A source has one kept text at most. It reads as the sheet that the source reads as, with the same passed statements,
 /// each once, in the order of their places, and it is its own kept text; without passed statements it is the canonical

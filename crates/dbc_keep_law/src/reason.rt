@@ -2,7 +2,7 @@
 
 /// Why a skipped statement of a source doesn't stay in the text of another sheet.
 #[derive(Clone, Copy, PartialEq, Eq)]
-pub enum Reason {
+pub enum LeavingReason {
     /// It cites a node that the sheet doesn't have.
     NoNode,
     /// It cites a message that the sheet doesn't have.

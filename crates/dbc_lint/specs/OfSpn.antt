@@ -13,24 +13,24 @@ use Rattle.dbc_lint.specs.declared.kind.Kind.TheVariants.{SpnTwice}
 use Rattle.dbc_lint.specs.declared.remark.Remark.{Remark}
 
 -- a signal and its message
-abbrev pub Place : Type 0
-Place = Message × Signal
+abbrev pub SpnPlace : Type 0
+SpnPlace = Message × Signal
 
-abbrev pub place_of : Message → Signal → Place
+abbrev pub place_of : Message → Signal → SpnPlace
 place_of m s = (m, s)
 
-abbrev pub has_spn : ℕ → Place → Bool
+abbrev pub has_spn : ℕ → SpnPlace → Bool
 has_spn n p = p.1.spn == n
 
 -- the signals of the message, and those of all messages, in order
-abbrev pub places_in : Message → List Place
+abbrev pub places_in : Message → List SpnPlace
 places_in m = map (place_of m) m.signals
 
-abbrev pub places : List Message → List Place
+abbrev pub places : List Message → List SpnPlace
 places messages = flat_map places_in messages
 
 -- the first of the signals that has the number
-abbrev pub first_place : List Place → ℕ → Option Place
+abbrev pub first_place : List SpnPlace → ℕ → Option SpnPlace
 first_place ps n = find (has_spn n) ps
 
 -- ---- which signals may have one number
@@ -45,34 +45,34 @@ abbrev pub may_share : Message → Message → Bool
 may_share m o = number_of m == number_of o || is_one_group (ident_fields m.ident) (ident_fields o.ident)
 
 -- it is the signal of this name
-abbrev pub is_named : List ℕ → Place → Bool
+abbrev pub is_named : List ℕ → SpnPlace → Bool
 is_named name p = bytes_eq p.1.name name
 
 -- the place, unless the test holds
-abbrev pub unless : (Place → Bool) → Option Place → Option Place
+abbrev pub unless : (SpnPlace → Bool) → Option SpnPlace → Option SpnPlace
 unless test None = None
 unless test (Some p) = if test p then None else Some p
 
 -- the first signal of the message that has the number, if that is another one
-abbrev pub earlier_in : Message → Signal → Option Place
+abbrev pub earlier_in : Message → Signal → Option SpnPlace
 earlier_in m s = unless (is_named s.name) (first_place (places_in m) s.spn)
 
 -- the first signal of the file that has the number, if it is of a message that may not share it with this one
-abbrev pub first_outside : List Message → Message → Signal → Option Place
+abbrev pub first_outside : List Message → Message → Signal → Option SpnPlace
 first_outside messages m s = unless (λ p. may_share m p.0) (first_place (places messages) s.spn)
 
 -- the signal that had the number before this one; 0 is no number
-abbrev pub holder_of_spn : List Message → Message → Signal → Option Place
+abbrev pub holder_of_spn : List Message → Message → Signal → Option SpnPlace
 holder_of_spn messages m s =
     if s.spn == 0 then None else option_or (earlier_in m s) (first_outside messages m s)
 
 -- ---- the remark
 
 -- with the names of the other message and signal
-abbrev pub spn_remark : List ℕ → ℕ → Place → Remark
+abbrev pub spn_remark : List ℕ → ℕ → SpnPlace → Remark
 spn_remark words at p = remark SpnTwice at (with_word (with_word words p.0.name) p.1.name)
 
-abbrev pub remark_of : List ℕ → ℕ → Option Place → List Remark
+abbrev pub remark_of : List ℕ → ℕ → Option SpnPlace → List Remark
 remark_of words at None = []
 remark_of words at (Some p) = spn_remark words at p ∷ []
 

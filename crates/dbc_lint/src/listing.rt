@@ -7,14 +7,14 @@ ghost use Rattle.dbc_lint.specs.Reached.{IsReached};
 use crate::kind::is_chosen;
 use crate::remark::Remark;
 use dbc_advice::Position;
-use rows::{Cell, Column, Place, Rows};
+use rows::{Alignment, Cell, Column, Rows};
 use std::alloc::{AllocError, Global};
 
 /// The columns of a remark.
 pub const REMARKS: [Column; 3] = [
-    Column(*b"place       ", Place::Plain),
-    Column(*b"kind        ", Place::Plain),
-    Column(*b"about       ", Place::Plain),
+    Column(*b"place       ", Alignment::Plain),
+    Column(*b"kind        ", Alignment::Plain),
+    Column(*b"about       ", Alignment::Plain),
 ];
 
 /// Adds the row of a remark.

@@ -7,7 +7,7 @@ ghost use Rattle.dbc_lint.specs.OfSpn.{spn_remark, spn_twice};
 
 use crate::kind::Kind;
 use crate::remark::{Remark, add_word_when, with_word};
-use crate::spn_places::Place;
+use crate::spn_places::SpnPlace;
 use crate::whole::Whole;
 use can_id::{Ident, J1939};
 use dbc_sheet::{Message, Signal};
@@ -31,19 +31,19 @@ fn may_share(message: &Message, other: &Message) -> bool
 }
 
 /// The first signal of the message that has the number.
-fn first_in(message: &Message, number: u32) -> Option<Place>
+fn first_in(message: &Message, number: u32) -> Option<SpnPlace>
     ensures { result ≡ first_place (places_in message.now) number }
 {
     for signal in message.signals.as_slice() {
         if signal.spn.number() == number {
-            return Some(Place { message, signal });
+            return Some(SpnPlace { message, signal });
         }
     }
     None
 }
 
 /// The first signal of the message that has the number of the signal, if that is another one.
-fn earlier_in<'a>(message: &'a Message, signal: &Signal) -> Option<Place<'a>>
+fn earlier_in<'a>(message: &'a Message, signal: &Signal) -> Option<SpnPlace<'a>>
     ensures { result ≡ earlier_in message.now signal.now }
 {
     let first = first_in(message, signal.spn.number())?;
@@ -54,7 +54,11 @@ fn earlier_in<'a>(message: &'a Message, signal: &Signal) -> Option<Place<'a>>
 }
 
 /// The first signal of the file that has the number of the signal, if it is of a message that may not share it.
-fn first_outside<'a>(whole: &'a Whole, message: &Message, signal: &Signal) -> Option<&'a Place<'a>>
+fn first_outside<'a>(
+    whole: &'a Whole,
+    message: &Message,
+    signal: &Signal,
+) -> Option<&'a SpnPlace<'a>>
     ensures { option_copied result ≡ first_outside whole.now.messages message.now signal.now }
 {
     let first = whole.first_place(signal.spn.number())?;
@@ -69,7 +73,7 @@ fn add_place(
     alloc: Global,
     words: &[u8],
     at: usize,
-    place: &Place,
+    place: &SpnPlace,
     remarks: &mut Vec<Remark>,
 ) -> Result<(), AllocError>
     ensures { OnOk result (remarks.new.items ≡ remarks.old.items

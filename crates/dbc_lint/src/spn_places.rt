@@ -1,7 +1,7 @@
 //! Where suspect parameter numbers are.
 ghost use Rattle.std.specs.Prelude.{◌≡◌, ◌++◌, ◌∷◌, [], List, IfOk, OnOk};
 ghost use Rattle.std.specs.Option.{option_copied};
-ghost use Rattle.dbc_lint.specs.OfSpn.{Place as PlaceModel, places, places_in};
+ghost use Rattle.dbc_lint.specs.OfSpn.{SpnPlace as PlaceModel, places, places_in};
 ghost use Rattle.dbc_lint.specs.SpnPlaces.{HasFirsts, kept_place};
 
 use dbc_sheet::{Message, Signal};
@@ -11,13 +11,13 @@ use std::marker::Model;
 
 /// A signal and its message. Contracts see it as the pair of the message and the signal.
 #[derive(Drop)]
-pub(crate) struct Place<'a> {
+pub(crate) struct SpnPlace<'a> {
     pub(crate) message: &'a Message,
     pub(crate) signal: &'a Signal,
 }
 
-impl<'a> Model for Place<'a> {
-    ghost use Rattle.dbc_lint.specs.OfSpn.{Place as PlaceModel};
+impl<'a> Model for SpnPlace<'a> {
+    ghost use Rattle.dbc_lint.specs.OfSpn.{SpnPlace as PlaceModel};
 
     ghost Value = { PlaceModel };
 
@@ -26,7 +26,7 @@ impl<'a> Model for Place<'a> {
 
 /// The first place of each suspect parameter number.
 pub(crate) struct FirstPlaces<'a> {
-    places: BTreeMap<u32, Place<'a>>,
+    places: BTreeMap<u32, SpnPlace<'a>>,
 }
 
 impl<'a> FirstPlaces<'a> {
@@ -40,7 +40,7 @@ impl<'a> FirstPlaces<'a> {
     }
 
     /// The place that is kept for the number.
-    pub(crate) fn get(&self, number: u32) -> Option<&Place<'a>>
+    pub(crate) fn get(&self, number: u32) -> Option<&SpnPlace<'a>>
         ensures { option_copied result ≡ kept_place self.now number }
     {
         self.places.get(&number)
@@ -55,7 +55,7 @@ impl<'a> FirstPlaces<'a> {
         if self.places.contains_key(&number) {
             return Ok(());
         }
-        self.places.insert(number, Place { message, signal })?;
+        self.places.insert(number, SpnPlace { message, signal })?;
         Ok(())
     }
 

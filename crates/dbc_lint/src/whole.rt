@@ -10,7 +10,7 @@ ghost use Rattle.dbc_lint.specs.OfNode.{is_idle, names_of_message, names_used};
 ghost use Rattle.dbc_lint.specs.OfSpn.{first_place, places};
 ghost use Rattle.dbc_lint.specs.Whole.{text_of};
 
-use crate::spn_places::{FirstPlaces, Place};
+use crate::spn_places::{FirstPlaces, SpnPlace};
 use base::Copying;
 use dbc_sheet::{Message, Node, Sheet, Signal};
 use dbc_words::{Name, NameSet};
@@ -170,7 +170,7 @@ impl<'s> Whole<'s> {
     }
 
     /// The first signal of the sheet that has the suspect parameter number.
-    pub(crate) fn first_place(&self, number: u32) -> Option<&Place<'s>>
+    pub(crate) fn first_place(&self, number: u32) -> Option<&SpnPlace<'s>>
         ensures { option_copied result ≡ first_place (places self.now.messages) number }
     {
         self.spns.get(number)

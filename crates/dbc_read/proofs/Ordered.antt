@@ -7,7 +7,7 @@ use Rattle.dbc_read.proofs.Common.{Greater, cases_lt, All-permutation, IsPermuta
 use Rattle.dbc_read.proofs.Common.{text_cmp, SignalLine, Signal, message_of, signals_of, MessageLine}
 use Rattle.std.proofs.lemmas.List.FromFn.{get_or-range_with_len, length-range_with_len}
 use Rattle.dbc_read.specs.Orders.{AreOrdersOf, IsAscending, IsOrderOf, signal_names}
-use Rattle.dbc_read.specs.declared.orders.Order.{Order}
+use Rattle.dbc_read.specs.declared.orders.NameOrder.{NameOrder}
 
 module _ {K : Type 0} (d : K) (test : K → Bool) where
   passes_at : (keys : List K) (i : ℕ) → i < length keys → test (get_or keys i d) ≡ true
@@ -69,7 +69,7 @@ pub names_meant : (signals : List Signal) → map (λ (s : SignalLine). s.name) 
 names_meant [] = refl
 names_meant (s ∷ signals) = ap (λ l. s.name ∷ l) (names_meant signals)
 
-pub as_many : (lines : List MessageLine) (orders : List (Option (Box Order Global)))
+pub as_many : (lines : List MessageLine) (orders : List (Option (Box NameOrder Global)))
     → AreOrdersOf (map message_of lines) orders → length orders ≡ length lines
 as_many [] [] are = refl
 as_many [] (order ∷ orders) are = absurd are
@@ -77,8 +77,8 @@ as_many (line ∷ lines) [] are = absurd are
 as_many (line ∷ lines) (order ∷ orders) are = let rest = as_many lines orders are.1 in omega arith
 
 -- the order of the message at an index
-pub order_there : (d : MessageLine) (e : Option (Box Order Global)) (lines : List MessageLine)
-    (orders : List (Option (Box Order Global))) (i : ℕ) → AreOrdersOf (map message_of lines) orders → i < length lines
+pub order_there : (d : MessageLine) (e : Option (Box NameOrder Global)) (lines : List MessageLine)
+    (orders : List (Option (Box NameOrder Global))) (i : ℕ) → AreOrdersOf (map message_of lines) orders → i < length lines
     → IsOrderOf (signal_names (get_or lines i d).signals.items) (get_or orders i e)
 order_there d e [] orders i are h = absurd (omega arith)
 order_there d e (line ∷ lines) [] i are h = absurd are

@@ -6,7 +6,7 @@ use Rattle.std.specs.Ordering.{is_lt}
 use Rattle.base.specs.Keyed.{text_cmp}
 use Rattle.dbc_grammar.specs.Statement as dbc
 use Rattle.dbc_sheet.specs.declared.signal.Signal.{Signal}
-use Rattle.dbc_read.specs.declared.orders.Order.{Order}
+use Rattle.dbc_read.specs.declared.orders.NameOrder.{NameOrder}
 use Rattle.dbc_read.specs.declared.orders.TheConstants.{FEW_SIGNALS}
 
 abbrev pub signal_names : List Signal → List (List ℕ)
@@ -21,12 +21,12 @@ pub record IsAscending (names : List (List ℕ)) (order : List ℕ) : Type 0 whe
   pub sorted : IsSortedBy (λ i j. is_lt (text_cmp (get_or names i []) (get_or names j []))) order
 
 -- an order of these names, or none where they are few
-abbrev pub IsOrderOf : {A : Type 0} → List (List ℕ) → Option (Box Order A) → Type 0
+abbrev pub IsOrderOf : {A : Type 0} → List (List ℕ) → Option (Box NameOrder A) → Type 0
 IsOrderOf names None = length names ≤ FEW_SIGNALS
 IsOrderOf names (Some order) = IsAscending names order.value.indices.items
 
 -- an order for each of the messages, or none
-abbrev pub AreOrdersOf : {A : Type 0} → List dbc.MessageLine → List (Option (Box Order A)) → Type 0
+abbrev pub AreOrdersOf : {A : Type 0} → List dbc.MessageLine → List (Option (Box NameOrder A)) → Type 0
 AreOrdersOf [] [] = ⊤
 AreOrdersOf (m ∷ ms) (order ∷ orders) = IsOrderOf (line_names m) order × AreOrdersOf ms orders
 AreOrdersOf ms orders = ⊥

@@ -16,7 +16,7 @@ use dbc_statements::MessageLine;
 use std::alloc::{AllocError, Global};
 
 /// How one of many signals of a message is found.
-pub(crate) struct Order {
+pub(crate) struct NameOrder {
     /// The indices of the signals in ascending order of their names.
     pub indices: Vec<u16>,
     /// Guesses of a signal by its name.
@@ -24,7 +24,7 @@ pub(crate) struct Order {
 }
 
 /// The order of a message's signals, or none if they are few. It is in a block of its own, since few messages have one.
-pub(crate) type OrderOfMany = Option<Box<Order>>;
+pub(crate) type OrderOfMany = Option<Box<NameOrder>>;
 
 /// Up to how many signals of a message are compared one by one.
 const FEW_SIGNALS: usize = 16;
@@ -65,7 +65,7 @@ fn order_of(alloc: Global, signals: &[Signal]) -> Result<Option<OrderOfMany>, Al
     };
     let indices = ascending(alloc, signals, count)?;
     let guesses = Guesses::of(alloc, signals, count)?;
-    let order = Box::new(alloc, Order { indices, guesses })?;
+    let order = Box::new(alloc, NameOrder { indices, guesses })?;
     Ok(Some(Some(order)))
 }
 
@@ -98,9 +98,9 @@ pub(crate) fn search(signals: &[Signal], order: &[u16], name: &[u8]) -> Option<u
     }
 }
 
-impl Drop for Order {
+impl Drop for NameOrder {
     fn drop(self) {
-        let Order {
+        let NameOrder {
             indices: _indices,
             guesses: _guesses,
         } = self;

@@ -11,7 +11,7 @@ use Rattle.desk_head.specs.Fields.{Headers, named}
 use Rattle.desk_client.specs.Received.{IsReceived, body_length, received_of, whole, cut, not_http}
 use Rattle.desk_client.specs.Request.{header, request_bytes}
 use Rattle.office_types.specs.declared.look.LookForm.TheVariants.{Json, Lines}
-use Rattle.desk_client.specs.declared.received.Status.TheVariants.{Success, NotFound, Other}
+use Rattle.desk_client.specs.declared.received.DeskStatus.TheVariants.{Success, NotFound, Other}
 use Rattle.desk_client.proofs.Heads.{is_field, never_http, short_has_none}
 
 -- ---- the request

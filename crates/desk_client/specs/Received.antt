@@ -10,12 +10,12 @@ use Rattle.desk_head.specs.Limits.{header_limit}
 use Rattle.desk_client.specs.Limits.{response_limit}
 use Rattle.desk_client.specs.declared.received.Received.{Received}
 use Rattle.desk_client.specs.declared.received.Received.TheVariants as is
-use Rattle.desk_client.specs.declared.received.Status.{Status}
-use Rattle.desk_client.specs.declared.received.Status.TheVariants.{Success, NotFound, Other}
+use Rattle.desk_client.specs.declared.received.DeskStatus.{DeskStatus}
+use Rattle.desk_client.specs.declared.received.DeskStatus.TheVariants.{Success, NotFound, Other}
 
 -- what is received, with the bytes of its body
 pub data Reception : Type 0 where
-  whole : Status → List ℕ → Reception
+  whole : DeskStatus → List ℕ → Reception
   cut not_http too_long : Reception
 
 abbrev pub seen : Received → Reception
@@ -24,11 +24,11 @@ seen is.Cut = cut
 seen is.NotHttp = not_http
 seen is.TooLong = too_long
 
-abbrev pub status_of : ℕ → Status
+abbrev pub status_of : ℕ → DeskStatus
 status_of n = if n == 200 then Success else (if n == 404 then NotFound else Other n)
 
 -- its number
-abbrev pub code_of : Status → ℕ
+abbrev pub code_of : DeskStatus → ℕ
 code_of Success = 200
 code_of NotFound = 404
 code_of (Other n) = n

@@ -3,7 +3,7 @@
 //! [`ask`] connects to a port of 127.0.0.1, asks for one target by a GET and gives what came back, within time limits.
 //! [`send`] does so with the bytes of any request. [`asked`] and [`exchange`] are the same over any sink and source.
 //! [`target_of`] gives the target of a look. What comes back is one of four
-//! ([`Received`]): a whole [`Response`] with its [`Status`] and body, one that is cut off, no response of HTTP, or more
+//! ([`Received`]): a whole [`Response`] with its [`DeskStatus`] and body, one that is cut off, no response of HTTP, or more
 //! bytes than are read. [`response_in`] says which of them bytes are; its contract holds for all bytes. [`request_for`]
 //! makes the bytes of the request, for a target that passes [`is_target`].
 //!
@@ -31,6 +31,6 @@ pub use calling::{ask, send};
 pub use fault::AskFault;
 pub use laws::replies_come_back;
 pub use limits::{RESPONSE_LIMIT, TARGET_LIMIT};
-pub use received::{Received, Response, Status, response_in};
+pub use received::{DeskStatus, Received, Response, response_in};
 pub use request::{is_target, request_for};
 pub use target::target_of;

@@ -13,7 +13,7 @@ use httparse::spans::{HeaderSpan, parse_response};
 
 /// What a desk says of a request by the status of its response (RFC 9110, on status codes).
 #[derive(Clone, Copy, PartialEq, Eq)]
-pub enum Status {
+pub enum DeskStatus {
     /// 200: the body is what was asked for.
     Success,
     /// 404: there is nothing at the target.
@@ -22,15 +22,15 @@ pub enum Status {
     Other(u16),
 }
 
-impl Status {
+impl DeskStatus {
     /// Its number.
     pub fn code(self) -> u16
         ensures { result ≡ code_of self }
     {
         match self {
-            Status::Success => 200,
-            Status::NotFound => 404,
-            Status::Other(code) => code,
+            DeskStatus::Success => 200,
+            DeskStatus::NotFound => 404,
+            DeskStatus::Other(code) => code,
         }
     }
 }
@@ -39,7 +39,7 @@ impl Status {
 #[derive(Drop)]
 pub struct Response {
     /// Its status.
-    pub status: Status,
+    pub status: DeskStatus,
     /// Its body, of as many bytes as its `Content-Length` says.
     pub body: Vec<u8>,
 }
@@ -58,13 +58,13 @@ pub enum Received {
     TooLong,
 }
 
-fn status_of(code: u16) -> Status
+fn status_of(code: u16) -> DeskStatus
     ensures { result ≡ status_of code }
 {
     match code {
-        200 => Status::Success,
-        404 => Status::NotFound,
-        _ => Status::Other(code),
+        200 => DeskStatus::Success,
+        404 => DeskStatus::NotFound,
+        _ => DeskStatus::Other(code),
     }
 }
 

@@ -4,7 +4,7 @@ use Rattle.std.specs.Fmt.{digits}
 use Rattle.serde_json.proofs.OnLiterals.{serde_json_on_literals}
 use Rattle.desk_client.specs.Received.{cut, not_http, too_long, whole}
 use Rattle.desk_client.specs.declared.fault.AskFault.TheVariants.{Connect, Connection}
-use Rattle.desk_client.specs.declared.received.Status.TheVariants.{NotFound, Other, Success}
+use Rattle.desk_client.specs.declared.received.DeskStatus.TheVariants.{NotFound, Other, Success}
 use Rattle.desk_types.specs.declared.fault.DeskFault.TheVariants.{Memory, Read, Write}
 use Rattle.office_types.specs.declared.refusal.Refusal.TheVariants as no
 use Rattle.office_types.specs.declared.reply.Reply.TheVariants as reply

@@ -10,28 +10,28 @@ use crate::free::{held_count, left_of, live_count};
 use crate::numbers::{FormNumbers, Numbers};
 use office_seen::View;
 use office_types::{BlockForm, GrantedBlock, Team};
-use rows::{Cell, Column, Place, Rows, Table};
+use rows::{Alignment, Cell, Column, Rows, Table};
 use std::alloc::{AllocError, Global};
 
 /// The columns of a granted block.
 pub const BLOCKS: [Column; 8] = [
-    Column(*b"form        ", Place::Plain),
-    Column(*b"first       ", Place::Right(9)),
-    Column(*b"last        ", Place::Right(9)),
-    Column(*b"team        ", Place::Left(12)),
-    Column(*b"live        ", Place::Counted(4)),
-    Column(*b"held        ", Place::Counted(3)),
-    Column(*b"free        ", Place::Counted(5)),
-    Column(*b"numbers     ", Place::Plain),
+    Column(*b"form        ", Alignment::Plain),
+    Column(*b"first       ", Alignment::Right(9)),
+    Column(*b"last        ", Alignment::Right(9)),
+    Column(*b"team        ", Alignment::Left(12)),
+    Column(*b"live        ", Alignment::Counted(4)),
+    Column(*b"held        ", Alignment::Counted(3)),
+    Column(*b"free        ", Alignment::Counted(5)),
+    Column(*b"numbers     ", Alignment::Plain),
 ];
 
 /// How many blocks there are, and how many numbers of each form are left in them.
 pub const BLOCK_TOTALS: [Column; 5] = [
-    Column(*b"blocks      ", Place::Counted(0)),
-    Column(*b"free_std    ", Place::Counted(0)),
-    Column(*b"free_ext    ", Place::Again(0)),
-    Column(*b"free_pgn    ", Place::Again(0)),
-    Column(*b"free_spn    ", Place::Again(0)),
+    Column(*b"blocks      ", Alignment::Counted(0)),
+    Column(*b"free_std    ", Alignment::Counted(0)),
+    Column(*b"free_ext    ", Alignment::Again(0)),
+    Column(*b"free_pgn    ", Alignment::Again(0)),
+    Column(*b"free_spn    ", Alignment::Again(0)),
 ];
 
 /// Adds the row of the block, where these are the numbers of its form.

@@ -4,19 +4,19 @@ ghost use Rattle.office_looks.specs.Held.{held_row, held_table};
 
 use can_id::Ident;
 use office_seen::{View, last_name, releases_runs, team_of};
-use rows::{Cell, Column, Place, Rows, Table};
+use rows::{Alignment, Cell, Column, Rows, Table};
 use std::alloc::{AllocError, Global};
 
 /// The columns of a held identifier.
 pub const HELD: [Column; 4] = [
-    Column(*b"identifier  ", Place::Plain),
-    Column(*b"team        ", Place::Left(12)),
-    Column(*b"releases    ", Place::Right(5)),
-    Column(*b"last_name   ", Place::Plain),
+    Column(*b"identifier  ", Alignment::Plain),
+    Column(*b"team        ", Alignment::Left(12)),
+    Column(*b"releases    ", Alignment::Right(5)),
+    Column(*b"last_name   ", Alignment::Plain),
 ];
 
 /// How many there are.
-pub const HELD_TOTALS: [Column; 1] = [Column(*b"held        ", Place::Counted(0))];
+pub const HELD_TOTALS: [Column; 1] = [Column(*b"held        ", Alignment::Counted(0))];
 
 /// Adds the row of a held identifier: it, the team of its block, its releases and its last name. The error is out of
 /// memory.

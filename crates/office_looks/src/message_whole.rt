@@ -13,24 +13,24 @@ use dbc_words::Name;
 use office_seen::{View, last_release, releases_runs, since};
 use office_types::Team;
 use office_views::{message_chart, transmitter};
-use rows::{Cell, Column, Place, Table, table_text};
+use rows::{Alignment, Cell, Column, Table, table_text};
 use std::alloc::{AllocError, Global};
 
 /// What a message has once.
 pub const MESSAGE: [Column; 13] = [
-    Column(*b"message     ", Place::Plain),
-    Column(*b"number      ", Place::Plain),
-    Column(*b"identifier  ", Place::Plain),
-    Column(*b"pgn         ", Place::Plain),
-    Column(*b"priority    ", Place::Plain),
-    Column(*b"source      ", Place::Plain),
-    Column(*b"destination ", Place::Plain),
-    Column(*b"length      ", Place::Plain),
-    Column(*b"transmitter ", Place::Plain),
-    Column(*b"owner       ", Place::Plain),
-    Column(*b"releases    ", Place::Plain),
-    Column(*b"since       ", Place::Plain),
-    Column(*b"comment     ", Place::Plain),
+    Column(*b"message     ", Alignment::Plain),
+    Column(*b"number      ", Alignment::Plain),
+    Column(*b"identifier  ", Alignment::Plain),
+    Column(*b"pgn         ", Alignment::Plain),
+    Column(*b"priority    ", Alignment::Plain),
+    Column(*b"source      ", Alignment::Plain),
+    Column(*b"destination ", Alignment::Plain),
+    Column(*b"length      ", Alignment::Plain),
+    Column(*b"transmitter ", Alignment::Plain),
+    Column(*b"owner       ", Alignment::Plain),
+    Column(*b"releases    ", Alignment::Plain),
+    Column(*b"since       ", Alignment::Plain),
+    Column(*b"comment     ", Alignment::Plain),
 ];
 
 /// What a field of an identifier has, if it is there.

@@ -10,19 +10,19 @@ use dbc_sheet::{Message, Sheet};
 use office_seen::{View, last_release, releases_runs, since};
 use office_types::Team;
 use office_views::{MESSAGE_TOTALS, transmitter};
-use rows::{Cell, Column, Place, Rows, Table};
+use rows::{Alignment, Cell, Column, Rows, Table};
 use std::alloc::{AllocError, Global};
 
 /// The columns of a live message: those of the table of a sheet, with its owner, releases and change put in.
 pub const MESSAGES: [Column; 8] = [
-    Column(*b"identifier  ", Place::Plain),
-    Column(*b"length      ", Place::Right(4)),
-    Column(*b"signals     ", Place::Right(4)),
-    Column(*b"owner       ", Place::Left(12)),
-    Column(*b"releases    ", Place::Right(5)),
-    Column(*b"since       ", Place::Left(7)),
-    Column(*b"transmitter ", Place::Plain),
-    Column(*b"message     ", Place::Plain),
+    Column(*b"identifier  ", Alignment::Plain),
+    Column(*b"length      ", Alignment::Right(4)),
+    Column(*b"signals     ", Alignment::Right(4)),
+    Column(*b"owner       ", Alignment::Left(12)),
+    Column(*b"releases    ", Alignment::Right(5)),
+    Column(*b"since       ", Alignment::Left(7)),
+    Column(*b"transmitter ", Alignment::Plain),
+    Column(*b"message     ", Alignment::Plain),
 ];
 
 /// Adds the row of a live message of this owner, where the sheet before is that of the last release. The error is out of

@@ -9,7 +9,7 @@ use dbc_words::Name;
 use office_facts::has_node;
 use office_seen::View;
 use office_views::{received, received_tally, sends, sent_tally};
-use rows::{Cell, Column, Place, Rows, Table};
+use rows::{Alignment, Cell, Column, Rows, Table};
 use std::alloc::{AllocError, Global};
 
 /// How many of the messages the node sends.
@@ -34,14 +34,14 @@ fn received_count(node: &Name, messages: &[Message]) -> usize
 
 /// The columns of a node.
 pub const NODES: [Column; 4] = [
-    Column(*b"sends       ", Place::Counted(4)),
-    Column(*b"receives    ", Place::Counted(4)),
-    Column(*b"node        ", Place::Left(12)),
-    Column(*b"comment     ", Place::Plain),
+    Column(*b"sends       ", Alignment::Counted(4)),
+    Column(*b"receives    ", Alignment::Counted(4)),
+    Column(*b"node        ", Alignment::Left(12)),
+    Column(*b"comment     ", Alignment::Plain),
 ];
 
 /// How many there are.
-pub const NODE_TOTALS: [Column; 1] = [Column(*b"nodes       ", Place::Counted(0))];
+pub const NODE_TOTALS: [Column; 1] = [Column(*b"nodes       ", Alignment::Counted(0))];
 
 /// Adds the row of a node that sends and receives so many messages.
 fn push_node<'a>(
@@ -95,16 +95,16 @@ pub(crate) fn nodes_table(alloc: Global, view: &View) -> Result<Table<'_>, Alloc
 
 /// The columns of a message that a node sends or receives.
 pub const USES: [Column; 4] = [
-    Column(*b"use         ", Place::Left(8)),
-    Column(*b"identifier  ", Place::Plain),
-    Column(*b"signals     ", Place::Right(4)),
-    Column(*b"message     ", Place::Plain),
+    Column(*b"use         ", Alignment::Left(8)),
+    Column(*b"identifier  ", Alignment::Plain),
+    Column(*b"signals     ", Alignment::Right(4)),
+    Column(*b"message     ", Alignment::Plain),
 ];
 
 /// How many it sends, and how many it receives.
 pub const USE_TOTALS: [Column; 2] = [
-    Column(*b"sends       ", Place::Counted(0)),
-    Column(*b"receives    ", Place::Counted(0)),
+    Column(*b"sends       ", Alignment::Counted(0)),
+    Column(*b"receives    ", Alignment::Counted(0)),
 ];
 
 /// Adds the row of a message that a node sends or receives, with so many signals.

@@ -5,21 +5,21 @@ ghost use Rattle.office_looks.specs.Releases.{release_row, releases_table};
 use dbc_sheet::{Sheet, counts_of};
 use office_seen::{View, last_of};
 use office_views::signal_count;
-use rows::{Cell, Column, Place, Rows, Table};
+use rows::{Alignment, Cell, Column, Rows, Table};
 use std::alloc::{AllocError, Global};
 
 /// The columns of a release.
 pub const RELEASES: [Column; 6] = [
-    Column(*b"release     ", Place::Right(5)),
-    Column(*b"messages    ", Place::Counted(5)),
-    Column(*b"signals     ", Place::Counted(5)),
-    Column(*b"added       ", Place::Counted(4)),
-    Column(*b"removed     ", Place::Counted(4)),
-    Column(*b"changed     ", Place::Counted(4)),
+    Column(*b"release     ", Alignment::Right(5)),
+    Column(*b"messages    ", Alignment::Counted(5)),
+    Column(*b"signals     ", Alignment::Counted(5)),
+    Column(*b"added       ", Alignment::Counted(4)),
+    Column(*b"removed     ", Alignment::Counted(4)),
+    Column(*b"changed     ", Alignment::Counted(4)),
 ];
 
 /// How many there are.
-pub const RELEASE_TOTALS: [Column; 1] = [Column(*b"releases    ", Place::Counted(0))];
+pub const RELEASE_TOTALS: [Column; 1] = [Column(*b"releases    ", Alignment::Counted(0))];
 
 /// Adds the row of the release of this number, after the one before it.
 fn push_release(

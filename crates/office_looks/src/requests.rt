@@ -11,21 +11,21 @@ use crate::looks::list_in;
 use base::{Items, split_once};
 use office_history::Key;
 use office_types::{LookForm, PartReply, Reply};
-use rows::{Cell, Column, Place, Rows, Table};
+use rows::{Alignment, Cell, Column, Rows, Table};
 use std::alloc::{AllocError, Global};
 use std::marker::Model;
 
 /// The columns of a request.
 pub const REQUESTS: [Column; 3] = [
-    Column(*b"key         ", Place::Left(24)),
-    Column(*b"reply       ", Place::Left(24)),
-    Column(*b"request     ", Place::From),
+    Column(*b"key         ", Alignment::Left(24)),
+    Column(*b"reply       ", Alignment::Left(24)),
+    Column(*b"request     ", Alignment::From),
 ];
 
 /// How many there are, and how many of them were refused.
 pub const REQUEST_TOTALS: [Column; 2] = [
-    Column(*b"requests    ", Place::Counted(0)),
-    Column(*b"refused     ", Place::Counted(0)),
+    Column(*b"requests    ", Alignment::Counted(0)),
+    Column(*b"refused     ", Alignment::Counted(0)),
 ];
 
 /// The greatest number of bytes that are shown of a content.

@@ -5,38 +5,38 @@ ghost use Rattle.office_looks.specs.Message.{value_rows};
 
 use dbc_sheet::Signal;
 use dbc_words::{Spn, ValueType};
-use rows::{Cell, Column, Kind, Place, Rows};
+use rows::{Alignment, Cell, Column, Kind, Rows};
 use std::alloc::{AllocError, Global};
 
 /// The columns of a signal.
 pub const SIGNALS: [Column; 8] = [
-    Column(*b"layout      ", Place::Right(10)),
-    Column(*b"multiplexer ", Place::Left(4)),
-    Column(*b"spn         ", Place::Right(6)),
-    Column(*b"signal      ", Place::Left(22)),
-    Column(*b"scale       ", Place::Left(14)),
-    Column(*b"range       ", Place::Left(14)),
-    Column(*b"unit        ", Place::Left(6)),
-    Column(*b"receivers   ", Place::Plain),
+    Column(*b"layout      ", Alignment::Right(10)),
+    Column(*b"multiplexer ", Alignment::Left(4)),
+    Column(*b"spn         ", Alignment::Right(6)),
+    Column(*b"signal      ", Alignment::Left(22)),
+    Column(*b"scale       ", Alignment::Left(14)),
+    Column(*b"range       ", Alignment::Left(14)),
+    Column(*b"unit        ", Alignment::Left(6)),
+    Column(*b"receivers   ", Alignment::Plain),
 ];
 
 /// The columns of the type of a signal whose values are no whole numbers.
 pub const TYPES: [Column; 2] = [
-    Column(*b"signal      ", Place::Plain),
-    Column(*b"type        ", Place::Plain),
+    Column(*b"signal      ", Alignment::Plain),
+    Column(*b"type        ", Alignment::Plain),
 ];
 
 /// The columns of a text for a value of a signal.
 pub const VALUES: [Column; 3] = [
-    Column(*b"signal      ", Place::Left(22)),
-    Column(*b"value       ", Place::Right(6)),
-    Column(*b"text        ", Place::Plain),
+    Column(*b"signal      ", Alignment::Left(22)),
+    Column(*b"value       ", Alignment::Right(6)),
+    Column(*b"text        ", Alignment::Plain),
 ];
 
 /// The columns of the comment of a signal.
 pub const NOTES: [Column; 2] = [
-    Column(*b"signal      ", Place::Left(22)),
-    Column(*b"comment     ", Place::Plain),
+    Column(*b"signal      ", Alignment::Left(22)),
+    Column(*b"comment     ", Alignment::Plain),
 ];
 
 /// The number, where it is one.

@@ -8,26 +8,26 @@ ghost use Rattle.rows.specs.Fact.{fact_of};
 use dbc_sheet::{Counts, Sheet, counts_of};
 use office_seen::{View, last_release};
 use office_views::{phase_word, signal_count};
-use rows::{Cell, Column, Place, Table};
+use rows::{Alignment, Cell, Column, Table};
 use std::alloc::{AllocError, Global};
 
 /// What a network has once, and how many there are of each kind of thing.
 pub const STATE: [Column; 15] = [
-    Column(*b"network     ", Place::Plain),
-    Column(*b"kind        ", Place::Plain),
-    Column(*b"phase       ", Place::Plain),
-    Column(*b"submitted   ", Place::Plain),
-    Column(*b"approved    ", Place::Plain),
-    Column(*b"lacking     ", Place::Plain),
-    Column(*b"releases    ", Place::Plain),
-    Column(*b"added       ", Place::Plain),
-    Column(*b"removed     ", Place::Plain),
-    Column(*b"changed     ", Place::Plain),
-    Column(*b"held        ", Place::Plain),
-    Column(*b"blocks      ", Place::Plain),
-    Column(*b"nodes       ", Place::Plain),
-    Column(*b"messages    ", Place::Plain),
-    Column(*b"signals     ", Place::Plain),
+    Column(*b"network     ", Alignment::Plain),
+    Column(*b"kind        ", Alignment::Plain),
+    Column(*b"phase       ", Alignment::Plain),
+    Column(*b"submitted   ", Alignment::Plain),
+    Column(*b"approved    ", Alignment::Plain),
+    Column(*b"lacking     ", Alignment::Plain),
+    Column(*b"releases    ", Alignment::Plain),
+    Column(*b"added       ", Alignment::Plain),
+    Column(*b"removed     ", Alignment::Plain),
+    Column(*b"changed     ", Alignment::Plain),
+    Column(*b"held        ", Alignment::Plain),
+    Column(*b"blocks      ", Alignment::Plain),
+    Column(*b"nodes       ", Alignment::Plain),
+    Column(*b"messages    ", Alignment::Plain),
+    Column(*b"signals     ", Alignment::Plain),
 ];
 
 /// How many messages differ from those of the last release.

@@ -15,7 +15,7 @@ use office_blocks::{BLOCKS, Numbers, push_block};
 use office_seen::{View, last_release};
 use office_spns::{SPNS, SpnView, push_spn, shown_spns};
 use office_types::{BlockForm, Sought};
-use rows::{Cell, Column, Kind, Place, Rows, Table};
+use rows::{Alignment, Cell, Column, Kind, Rows, Table};
 use std::alloc::{AllocError, Global};
 
 /// The rows of the live messages that are looked for.
@@ -135,10 +135,10 @@ fn block_rows<'a>(alloc: Global, view: &'a View, sought: &Sought) -> Result<Rows
 
 /// How many rows there are of each kind.
 pub const WHO_TOTALS: [Column; 4] = [
-    Column(*b"live        ", Place::Counted(0)),
-    Column(*b"held        ", Place::Counted(0)),
-    Column(*b"spns        ", Place::Counted(0)),
-    Column(*b"blocks      ", Place::Counted(0)),
+    Column(*b"live        ", Alignment::Counted(0)),
+    Column(*b"held        ", Alignment::Counted(0)),
+    Column(*b"spns        ", Alignment::Counted(0)),
+    Column(*b"blocks      ", Alignment::Counted(0)),
 ];
 
 /// Whether one of the counts isn't 0.

@@ -8,7 +8,7 @@ use Rattle.std.proofs.lemmas.List.Elements.{filter-append}
 use Rattle.dbc_sheet.specs.declared.message.Message.{Message}
 use Rattle.dbc_sheet.specs.declared.sheet.Sheet.{Sheet}
 use Rattle.dbc_sheet.specs.declared.signal.Signal.{Signal}
-use Rattle.office_spns.specs.Spns.{Place, places_in}
+use Rattle.office_spns.specs.Spns.{SpnPlace, places_in}
 use Rattle.office_spns.specs.SpnIndex.{AreInOrder, all_places, place_of, signals_in, spn_at}
 use Rattle.office_spns.proofs.OfNumber.{has, kept}
 
@@ -34,7 +34,7 @@ of_messages n (m ∷ ms) =
 
 -- ---- those that a stable sort by the numbers leaves
 
-pub in_order : (s : Sheet) (found sorted : List Place) → found ≡ all_places s → IsNonDecreasingBy spn_at sorted
+pub in_order : (s : Sheet) (found sorted : List SpnPlace) → found ≡ all_places s → IsNonDecreasingBy spn_at sorted
     → IsStableByKey spn_at nat_cmp found sorted → length sorted ≡ length found → AreInOrder s sorted
 in_order s found sorted all rising stable same = record {
   rising = rising;

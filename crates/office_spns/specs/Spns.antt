@@ -17,17 +17,17 @@ use Rattle.rows.specs.Fact.{Fact, of_ident, of_name, of_number, of_runs}
 use Rattle.rows.specs.Table.{Listing, plain}
 
 -- a signal and its message
-abbrev pub Place : Type 0
-Place = Message × Signal
+abbrev pub SpnPlace : Type 0
+SpnPlace = Message × Signal
 
 -- where messages have the number
-abbrev pub places_in : ℕ → Message → List Place
+abbrev pub places_in : ℕ → Message → List SpnPlace
 places_in n m = map (λ s. (m, s)) (filter (λ (s : Signal). s.spn == n) m.signals)
 
-abbrev pub places : ℕ → Sheet → List Place
+abbrev pub places : ℕ → Sheet → List SpnPlace
 places n s = flat_map (places_in n) s.messages
 
-abbrev pub is_none : List Place → Bool
+abbrev pub is_none : List SpnPlace → Bool
 is_none [] = true
 is_none (p ∷ ps) = false
 
@@ -36,7 +36,7 @@ abbrev pub has_spn : ℕ → Sheet → Bool
 has_spn n s = not (is_none (places n s))
 
 -- where the last release that has the number has it
-abbrev pub released_places : ℕ → List Sheet → List Place
+abbrev pub released_places : ℕ → List Sheet → List SpnPlace
 released_places n releases = unwrap_or (last_or None (map (places n) (filter (has_spn n) releases))) []
 
 -- live, or in a release and not live, or neither
@@ -44,7 +44,7 @@ abbrev pub use_of : ℕ → View → SpnUse
 use_of n view = if has_spn n view.sheet then Live else (if list_any (has_spn n) view.releases then Gone else Used)
 
 -- where it is shown: at its live places, else at those of the last release that has it
-abbrev pub shown_places : ℕ → View → List Place
+abbrev pub shown_places : ℕ → View → List SpnPlace
 shown_places n view = if has_spn n view.sheet then places n view.sheet else released_places n view.releases
 
 -- it is in a block of the network
@@ -63,18 +63,18 @@ use_word Gone = codes "gone"
 use_word Used = codes "used"
 
 -- identifier, message, signal
-abbrev pub place_facts : Option Place → List Fact
+abbrev pub place_facts : Option SpnPlace → List Fact
 place_facts None = of_ident None ∷ of_name (codes "-") ∷ of_name (codes "-") ∷ []
 place_facts (Some p) = of_ident (Some p.0.ident) ∷ of_name p.0.name ∷ of_name p.1.name ∷ []
 
 -- number, use, releases, place
-abbrev pub spn_row : View → ℕ → Option Place → List Fact
+abbrev pub spn_row : View → ℕ → Option SpnPlace → List Fact
 spn_row view n place =
     of_number n ∷ of_name (use_word (use_of n view))
     ∷ of_runs (runs_of 1 (releases_where (has_spn n) view.releases)) ∷ place_facts place
 
 -- a row for each place; without places one row
-abbrev pub rows_at : View → ℕ → List Place → List (List Fact)
+abbrev pub rows_at : View → ℕ → List SpnPlace → List (List Fact)
 rows_at view n [] = spn_row view n None ∷ []
 rows_at view n (p ∷ ps) = map (λ q. spn_row view n (Some q)) (p ∷ ps)
 

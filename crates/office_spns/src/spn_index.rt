@@ -16,9 +16,9 @@ pub struct SpnPlace<'a> {
 }
 
 impl<'a> Model for SpnPlace<'a> {
-    ghost use Rattle.office_spns.specs.Spns.{Place};
+    ghost use Rattle.office_spns.specs.Spns.{SpnPlace as PlaceModel};
 
-    ghost Value = { Place };
+    ghost Value = { PlaceModel };
 
     ghost view = { λ place. (place.message.now, place.signal.now) };
 }

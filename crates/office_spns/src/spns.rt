@@ -15,7 +15,7 @@ use can_id::Ident;
 use columns::runs_of;
 use office_seen::{View, has_number_in};
 use office_types::BlockForm;
-use rows::{Cell, Column, Place, Rows, Table};
+use rows::{Alignment, Cell, Column, Rows, Table};
 use std::alloc::{AllocError, Global};
 
 /// Whether the number is in a block of the network.
@@ -110,20 +110,20 @@ fn use_word(spn_use: SpnUse) -> &'static [u8]
 
 /// The columns of a suspect parameter number at a place.
 pub const SPNS: [Column; 6] = [
-    Column(*b"spn         ", Place::Right(6)),
-    Column(*b"use         ", Place::Left(4)),
-    Column(*b"releases    ", Place::Right(5)),
-    Column(*b"identifier  ", Place::Plain),
-    Column(*b"message     ", Place::Plain),
-    Column(*b"signal      ", Place::Plain),
+    Column(*b"spn         ", Alignment::Right(6)),
+    Column(*b"use         ", Alignment::Left(4)),
+    Column(*b"releases    ", Alignment::Right(5)),
+    Column(*b"identifier  ", Alignment::Plain),
+    Column(*b"message     ", Alignment::Plain),
+    Column(*b"signal      ", Alignment::Plain),
 ];
 
 /// How many numbers there are, and of how many of them each has become.
 pub const SPN_TOTALS: [Column; 4] = [
-    Column(*b"spns        ", Place::Counted(0)),
-    Column(*b"live        ", Place::Counted(0)),
-    Column(*b"gone        ", Place::Counted(0)),
-    Column(*b"used        ", Place::Counted(0)),
+    Column(*b"spns        ", Alignment::Counted(0)),
+    Column(*b"live        ", Alignment::Counted(0)),
+    Column(*b"gone        ", Alignment::Counted(0)),
+    Column(*b"used        ", Alignment::Counted(0)),
 ];
 
 /// The identifier, the message and the signal of the place, if there is one.

@@ -3,22 +3,22 @@ ghost use Rattle.std.specs.Prelude.{◌≡◌, ◌++◌, ◌∷◌, [], IfOk, On
 ghost use Rattle.office_views.specs.Table.{message_row, sheet_table, signal_count, table_of};
 
 use dbc_sheet::{Message, Sheet};
-use rows::{Cell, Column, Place, Rows, Table, table_text};
+use rows::{Alignment, Cell, Column, Rows, Table, table_text};
 use std::alloc::{AllocError, Global};
 
 /// The columns of a message.
 pub const TABLE: [Column; 5] = [
-    Column(*b"identifier  ", Place::Plain),
-    Column(*b"length      ", Place::Right(4)),
-    Column(*b"signals     ", Place::Right(4)),
-    Column(*b"transmitter ", Place::Plain),
-    Column(*b"message     ", Place::Plain),
+    Column(*b"identifier  ", Alignment::Plain),
+    Column(*b"length      ", Alignment::Right(4)),
+    Column(*b"signals     ", Alignment::Right(4)),
+    Column(*b"transmitter ", Alignment::Plain),
+    Column(*b"message     ", Alignment::Plain),
 ];
 
 /// How many there are, and how many signals they have altogether.
 pub const MESSAGE_TOTALS: [Column; 2] = [
-    Column(*b"messages    ", Place::Counted(0)),
-    Column(*b"signals     ", Place::Counted(0)),
+    Column(*b"messages    ", Alignment::Counted(0)),
+    Column(*b"signals     ", Alignment::Counted(0)),
 ];
 
 /// The message's transmitter, `-` where it has none.

@@ -1,22 +1,22 @@
 -- Differences that are side by side in one message.
 use Rattle.page_changes.proofs.Common.{◌≡◌, ◌+◌, ◌++◌, ◌∙◌, Bool, true, false, cond, ℕ, suc, List, [], ◌∷◌, take, drop}
 use Rattle.page_changes.proofs.Common.{Option, Some, None, Bor, map, get_or, refl, sym, ap, subst, arith, append-nil}
-use Rattle.page_changes.proofs.Common.{append_assoc, prefix_len, false≢true, Decides-eqb, dbc_number, Difference, Place}
+use Rattle.page_changes.proofs.Common.{append_assoc, prefix_len, false≢true, Decides-eqb, dbc_number, Difference, Region}
 use Rattle.std.proofs.Common.{◌==◌}
 use Rattle.std.specs.Prelude.{unwrap_or}
 use Rattle.std.specs.List.{filter, find}
 use Rattle.base.specs.Ascending.{IsAt, IsGap}
 use Rattle.base.proofs.AscendingLists.{find_at, find_gap}
-use Rattle.dbc_compare.specs.declared.place.Place.TheVariants as place
+use Rattle.dbc_compare.specs.declared.place.Region.TheVariants as place
 use Rattle.page_changes.specs.Changes.{are_one_message, change_at, is_beside, is_in_message, is_of_message, kept_if}
 use Rattle.page_changes.specs.Changes.{list_of, number_in, number_of_change, place_is_in}
 use Rattle.page_changes.specs.Parts.{parts_by}
 use Rattle.page_changes.proofs.Cutting.{cut}
 
-no_place : (p q r : Place) → false ≡ true → are_one_message p r ≡ are_one_message q r
+no_place : (p q r : Region) → false ≡ true → are_one_message p r ≡ are_one_message q r
 no_place p q r e = absurd (false≢true e)
 
-alike_places : (p q : Place) → are_one_message p q ≡ true → (r : Place) → are_one_message p r ≡ are_one_message q r
+alike_places : (p q : Region) → are_one_message p q ≡ true → (r : Region) → are_one_message p r ≡ are_one_message q r
 alike_places (place.Message a b) (place.Message c d) e r =
     ap (λ n. place_is_in n r) (sym ((Decides-eqb (dbc_number d.ident) (dbc_number b.ident)).0 e))
 alike_places (place.Message a b) place.Sheet e r = no_place (place.Message a b) place.Sheet r e

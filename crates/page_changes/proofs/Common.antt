@@ -16,7 +16,7 @@ pub use Rattle.std.specs.declared.cmp.Ordering.TheVariants.{Less}
 pub use Rattle.base.specs.Keyed.{text_cmp}
 pub use Rattle.can_id.specs.Ident.{dbc_number}
 pub use Rattle.dbc_compare.specs.declared.difference.Difference.{Difference}
-pub use Rattle.dbc_compare.specs.declared.place.Place.{Place}
+pub use Rattle.dbc_compare.specs.declared.place.Region.{Region}
 pub use Rattle.dbc_sheet.specs.Messages.{number_of}
 pub use Rattle.dbc_sheet.specs.declared.message.Message.{Message}
 pub use Rattle.dbc_sheet.specs.declared.sheet.Sheet.{Sheet}

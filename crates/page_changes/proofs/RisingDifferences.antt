@@ -1,7 +1,7 @@
 -- The differences of two sheets come in order.
 use Rattle.page_changes.proofs.Common.{◌≡◌, ◌+◌, ◌<◌, ◌≤◌, ◌++◌, ◌∙◌, Bool, true, false, ℕ, List, [], ◌∷◌, take, drop}
 use Rattle.page_changes.proofs.Common.{Option, Some, None, suc, refl, sym, subst, arith, flat_map, Less, cond-false}
-use Rattle.page_changes.proofs.Common.{cond-true, number_of, Message, Sheet, Difference, Place}
+use Rattle.page_changes.proofs.Common.{cond-true, number_of, Message, Sheet, Difference, Region}
 use Rattle.std.proofs.Common.{not, nat_lt}
 use Rattle.std.specs.List.Sorted.{IsStrictlySortedBy}
 use Rattle.std.proofs.lemmas.Bool.{ltb-false, ltb-true}
@@ -16,9 +16,9 @@ use Rattle.dbc_compare.specs.Differences.{changes_since, differences, difference
 use Rattle.dbc_compare.specs.Differences.{message_differences, pair_differences, sheet_differences, shown_message}
 use Rattle.dbc_compare.specs.Differences.{shown_thing, thing_differences}
 use Rattle.dbc_compare.specs.Fields.{Valued, message_fields, node_fields, sheet_fields, signal_fields, table_fields}
-use Rattle.dbc_compare.specs.declared.difference.Change.{Change}
-use Rattle.dbc_compare.specs.declared.difference.Change.TheVariants as change
-use Rattle.dbc_compare.specs.declared.place.Place.TheVariants as place
+use Rattle.dbc_compare.specs.declared.difference.Alteration.{Alteration}
+use Rattle.dbc_compare.specs.declared.difference.Alteration.TheVariants as change
+use Rattle.dbc_compare.specs.declared.place.Region.TheVariants as place
 use Rattle.page_changes.specs.Changes.{AreRising, Rise, order_at}
 
 -- ---- lists that rise, from one number up to another
@@ -51,13 +51,13 @@ each n f h (x ∷ xs) = joined n n n (f x) (flat_map f xs) (h x) (each n f h xs)
 
 -- ---- in one place
 
-about : (here : Place) (name : Option (List ℕ)) (changes : List Change)
+about : (here : Region) (name : Option (List ℕ)) (changes : List Alteration)
     → Climb (order_at here) (order_at here) (differences_about here name changes)
 unfolding differences_about
 about here name [] = omega arith
 about here name (c ∷ changes) = (omega arith, about here name changes)
 
-things : {A : Type 0} (here : Place) (name : A → List ℕ) (fields : A → List Valued) (old new : List A)
+things : {A : Type 0} (here : Region) (name : A → List ℕ) (fields : A → List Valued) (old new : List A)
     → Climb (order_at here) (order_at here) (thing_differences here name fields old new)
 unfolding thing_differences
 things here name fields old new =

@@ -1,10 +1,10 @@
 -- Of differences that come in order, the messages ascend by their numbers.
 use Rattle.page_changes.proofs.Common.{◌≡◌, ◌+◌, ◌<◌, ◌≤◌, ◌∙◌, Bool, true, false, cond, ℕ, List, [], ◌∷◌, Bor, take}
 use Rattle.page_changes.proofs.Common.{drop, map, filter, refl, sym, subst, arith, AllByRecursion, prefix_len, nat_cmp}
-use Rattle.page_changes.proofs.Common.{on, Less, false≢true, Decides-eqb, dbc_number, Difference, Place}
+use Rattle.page_changes.proofs.Common.{on, Less, false≢true, Decides-eqb, dbc_number, Difference, Region}
 use Rattle.std.specs.List.Sorted.{IsStrictlySortedBy}
 use Rattle.std.specs.Cmp.{nat_cmp_is}
-use Rattle.dbc_compare.specs.declared.place.Place.TheVariants as place
+use Rattle.dbc_compare.specs.declared.place.Region.TheVariants as place
 use Rattle.page_changes.specs.Changes.{AreRising, Rise, are_one_message, is_beside, is_in_message, is_of_message}
 use Rattle.page_changes.specs.Changes.{list_of, messages_in, number_at, number_in, number_of_change, order_at}
 use Rattle.page_changes.specs.Changes.{place_is_in_message}
@@ -25,16 +25,16 @@ weaker low least (p ∷ parts) le h = (omega (arith, le, h.0), h.1)
 abbrev kept : List (List Difference) → List (List Difference)
 kept parts = filter is_of_message parts
 
-order_of_message : (p : Place) → place_is_in_message p ≡ true → order_at p ≡ number_at p + 1
+order_of_message : (p : Region) → place_is_in_message p ≡ true → order_at p ≡ number_at p + 1
 order_of_message (place.Message a b) e = refl
 order_of_message p e = absurd (false≢true e)
 
-order_elsewhere : (p : Place) → place_is_in_message p ≡ false → order_at p ≡ 0
+order_elsewhere : (p : Region) → place_is_in_message p ≡ false → order_at p ≡ 0
 order_elsewhere (place.Message a b) e = absurd (false≢true (sym e))
 order_elsewhere p e = refl
 
 -- both in one message: then both are in a message, of one number
-same_message : (p q : Place) → are_one_message p q ≡ true
+same_message : (p q : Region) → are_one_message p q ≡ true
     → (place_is_in_message p ≡ true) × (place_is_in_message q ≡ true) × (number_at p ≡ number_at q)
 same_message (place.Message a b) (place.Message c d) e =
     (refl, refl, sym ((Decides-eqb (dbc_number d.ident) (dbc_number b.ident)).0 e))
@@ -44,7 +44,7 @@ same_message (place.Message a b) place.Tables e = absurd (false≢true e)
 same_message p q e = absurd (false≢true e)
 
 -- of two messages that aren't one the numbers differ
-other_message : (p q : Place) → place_is_in_message p ≡ true → place_is_in_message q ≡ true
+other_message : (p q : Region) → place_is_in_message p ≡ true → place_is_in_message q ≡ true
     → are_one_message p q ≡ false → (number_at q ≡ number_at p → ⊥)
 other_message (place.Message a b) (place.Message c d) x y e same =
     false≢true (sym e ∙ (Decides-eqb (dbc_number d.ident) (dbc_number b.ident)).1 same)

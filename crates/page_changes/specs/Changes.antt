@@ -7,19 +7,19 @@ use Rattle.std.specs.Ordering.{nat_cmp, on}
 use Rattle.can_id.specs.Ident.{dbc_number}
 use Rattle.dbc_compare.specs.List.{breaks}
 use Rattle.dbc_compare.specs.declared.difference.Difference.{Difference}
-use Rattle.dbc_compare.specs.declared.place.Place.{Place}
-use Rattle.dbc_compare.specs.declared.place.Place.TheVariants as place
+use Rattle.dbc_compare.specs.declared.place.Region.{Region}
+use Rattle.dbc_compare.specs.declared.place.Region.TheVariants as place
 use Rattle.page_changes.specs.Parts.{parts_by}
 use Rattle.page_changes.specs.declared.changes.Changes.{Changes}
 
 -- ---- of a difference
 
 -- the place is in the message that has this number now
-abbrev pub place_is_in : ℕ → Place → Bool
+abbrev pub place_is_in : ℕ → Region → Bool
 place_is_in n (place.Message old new) = dbc_number new.ident == n
 place_is_in n here = false
 
-abbrev pub are_one_message : Place → Place → Bool
+abbrev pub are_one_message : Region → Region → Bool
 are_one_message (place.Message old new) there = place_is_in (dbc_number new.ident) there
 are_one_message here there = false
 
@@ -27,7 +27,7 @@ are_one_message here there = false
 abbrev pub is_beside : Difference → Difference → Bool
 is_beside d e = are_one_message d.place e.place
 
-abbrev pub place_is_in_message : Place → Bool
+abbrev pub place_is_in_message : Region → Bool
 place_is_in_message (place.Message old new) = true
 place_is_in_message here = false
 
@@ -35,15 +35,15 @@ abbrev pub is_in_message : Difference → Bool
 is_in_message d = place_is_in_message d.place
 
 -- the message in a place: the number that it had, the number that it has, and its name
-abbrev pub old_number_at : Place → ℕ
+abbrev pub old_number_at : Region → ℕ
 old_number_at (place.Message old new) = dbc_number old.ident
 old_number_at here = 0
 
-abbrev pub number_at : Place → ℕ
+abbrev pub number_at : Region → ℕ
 number_at (place.Message old new) = dbc_number new.ident
 number_at here = 0
 
-abbrev pub name_at : Place → List ℕ
+abbrev pub name_at : Region → List ℕ
 name_at (place.Message old new) = new.name
 name_at here = []
 
@@ -106,7 +106,7 @@ is_nothing changes = changes.others == 0 && vec_len changes.messages == 0
 -- ---- in which order differences come
 
 -- those that are in no message first, and then those of messages by number
-abbrev pub order_at : Place → ℕ
+abbrev pub order_at : Region → ℕ
 order_at (place.Message old new) = dbc_number new.ident + 1
 order_at here = 0
 

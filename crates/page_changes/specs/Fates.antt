@@ -1,7 +1,7 @@
 -- What has become of messages.
 use Rattle.std.specs.Prelude.{ℕ, ◌==◌, Bool, true, false, List, [], ◌∷◌, Option, None, filter, if◌then◌else◌}
-use Rattle.dbc_compare.specs.declared.difference.Change.{Change}
-use Rattle.dbc_compare.specs.declared.difference.Change.TheVariants as change
+use Rattle.dbc_compare.specs.declared.difference.Alteration.{Alteration}
+use Rattle.dbc_compare.specs.declared.difference.Alteration.TheVariants as change
 use Rattle.dbc_compare.specs.declared.difference.Difference.{Difference}
 use Rattle.page_parts.specs.declared.marks.State.{State}
 use Rattle.page_parts.specs.declared.marks.State.TheVariants as state
@@ -10,7 +10,7 @@ use Rattle.page_changes.specs.declared.changes.Fate.{Fate}
 use Rattle.page_changes.specs.declared.changes.Fate.TheVariants as fate
 
 -- a message is new or gone by a difference of itself, and not of a signal
-abbrev pub fate_by : Option (List ℕ) → Change → Fate
+abbrev pub fate_by : Option (List ℕ) → Alteration → Fate
 fate_by None change.Added = fate.Added
 fate_by None change.Removed = fate.Removed
 fate_by name c = fate.Changed

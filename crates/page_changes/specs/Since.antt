@@ -6,7 +6,7 @@ use Rattle.std.specs.List.Sorted.{IsPermutation, IsSortedBy, IsStableBy}
 use Rattle.std.specs.Ordering.{is_lt, nat_cmp}
 use Rattle.std.specs.Str.{bytes_eq}
 use Rattle.dbc_compare.specs.List.{change_word}
-use Rattle.dbc_compare.specs.declared.difference.Change.{Change}
+use Rattle.dbc_compare.specs.declared.difference.Alteration.{Alteration}
 use Rattle.dbc_compare.specs.declared.difference.Difference.{Difference}
 use Rattle.markup.specs.Html.{element_html, end_tag, escaped, start_tag, valued}
 use Rattle.markup.specs.declared.tag.Tag.TheVariants as tag
@@ -19,7 +19,7 @@ use Rattle.page_changes.specs.declared.since.TheConstants.{LISTED}
 
 -- ---- what differs of a message, in words
 
-abbrev pub word_by : Option (List ℕ) → Change → List ℕ
+abbrev pub word_by : Option (List ℕ) → Alteration → List ℕ
 word_by (Some signal) c = signal
 word_by None c = change_word c
 

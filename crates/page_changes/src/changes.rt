@@ -11,7 +11,7 @@ ghost use Rattle.page_changes.specs.Changes.{name_at, name_in, number_at, number
 ghost use Rattle.page_changes.specs.Changes.{old_number_in, place_is_in};
 ghost use Rattle.page_changes.specs.Fates.{fate_by, fate_in};
 
-use dbc_compare::{Change, Difference, Place, breaking_count};
+use dbc_compare::{Alteration, Difference, Region, breaking_count};
 use std::alloc::{AllocError, Global};
 
 /// What has become of a message.
@@ -38,11 +38,11 @@ pub struct Changes<'a> {
 }
 
 /// Whether the place is in the message that has this DBC number now.
-fn is_in(place: &Place, number: u32) -> bool
+fn is_in(place: &Region, number: u32) -> bool
     ensures { result ≡ place_is_in number place.now }
 {
     match place {
-        Place::Message { old: _, new } => new.ident.to_dbc() == number,
+        Region::Message { old: _, new } => new.ident.to_dbc() == number,
         _ => false,
     }
 }
@@ -52,7 +52,7 @@ fn is_beside(a: &Difference, b: &Difference) -> bool
     ensures { result ≡ is_beside a.now b.now }
 {
     match &a.place {
-        Place::Message { old: _, new } => is_in(&b.place, new.ident.to_dbc()),
+        Region::Message { old: _, new } => is_in(&b.place, new.ident.to_dbc()),
         _ => false,
     }
 }
@@ -69,7 +69,7 @@ fn count_beside(first: &Difference, later: &[Difference]) -> usize
 fn is_in_message(difference: &Difference) -> bool
     ensures { result ≡ is_in_message difference.now }
 {
-    matches!(difference.place, Place::Message { .. })
+    matches!(difference.place, Region::Message { .. })
 }
 
 /// Adds the differences, if they are in a message.
@@ -106,31 +106,31 @@ fn message_changes<'a>(
 }
 
 /// The DBC number of a place's message; 0 where it is in none.
-fn number_at(place: &Place) -> u32
+fn number_at(place: &Region) -> u32
     ensures { result ≡ number_at place.now }
 {
     match place {
-        Place::Message { old: _, new } => new.ident.to_dbc(),
+        Region::Message { old: _, new } => new.ident.to_dbc(),
         _ => 0,
     }
 }
 
 /// The DBC number that a place's message had; 0 where it is in none.
-fn old_number_at(place: &Place) -> u32
+fn old_number_at(place: &Region) -> u32
     ensures { result ≡ old_number_at place.now }
 {
     match place {
-        Place::Message { old, new: _ } => old.ident.to_dbc(),
+        Region::Message { old, new: _ } => old.ident.to_dbc(),
         _ => 0,
     }
 }
 
 /// The name of a place's message; no bytes where it is in none.
-fn name_at(place: &Place) -> &[u8]
+fn name_at(place: &Region) -> &[u8]
     ensures { result.now ≡ name_at place.now }
 {
     match place {
-        Place::Message { old: _, new } => new.name.as_bytes(),
+        Region::Message { old: _, new } => new.name.as_bytes(),
         _ => &[],
     }
 }
@@ -170,8 +170,8 @@ fn fate_by(difference: &Difference) -> Fate
     ensures { result ≡ fate_by difference.now.name difference.now.change }
 {
     match (&difference.name, &difference.change) {
-        (None, Change::Added) => Fate::Added,
-        (None, Change::Removed) => Fate::Removed,
+        (None, Alteration::Added) => Fate::Added,
+        (None, Alteration::Removed) => Fate::Removed,
         _ => Fate::Changed,
     }
 }

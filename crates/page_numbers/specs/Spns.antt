@@ -10,7 +10,7 @@ use Rattle.office_blocks.specs.Blocks.{spns_of}
 use Rattle.office_blocks.specs.Numbers.{HaveSame}
 use Rattle.office_seen.specs.Since.{releases_where}
 use Rattle.office_seen.specs.declared.view.View.{View}
-use Rattle.office_spns.specs.Spns.{Place, has_spn, places, shown_places, shown_spns, use_of}
+use Rattle.office_spns.specs.Spns.{SpnPlace, has_spn, places, shown_places, shown_spns, use_of}
 use Rattle.office_spns.specs.declared.spn_use.SpnUse.{SpnUse}
 use Rattle.office_spns.specs.declared.spn_use.SpnUse.TheVariants as spn_use
 use Rattle.page_parts.specs.Words.{counted, quiet}
@@ -22,8 +22,8 @@ use Rattle.page_numbers.specs.declared.spns.SpnRow.TheVariants as row
 
 -- a number and a place that has it; a number, the last release that had it, and a place there; a number of no place
 pub data Said : Type 0 where
-  live : ℕ → Place → Said
-  gone : ℕ → ℕ → Place → Said
+  live : ℕ → SpnPlace → Said
+  gone : ℕ → ℕ → SpnPlace → Said
   elsewhere : ℕ → Said
 
 -- what a row says
@@ -63,7 +63,7 @@ abbrev pub net_rows : View → List Said
 net_rows view = flat_map (rows_at view) (shown_spns view)
 
 -- of a number of a sheet alone: its first place
-abbrev pub first_row : ℕ → List Place → List Said
+abbrev pub first_row : ℕ → List SpnPlace → List Said
 first_row n [] = []
 first_row n (p ∷ ps) = live n p ∷ []
 
@@ -80,11 +80,11 @@ pub record AreSheetRows (s : Sheet) (rows : List Said) : Type 0 where
 -- ---- as HTML
 
 -- the signal, after a link to its message
-abbrev pub live_place : Place → List ℕ
+abbrev pub live_place : SpnPlace → List ℕ
 live_place p =
     element_html tag.Link (to_named (codes "m-") p.0.name) p.0.name ++ (codes "." ++ escaped p.1.name)
 
-abbrev pub gone_place : ℕ → Place → List ℕ
+abbrev pub gone_place : ℕ → SpnPlace → List ℕ
 gone_place release p =
     codes "burnt, last in release " ++ (decimal release
     ++ (codes ": " ++ (escaped p.0.name ++ (codes "." ++ escaped p.1.name))))

@@ -14,7 +14,7 @@ ghost use Rattle.page_numbers.specs.Elements.{ArePieces, IsMoreBy};
 ghost use Rattle.page_numbers.specs.Index.{live_at, message_at};
 
 use crate::charts::Chart;
-use crate::index::{FormIndex, Place};
+use crate::index::{FormIndex, NumberedMessage};
 use markup::{Attribute, Markup, Piece, Tag};
 use office_seen::team_at;
 use office_types::{GrantedBlock, Team};
@@ -28,7 +28,7 @@ const NAMED: usize = 4;
 #[derive(Clone, Copy)]
 pub(crate) enum Cell<'c, 'a> {
     /// Messages have it: the first of them, and the others.
-    Live(&'c Place<'a>, &'c [Place<'a>]),
+    Live(&'c NumberedMessage<'a>, &'c [NumberedMessage<'a>]),
     /// It is held for good, and in the block of this team, if in one.
     Held(Option<&'c Team>),
     /// It is in the block of this team, and may be given out.
@@ -83,7 +83,7 @@ fn cell_at<'c, 'a>(
 // ---- of messages
 
 /// Adds a message and its owner to a title.
-fn add_named<'a>(title: &mut Vec<Piece<'a>>, place: &Place<'a>) -> Result<(), AllocError>
+fn add_named<'a>(title: &mut Vec<Piece<'a>>, place: &NumberedMessage<'a>) -> Result<(), AllocError>
     ensures { OnOk result ((named : List ℕ) × (IsNamed (message_at place.now) named
         × (words title.new.items ≡ words title.old.items ++ named))) }
 {
@@ -97,7 +97,10 @@ fn add_named<'a>(title: &mut Vec<Piece<'a>>, place: &Place<'a>) -> Result<(), Al
 }
 
 /// Adds messages and their owners to a title, each after a comma.
-fn add_later<'a>(title: &mut Vec<Piece<'a>>, places: &[Place<'a>]) -> Result<(), AllocError>
+fn add_later<'a>(
+    title: &mut Vec<Piece<'a>>,
+    places: &[NumberedMessage<'a>],
+) -> Result<(), AllocError>
     ensures { OnOk result ((later : List ℕ)
         × (ArePieces IsLater (map message_at places.now) later
         × (words title.new.items ≡ words title.old.items ++ later))) }
@@ -125,7 +128,7 @@ fn add_more(title: &mut Vec<Piece<'_>>, more: usize) -> Result<(), AllocError>
 }
 
 /// The first places that are named after another.
-fn named_of<'c, 'a>(others: &'c [Place<'a>]) -> &'c [Place<'a>]
+fn named_of<'c, 'a>(others: &'c [NumberedMessage<'a>]) -> &'c [NumberedMessage<'a>]
     ensures { result.now ≡ take 3 others.now }
 {
     if others.len() > NAMED - 1 {
@@ -138,8 +141,8 @@ fn named_of<'c, 'a>(others: &'c [Place<'a>]) -> &'c [Place<'a>]
 fn title_of<'a>(
     alloc: Global,
     number: u32,
-    first: &Place<'a>,
-    others: &[Place<'a>],
+    first: &NumberedMessage<'a>,
+    others: &[NumberedMessage<'a>],
 ) -> Result<Vec<Piece<'a>>, AllocError>
     ensures { IfOk result (λ title. IsTitle number (message_at first.now)
         (map message_at others.now) (words title.items)) }
@@ -153,7 +156,12 @@ fn title_of<'a>(
 }
 
 /// Adds the letters of those that own the messages; of three or more the first one and a sign.
-fn put_owners(page: &mut Markup, letters: &Letters<'_>, first: &Place<'_>, others: &[Place<'_>]) {
+fn put_owners(
+    page: &mut Markup,
+    letters: &Letters<'_>,
+    first: &NumberedMessage<'_>,
+    others: &[NumberedMessage<'_>],
+) {
     letters.put_letter_or(page, first.owner(), false, "\u{b7}");
     let Some(second) = others.iter().find(|place| place.owner() != first.owner()) else {
         return;
@@ -171,8 +179,8 @@ fn put_owners(page: &mut Markup, letters: &Letters<'_>, first: &Place<'_>, other
 fn owners_of(
     alloc: Global,
     letters: &Letters<'_>,
-    first: &Place<'_>,
-    others: &[Place<'_>],
+    first: &NumberedMessage<'_>,
+    others: &[NumberedMessage<'_>],
 ) -> Markup {
     let mut part = Markup::new(alloc);
     put_owners(&mut part, letters, first, others);
@@ -180,7 +188,7 @@ fn owners_of(
 }
 
 /// What the link of a cell leads to: the message, or the row of the first one.
-fn part_kind(others: &[Place<'_>]) -> &'static [u8]
+fn part_kind(others: &[NumberedMessage<'_>]) -> &'static [u8]
     ensures { result.now ≡ part_kind (map message_at others.now) }
 {
     match others {
@@ -210,8 +218,8 @@ fn put_live<'a>(
     page: &mut Markup,
     letters: &Letters<'_>,
     number: u32,
-    first: &Place<'a>,
-    others: &[Place<'a>],
+    first: &NumberedMessage<'a>,
+    others: &[NumberedMessage<'a>],
 ) -> Result<(), AllocError>
     ensures { OnOk result (IsMoreBy (IsLiveCell number (message_at first.now)
         (map message_at others.now)) page.new page.old) }

@@ -36,13 +36,13 @@ pub(crate) fn number_of(form: BlockForm, ident: Ident) -> Option<u32>
 
 /// A message with its owner, and its number of a form. Contracts see it as the pair of the number and the message.
 #[derive(Drop)]
-pub(crate) struct Place<'a> {
+pub(crate) struct NumberedMessage<'a> {
     number: u32,
     message: &'a Message,
     owner: &'a [u8],
 }
 
-impl<'a> Model for Place<'a> {
+impl<'a> Model for NumberedMessage<'a> {
     ghost use Rattle.page_numbers.specs.Index.{Numbered};
 
     ghost Value = { Numbered };
@@ -50,7 +50,7 @@ impl<'a> Model for Place<'a> {
     ghost view = { λ place. (place.number, place.message.now) };
 }
 
-impl<'a> Place<'a> {
+impl<'a> NumberedMessage<'a> {
     /// The number.
     pub(crate) fn number(&self) -> u32
         ensures { result ≡ number_at self.now }
@@ -73,7 +73,7 @@ impl<'a> Place<'a> {
 
 /// Adds the message, if it has a number of the form.
 fn add_place<'a>(
-    places: &mut Vec<Place<'a>>,
+    places: &mut Vec<NumberedMessage<'a>>,
     form: BlockForm,
     message: &'a Message,
     owner: &'a [u8],
@@ -83,7 +83,7 @@ fn add_place<'a>(
     match number_of(form, message.ident) {
         None => Ok(()),
         Some(number) => {
-            places.push(Place {
+            places.push(NumberedMessage {
                 number,
                 message,
                 owner,
@@ -99,7 +99,7 @@ fn all_places<'a>(
     form: BlockForm,
     messages: &'a [Message],
     subject: &Subject<'a>,
-) -> Result<Vec<Place<'a>>, AllocError>
+) -> Result<Vec<NumberedMessage<'a>>, AllocError>
     ensures { IfOk result (λ places. places.items ≡ all_numbered form messages.now) }
 {
     let mut places = Vec::new(alloc);
@@ -112,7 +112,7 @@ fn all_places<'a>(
 }
 
 /// How many of the places, which are in order, have lesser numbers.
-fn count_below(places: &[Place], number: u64) -> usize
+fn count_below(places: &[NumberedMessage], number: u64) -> usize
     requires { IsNonDecreasingBy number_at places.now }
     ensures bound { result ≤ length places.now }
     ensures below { AreBelow number places.now result }
@@ -125,7 +125,7 @@ pub(crate) struct LiveIndex<'a> {
     form: BlockForm,
     messages: &'a [Message],
     /// By their numbers, and those of one number as in the sheet.
-    places: Vec<Place<'a>>,
+    places: Vec<NumberedMessage<'a>>,
 }
 
 impl<'a> Model for LiveIndex<'a> {
@@ -165,7 +165,7 @@ impl<'a> LiveIndex<'a> {
     }
 
     /// The messages that have the number, in the sheet's order.
-    pub(crate) fn places(&self, number: u32) -> &[Place<'a>]
+    pub(crate) fn places(&self, number: u32) -> &[NumberedMessage<'a>]
         ensures { map message_at result.now ≡ live_at self.now.messages self.now.form number }
     {
         let first = count_below(&self.places, u64::from(number));

@@ -15,11 +15,11 @@ use Rattle.rows.specs.Json.{table_json}
 use Rattle.rows.specs.Lines.{fact_text, table_text}
 use Rattle.rows.specs.Table.{Listing, headed, plain, totalled}
 use Rattle.rows.specs.declared.cell.Column.{Column}
-use Rattle.rows.specs.declared.cell.Place.{Place}
-use Rattle.rows.specs.declared.cell.Place.TheVariants as place
+use Rattle.rows.specs.declared.cell.Alignment.{Alignment}
+use Rattle.rows.specs.declared.cell.Alignment.TheVariants as place
 use Rattle.serde_json.proofs.OnLiterals.{serde_json_on_literals}
 
-abbrev column : List ℕ → Place → Column
+abbrev column : List ℕ → Alignment → Column
 column name p = record { 0 = name; 1 = p }
 
 abbrev columns : List Column

@@ -22,8 +22,8 @@ use Rattle.decimal.specs.Number.{Number}
 use Rattle.decimal.specs.Printing.{text_of}
 use Rattle.rows.specs.Table.{Listing, Kind}
 use Rattle.rows.specs.declared.cell.Column.{Column}
-use Rattle.rows.specs.declared.cell.Place.{Place}
-use Rattle.rows.specs.declared.cell.Place.TheVariants as place
+use Rattle.rows.specs.declared.cell.Alignment.{Alignment}
+use Rattle.rows.specs.declared.cell.Alignment.TheVariants as place
 
 -- ---- a value in words
 
@@ -121,7 +121,7 @@ later_words name = option_map_or (λ (parts : List ℕ × List ℕ). parts.1) (s
 abbrev pub counted : List ℕ → ℕ → List ℕ → List ℕ
 counted name width words = name ++ (codes " " ++ set_right width words)
 
-abbrev pub set_in : Place → List ℕ → List ℕ → List ℕ
+abbrev pub set_in : Alignment → List ℕ → List ℕ → List ℕ
 set_in place.Plain name words = words
 set_in (place.Left width) name words = set_left width words
 set_in (place.Right width) name words = set_right width words

@@ -15,7 +15,7 @@ pub type Name = [u8; 12];
 
 /// Where a value stands in a line.
 #[derive(Clone, Copy)]
-pub enum Place {
+pub enum Alignment {
     /// As wide as it is.
     Plain,
     /// Left-aligned in so many columns.
@@ -32,7 +32,7 @@ pub enum Place {
 
 /// A column: its name, and where its values stand in a line.
 #[derive(Clone, Copy)]
-pub struct Column(pub Name, pub Place);
+pub struct Column(pub Name, pub Alignment);
 
 /// A value. A line has what people wrote escaped, so that it can be taken apart. Contracts see it as a `Fact`.
 #[derive(Drop)]

@@ -15,7 +15,7 @@ mod json;
 mod lines;
 mod table;
 
-pub use cell::{Cell, Column, Name, Place};
+pub use cell::{Alignment, Cell, Column, Name};
 pub use json::{list_text, table_json};
 pub use lines::table_text;
 pub use table::{Kind, Rows, Table};

@@ -7,7 +7,7 @@ ghost use Rattle.rows.specs.Lines.{after, change_text, counted, digits_text, fac
 ghost use Rattle.rows.specs.Lines.{later_words, layout_text, line_text, mark_text, mux_text, name_words};
 ghost use Rattle.rows.specs.Lines.{kind_text, path_text, points, set_in, set_text, table_text, upright_text};
 
-use crate::cell::{Cell, Column, Name, Place};
+use crate::cell::{Alignment, Cell, Column, Name};
 use crate::table::{Kind, Table};
 use base::split_once;
 use bitlayout::{Layout, Mux};
@@ -227,15 +227,15 @@ fn set_in(alloc: Global, column: &Column, words: &[u8]) -> Result<Vec<u8>, Alloc
     ensures { IfOk result (λ text. text.items ≡ set_in column.now.1 column.now.0 words.now) }
 {
     match column.1 {
-        Place::Plain => Vec::from_slice(alloc, words),
-        Place::Left(width) => set_left(alloc, width, words),
-        Place::Right(width) => filled(alloc, b' ', width, words),
-        Place::Counted(width) => {
+        Alignment::Plain => Vec::from_slice(alloc, words),
+        Alignment::Left(width) => set_left(alloc, width, words),
+        Alignment::Right(width) => filled(alloc, b' ', width, words),
+        Alignment::Counted(width) => {
             let name = name_words(alloc, &column.0)?;
             counted(alloc, &name, width, words)
         }
-        Place::Again(width) => counted(alloc, later_words(&column.0), width, words),
-        Place::From => concat(alloc, &[b"<- ", words]),
+        Alignment::Again(width) => counted(alloc, later_words(&column.0), width, words),
+        Alignment::From => concat(alloc, &[b"<- ", words]),
     }
 }
 

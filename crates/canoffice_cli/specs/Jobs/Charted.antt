@@ -4,7 +4,7 @@ use Rattle.office_views.specs.declared.signal.ChartSignal.{ChartSignal}
 use Rattle.office_views.specs.Text.{chart_of, clash_of}
 use Rattle.office_views.specs.Word.{signal_of}
 use Rattle.canoffice_cli.specs.Outcome.{Outcome, wrong_word}
-use Rattle.canoffice_cli.specs.declared.report.Status.TheVariants.{Success, FaultFound}
+use Rattle.canoffice_cli.specs.declared.report.ExitStatus.TheVariants.{Success, FaultFound}
 
 -- the chart is printed, and the status depends on whether the signals are clear
 abbrev pub chart_outcome : ℕ → List ChartSignal → Outcome

@@ -18,8 +18,8 @@ use Rattle.dbc_lint.specs.declared.remark.Remark.{Remark}
 use Rattle.dbc_read.specs.Reading.{IsReadFault}
 use Rattle.canoffice_cli.specs.Outcome.{Outcome}
 use Rattle.canoffice_cli.specs.declared.jobs.checking.TheConstants.{CLEAR, FAULT, PASSED, UNCLEAR}
-use Rattle.canoffice_cli.specs.declared.report.Status.{Status}
-use Rattle.canoffice_cli.specs.declared.report.Status.TheVariants.{FaultFound, Success}
+use Rattle.canoffice_cli.specs.declared.report.ExitStatus.{ExitStatus}
+use Rattle.canoffice_cli.specs.declared.report.ExitStatus.TheVariants.{FaultFound, Success}
 use Rattle.rows.specs.Fact.{Fact, of_name, of_number}
 use Rattle.rows.specs.Json.{list_text}
 use Rattle.rows.specs.Lines.{table_text}
@@ -60,13 +60,13 @@ abbrev pub remark_kind : List (List Fact) → Kind
 remark_kind rows = record { name = codes "remark "; columns = REMARKS; rows = rows }
 
 -- the lists on standard output, as JSON or as lines, and the status
-abbrev pub listed : Bool → List Kind → Status → Outcome
+abbrev pub listed : Bool → List Kind → ExitStatus → Outcome
 listed json kinds status = record { output = list_text json (totalled kinds [] []); errors = []; status = status }
 
 -- ---- the outcome
 
 -- the sheet is clear, or else this is its first fault, with the number of its message
-abbrev pub IsJudged : Sheet → Kind → Status → Type 0
+abbrev pub IsJudged : Sheet → Kind → ExitStatus → Type 0
 IsJudged s kind status =
     (IsClearSheet s × (kind ≡ clear_kind s) × (status ≡ Success))
     ⊎ ((fault : SheetFault) × (number : ℕ) × IsFirstFault s fault × (message_about fault.about ≡ Some number)
@@ -75,17 +75,17 @@ IsJudged s kind status =
 -- what was skipped, and whether the sheet is clear
 abbrev pub IsPlainCheck : Bool → Sheet → List (ℕ × Keyword) → Outcome → Type 0
 IsPlainCheck json s passed o =
-    (kind : Kind) × (status : Status) × IsJudged s kind status
+    (kind : Kind) × (status : ExitStatus) × IsJudged s kind status
     × (o ≡ listed json (passed_kind passed ∷ kind ∷ []) status)
 
 -- the status after so many remarks
-abbrev pub remarked : Status → ℕ → Status
+abbrev pub remarked : ExitStatus → ℕ → ExitStatus
 remarked status count = if count == 0 then status else FaultFound
 
 -- the same, and then these rows of remarks
 abbrev pub IsRemarkedCheck : Bool → Sheet → List (ℕ × Keyword) → List (List Fact) → Outcome → Type 0
 IsRemarkedCheck json s passed rows o =
-    (kind : Kind) × (status : Status) × IsJudged s kind status
+    (kind : Kind) × (status : ExitStatus) × IsJudged s kind status
     × (o ≡ listed json (passed_kind passed ∷ kind ∷ remark_kind rows ∷ []) (remarked status (length rows)))
 
 -- those of the remarks on the sheet whose kinds the names choose

@@ -18,12 +18,12 @@ use Rattle.canoffice_cli.specs.Databases.{Databases}
 use Rattle.canoffice_cli.specs.Jobs.Formatted.{IsUnreadAs}
 use Rattle.canoffice_cli.specs.Jobs.Looked.{IsLookOutcome}
 use Rattle.canoffice_cli.specs.Outcome.{Outcome}
-use Rattle.canoffice_jobs.specs.declared.place.Place.{Place}
-use Rattle.canoffice_cli.specs.declared.report.Status.{Status}
-use Rattle.canoffice_cli.specs.declared.report.Status.TheVariants.{FaultFound, Success}
+use Rattle.canoffice_jobs.specs.declared.place.OfficePlace.{OfficePlace}
+use Rattle.canoffice_cli.specs.declared.report.ExitStatus.{ExitStatus}
+use Rattle.canoffice_cli.specs.declared.report.ExitStatus.TheVariants.{FaultFound, Success}
 
 -- 0 where both are equal, and else 1
-abbrev pub status_by : Bool → Status
+abbrev pub status_by : Bool → ExitStatus
 status_by are_equal = if are_equal then Success else FaultFound
 
 -- ---- two texts
@@ -61,7 +61,7 @@ compare_look json word old new =
     option_map (λ net. formed json (look.Net net (of_net.Compare old new) Lines)) (plain_name_of word)
 
 -- a list was found: the status says whether it has no difference
-abbrev pub judged_by : Bool → Status → Outcome → Outcome
+abbrev pub judged_by : Bool → ExitStatus → Outcome → Outcome
 judged_by json Success o = record o { status = status_by (has_no_difference json o.output) }
 judged_by json status o = o
 
@@ -69,7 +69,7 @@ abbrev pub judged : Bool → Outcome → Outcome
 judged json o = judged_by json o.status o
 
 -- what the office at the place shows is printed, with that status
-abbrev pub IsReleasesOutcome : Desks → Desks → Databases → Databases → Place → List ℕ → ℕ → ℕ → Bool → Outcome → Type 0
+abbrev pub IsReleasesOutcome : Desks → Desks → Databases → Databases → OfficePlace → List ℕ → ℕ → ℕ → Bool → Outcome → Type 0
 IsReleasesOutcome earlier later before after place net old new json o =
     (shown : Outcome) × IsLookOutcome earlier later before after place (compare_look json net old new) shown
     × (o ≡ judged json shown)

@@ -10,7 +10,7 @@ use Rattle.dbc_lex.specs.declared.fault.ReadFault.{ReadFault}
 use Rattle.dbc_read.specs.Reading.{IsReadFault}
 use Rattle.canoffice_cli.specs.Jobs.Checked.{fault_line}
 use Rattle.canoffice_cli.specs.Outcome.{Outcome, success}
-use Rattle.canoffice_cli.specs.declared.report.Status.TheVariants.{FaultFound}
+use Rattle.canoffice_cli.specs.declared.report.ExitStatus.TheVariants.{FaultFound}
 
 -- this text on standard error, for a fault that was found
 abbrev pub fault_errors : List ℕ → Outcome

@@ -15,8 +15,8 @@ use Rattle.canoffice_cli.specs.Answered.{lost_outcome}
 use Rattle.canoffice_cli.specs.Databases.{AreKept, Databases, HasBegun, HoldsInSomeForm, StatisticsStay}
 use Rattle.canoffice_cli.specs.Desks.{asked_outcome}
 use Rattle.canoffice_cli.specs.Outcome.{Outcome, not_found, success}
-use Rattle.canoffice_jobs.specs.declared.place.Place.{Place}
-use Rattle.canoffice_jobs.specs.declared.place.Place.TheVariants.{Database, Desk}
+use Rattle.canoffice_jobs.specs.declared.place.OfficePlace.{OfficePlace}
+use Rattle.canoffice_jobs.specs.declared.place.OfficePlace.TheVariants.{Database, Desk}
 
 -- the text is printed, or that nothing was found, or why the call was lost
 abbrev pub shown_outcome : Result (Option (List ℕ)) Lost → Outcome
@@ -49,23 +49,23 @@ IsAskedFor earlier later port look o =
     × (o ≡ asked_outcome port asked)
 
 -- what the office at the place shows for the look is printed; a database is read without asking any desk
-abbrev pub IsLookedAt : Desks → Desks → Databases → Databases → Place → Look → Outcome → Type 0
+abbrev pub IsLookedAt : Desks → Desks → Databases → Databases → OfficePlace → Look → Outcome → Type 0
 IsLookedAt earlier later before after (Database path) look o =
     (shown : Result (Option (List ℕ)) Lost) × IsLookedUp before after path.now look shown × TakesNone earlier later
     × (o ≡ shown_outcome shown)
 IsLookedAt earlier later before after (Desk port) look o = IsAskedFor earlier later port look o × AreKept before after
 
 -- the same of words: where one hasn't the form of what it names, there is nothing, and nothing is done
-abbrev pub IsLookOutcome : Desks → Desks → Databases → Databases → Place → Option Look → Outcome → Type 0
+abbrev pub IsLookOutcome : Desks → Desks → Databases → Databases → OfficePlace → Option Look → Outcome → Type 0
 IsLookOutcome earlier later before after place None o =
     (o ≡ not_found) × AreKept before after × TakesNone earlier later
 IsLookOutcome earlier later before after place (Some look) o = IsLookedAt earlier later before after place look o
 
-abbrev pub IsShowOutcome : Desks → Desks → Databases → Databases → Place → Option (List ℕ) → What → Option (List ℕ)
+abbrev pub IsShowOutcome : Desks → Desks → Databases → Databases → OfficePlace → Option (List ℕ) → What → Option (List ℕ)
     → Bool → Outcome → Type 0
 IsShowOutcome earlier later before after place net what name json o =
     IsLookOutcome earlier later before after place (show_look net what name json) o
 
-abbrev pub IsRequestsOutcome : Desks → Desks → Databases → Databases → Place → List ℕ → Bool → Outcome → Type 0
+abbrev pub IsRequestsOutcome : Desks → Desks → Databases → Databases → OfficePlace → List ℕ → Bool → Outcome → Type 0
 IsRequestsOutcome earlier later before after place team json o =
     IsLookOutcome earlier later before after place (requests_look team json) o

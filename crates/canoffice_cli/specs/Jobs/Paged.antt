@@ -12,7 +12,7 @@ use Rattle.canoffice_cli.specs.Databases.{Databases}
 use Rattle.canoffice_cli.specs.Jobs.Formatted.{IsUnread}
 use Rattle.canoffice_cli.specs.Jobs.Looked.{IsLookOutcome}
 use Rattle.canoffice_cli.specs.Outcome.{Outcome, success}
-use Rattle.canoffice_jobs.specs.declared.place.Place.{Place}
+use Rattle.canoffice_jobs.specs.declared.place.OfficePlace.{OfficePlace}
 
 -- ---- the name that a page has
 
@@ -42,6 +42,6 @@ abbrev pub IsFilePageOutcome : List ℕ → List ℕ → Outcome → Type 0
 IsFilePageOutcome path bytes o = IsPaged path bytes o ⊎ IsUnread bytes o
 
 -- a page of the release of a network, or of the live network for 0, as the office at the place has it
-abbrev pub IsPageOutcome : Desks → Desks → Databases → Databases → Place → List ℕ → ℕ → Outcome → Type 0
+abbrev pub IsPageOutcome : Desks → Desks → Databases → Databases → OfficePlace → List ℕ → ℕ → Outcome → Type 0
 IsPageOutcome earlier later before after place net number o =
     IsLookOutcome earlier later before after place (page_look net number) o

@@ -4,7 +4,7 @@ ghost use Rattle.canoffice_cli.specs.Outcome.{outcome_of};
 ghost use Rattle.canoffice_cli.specs.Jobs.Charted.{chart_outcome, AreSignals, IsChartOutcome};
 ghost use Rattle.canoffice_cli.specs.Jobs.WordFault.{IsWordFault};
 
-use crate::report::{Report, Status, bad_word};
+use crate::report::{ExitStatus, Report, bad_word};
 use office_views::{ChartSignal, chart_text, first_clash_of, signal_of};
 use std::alloc::{AllocError, AllocFailed, Global};
 
@@ -62,9 +62,9 @@ fn signals_report(alloc: Global, length: u16, signals: &[ChartSignal]) -> Result
     let clash = first_clash_of(alloc, length, signals)?;
     let output = chart_text(alloc, length, signals)?;
     let status = if clash.is_none() {
-        Status::Success
+        ExitStatus::Success
     } else {
-        Status::FaultFound
+        ExitStatus::FaultFound
     };
     Ok(Report::of_output(alloc, output, status))
 }

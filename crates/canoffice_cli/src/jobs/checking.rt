@@ -10,40 +10,40 @@ ghost use Rattle.dbc_read.specs.Passed.{start_and_keyword};
 ghost use Rattle.rows.specs.Fact.{fact_of};
 
 use crate::jobs::reading::reading_of;
-use crate::report::{Report, Status};
+use crate::report::{ExitStatus, Report};
 use dbc_lint::{REMARKS, Remark, remark_rows, remarks_on};
 use dbc_read::{Passed, ReadFault, Reading};
 use dbc_sheet::Sheet;
 use dbc_words::{SheetCode, SheetFault};
 use office_views::signal_count;
-use rows::{Cell, Column, Kind, Place, Rows, Table, list_text, table_text};
+use rows::{Alignment, Cell, Column, Kind, Rows, Table, list_text, table_text};
 use std::alloc::{AllocError, Global};
 use std::mem::forget;
 
 /// The columns of a skipped statement.
 pub const PASSED: [Column; 2] = [
-    Column(*b"offset      ", Place::Plain),
-    Column(*b"keyword     ", Place::Plain),
+    Column(*b"offset      ", Alignment::Plain),
+    Column(*b"keyword     ", Alignment::Plain),
 ];
 
 /// The columns of a sheet that is clear.
 pub const CLEAR: [Column; 2] = [
-    Column(*b"messages    ", Place::Plain),
-    Column(*b"signals     ", Place::Plain),
+    Column(*b"messages    ", Alignment::Plain),
+    Column(*b"signals     ", Alignment::Plain),
 ];
 
 /// The columns of one that isn't: its first clash, and the DBC number of the message.
 pub const UNCLEAR: [Column; 3] = [
-    Column(*b"code        ", Place::Plain),
-    Column(*b"name        ", Place::Plain),
-    Column(*b"number      ", Place::Plain),
+    Column(*b"code        ", Alignment::Plain),
+    Column(*b"name        ", Alignment::Plain),
+    Column(*b"number      ", Alignment::Plain),
 ];
 
 /// The columns of a fault of reading.
 pub const FAULT: [Column; 3] = [
-    Column(*b"code        ", Place::Plain),
-    Column(*b"name        ", Place::Plain),
-    Column(*b"offset      ", Place::Plain),
+    Column(*b"code        ", Alignment::Plain),
+    Column(*b"name        ", Alignment::Plain),
+    Column(*b"offset      ", Alignment::Plain),
 ];
 
 /// Rows of this kind, of which there is one.
@@ -124,7 +124,7 @@ fn listed(
     alloc: Global,
     kinds: Vec<Kind<'_>>,
     json: bool,
-    status: Status,
+    status: ExitStatus,
 ) -> Result<Report, AllocError>
     ensures { IfOk result (λ report. outcome_of report ≡ listed json kinds.entry.items status) }
 {
@@ -134,11 +134,11 @@ fn listed(
 }
 
 /// Whether the sheet is clear.
-fn judged<'a>(alloc: Global, sheet: &Sheet) -> Result<(Kind<'a>, Status), AllocError>
+fn judged<'a>(alloc: Global, sheet: &Sheet) -> Result<(Kind<'a>, ExitStatus), AllocError>
     ensures { IfOk result (λ judged. IsJudged sheet.now judged.0 judged.1) }
 {
     match sheet.is_clear(alloc) {
-        Ok(()) => Ok((clear_kind(alloc, sheet)?, Status::Success)),
+        Ok(()) => Ok((clear_kind(alloc, sheet)?, ExitStatus::Success)),
         Err(
             SheetFault {
                 code: SheetCode::Memory,
@@ -149,7 +149,10 @@ fn judged<'a>(alloc: Global, sheet: &Sheet) -> Result<(Kind<'a>, Status), AllocE
             let Some(number) = fault.number() else {
                 unreachable!()
             };
-            Ok((unclear_kind(alloc, fault.code, number)?, Status::FaultFound))
+            Ok((
+                unclear_kind(alloc, fault.code, number)?,
+                ExitStatus::FaultFound,
+            ))
         }
     }
 }
@@ -166,13 +169,13 @@ fn plain_check(alloc: Global, reading: &Reading, json: bool) -> Result<Report, A
 }
 
 /// The status after so many remarks.
-fn remarked(status: Status, count: usize) -> Status
+fn remarked(status: ExitStatus, count: usize) -> ExitStatus
     ensures { result ≡ remarked status count }
 {
     if count == 0 {
         status
     } else {
-        Status::FaultFound
+        ExitStatus::FaultFound
     }
 }
 
@@ -253,7 +256,7 @@ pub fn check_report(
         }
         Err(fault) => {
             let kinds = vec![in alloc; fault_kind(alloc, fault)?]?;
-            listed(alloc, kinds, json, Status::FaultFound)
+            listed(alloc, kinds, json, ExitStatus::FaultFound)
         }
     }
 }

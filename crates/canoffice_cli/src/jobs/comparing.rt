@@ -13,8 +13,8 @@ use crate::files::{FileSource, StandardInput, bytes_at};
 use crate::jobs::file_jobs::unreadable_report;
 use crate::jobs::looking::look_report;
 use crate::jobs::reading::reading_of;
-use crate::report::{Report, Status};
-use canoffice_jobs::Place;
+use crate::report::{ExitStatus, Report};
+use canoffice_jobs::OfficePlace;
 use dbc_advice::shown_path;
 use dbc_compare::{compare, has_no_difference};
 use dbc_read::ReadFault;
@@ -31,17 +31,17 @@ fn fault_report(alloc: Global, path: &str, fault: ReadFault) -> Result<Report, A
     let shown = shown_path(alloc, path)?;
     let code = fault.code;
     let line = format!(in alloc; "fault {} {code} {} {shown}\n", code.number(), fault.at)?;
-    Ok(Report::of_errors(alloc, line.into_bytes(), Status::FaultFound))
+    Ok(Report::of_errors(alloc, line.into_bytes(), ExitStatus::FaultFound))
 }
 
 /// The status of a comparison.
-fn status_of(are_equal: bool) -> Status
+fn status_of(are_equal: bool) -> ExitStatus
     ensures { result ≡ status_by are_equal }
 {
     if are_equal {
-        Status::Success
+        ExitStatus::Success
     } else {
-        Status::FaultFound
+        ExitStatus::FaultFound
     }
 }
 
@@ -147,7 +147,7 @@ fn judged(report: Report, json: bool) -> Report
     ensures { outcome_of result ≡ judged json (outcome_of report) }
 {
     let mut report = report;
-    if report.status == Status::Success {
+    if report.status == ExitStatus::Success {
         report.status = status_of(has_no_difference(&report.output, json));
     }
     report
@@ -181,7 +181,7 @@ pub fn compare_releases_report<D: Databases, K: Desks>(
     alloc: Global,
     databases: &mut D,
     desks: &mut K,
-    place: Place<'_>,
+    place: OfficePlace<'_>,
     net: &str,
     old: u32,
     new: u32,

@@ -13,7 +13,7 @@ use crate::files::{FileSource, StandardInput, bytes_at};
 use crate::jobs::file_jobs::unreadable_report;
 use crate::jobs::looking::{not_found, shown_report};
 use crate::jobs::reading::unread_report;
-use crate::report::{Report, Status};
+use crate::report::{ExitStatus, Report};
 use canoffice_jobs::Extras;
 use dbc_advice::{Source, shown_path};
 use dbc_keep::{Besides, complete};
@@ -45,7 +45,7 @@ fn completed_report(alloc: Global, text: Vec<u8>, besides: Besides) -> Result<Re
             Ok(Report {
                 output: text,
                 errors: left_out,
-                status: Status::Success,
+                status: ExitStatus::Success,
             })
         }
         Err(fault) => match fault.code {
@@ -66,7 +66,7 @@ fn text_report(alloc: Global, text: Vec<u8>, besides: Besides) -> Result<Report,
             if besides.j1939 {
                 completed_report(alloc, text, besides)
             } else {
-                Ok(Report::of_output(alloc, text, Status::Success))
+                Ok(Report::of_output(alloc, text, ExitStatus::Success))
             }
         }
     }

@@ -18,7 +18,7 @@ use crate::jobs::explaining::{Advice, stated};
 use crate::jobs::formatting::{format_report, kept_report};
 use crate::progress::Progress;
 use crate::reasons::Reasons;
-use crate::report::{Report, Status, cannot_read};
+use crate::report::{ExitStatus, Report, cannot_read};
 use canoffice_jobs::Manner;
 use dbc_advice::{Source, shown_path};
 use std::alloc::{AllocError, Global};
@@ -225,7 +225,7 @@ fn report_at_terminal<F: FileSource, D: Databases, W: Write>(
 {
     let report = task_report(alloc, job.task, bytes, files, databases, progress)?;
     match report.status {
-        Status::WrongInput => Ok(with_stated(alloc, report, job, bytes, files)),
+        ExitStatus::WrongInput => Ok(with_stated(alloc, report, job, bytes, files)),
         _ => Ok(report),
     }
 }

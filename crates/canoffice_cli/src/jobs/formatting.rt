@@ -5,7 +5,7 @@ ghost use Rattle.canoffice_cli.specs.Jobs.Formatted.{IsFormatOutcome, IsKeptOutc
 ghost use Rattle.canoffice_cli.specs.Jobs.Formatted.{KeepsNothing};
 
 use crate::jobs::reading::{reading_of, unread_report};
-use crate::report::{Report, Status};
+use crate::report::{ExitStatus, Report};
 use dbc_grammar::texts_read_as_one_sheet;
 use dbc_keep::kept_text_of;
 use dbc_keep_law::kept_texts_read_as_their_sheets;
@@ -29,7 +29,7 @@ pub fn kept_report(alloc: Global, source: &[u8]) -> Result<Report, AllocError>
             let written = kept_text_of(alloc, source, &reading);
             // As in a check, the sheet's blocks aren't given back.
             forget(reading);
-            Ok(Report::of_output(alloc, written?, Status::Success))
+            Ok(Report::of_output(alloc, written?, ExitStatus::Success))
         }
         Err(fault) => unread_report(alloc, fault),
     }
@@ -48,7 +48,7 @@ pub fn format_report(alloc: Global, source: &[u8]) -> Result<Report, AllocError>
             let written = text_of(alloc, &reading.sheet);
             // As in a check, the sheet's blocks aren't given back.
             forget(reading);
-            Ok(Report::of_output(alloc, written?, Status::Success))
+            Ok(Report::of_output(alloc, written?, ExitStatus::Success))
         }
         Err(fault) => unread_report(alloc, fault),
     }

@@ -22,8 +22,8 @@ ghost use Rattle.canoffice_cli.specs.Unprinted.{IsUnprinted};
 use crate::answering::{lost_report, office_on};
 use crate::databases::Databases;
 use crate::jobs::serving::failed_report;
-use crate::report::{Report, Status};
-use canoffice_jobs::{Place, What, requests_look, show_look};
+use crate::report::{ExitStatus, Report};
+use canoffice_jobs::{OfficePlace, What, requests_look, show_look};
 use desk_client::{AskFault, Received, Response, target_of};
 use desk_send::Desks;
 use desk_types::DeskFault;
@@ -38,7 +38,7 @@ pub(crate) fn not_found(alloc: Global) -> Result<Report, AllocError>
     ensures { IfOk result (λ report. outcome_of report ≡ not_found) }
 {
     let text = b"not found\n".to_vec(alloc)?;
-    Ok(Report::of_errors(alloc, text, Status::FaultFound))
+    Ok(Report::of_errors(alloc, text, ExitStatus::FaultFound))
 }
 
 /// The report on what was shown.
@@ -50,7 +50,7 @@ pub(crate) fn shown_report(
         ≡ shown_outcome (result_map_both bytes_of (λ lost. lost) shown)) }
 {
     match shown {
-        Ok(Some(text)) => Ok(Report::of_output(alloc, text, Status::Success)),
+        Ok(Some(text)) => Ok(Report::of_output(alloc, text, ExitStatus::Success)),
         Ok(None) => not_found(alloc),
         Err(lost) => lost_report(alloc, lost),
     }
@@ -96,7 +96,7 @@ fn no_answer(alloc: Global, port: u16) -> Result<Report, AllocError>
     ensures { IfOk result (λ report. outcome_of report ≡ no_answer port) }
 {
     let text = format!(in alloc; "no desk answers on port {port}\n")?;
-    Ok(Report::of_errors(alloc, text.into_bytes(), Status::Failed))
+    Ok(Report::of_errors(alloc, text.into_bytes(), ExitStatus::Failed))
 }
 
 /// The report on a whole response.
@@ -105,13 +105,13 @@ fn response_report(alloc: Global, response: Response) -> Result<Report, AllocErr
         ≡ response_outcome response.status response.body.items) }
 {
     match response.status {
-        desk_client::Status::Success => {
-            Ok(Report::of_output(alloc, response.body, Status::Success))
+        desk_client::DeskStatus::Success => {
+            Ok(Report::of_output(alloc, response.body, ExitStatus::Success))
         }
-        desk_client::Status::NotFound => not_found(alloc),
-        desk_client::Status::Other(code) => {
+        desk_client::DeskStatus::NotFound => not_found(alloc),
+        desk_client::DeskStatus::Other(code) => {
             let text = format!(in alloc; "the desk answers with status {code}\n")?;
-            Ok(Report::of_errors(alloc, text.into_bytes(), Status::Failed))
+            Ok(Report::of_errors(alloc, text.into_bytes(), ExitStatus::Failed))
         }
     }
 }
@@ -145,7 +145,7 @@ fn report_at<D: Databases, K: Desks>(
     alloc: Global,
     databases: &mut D,
     desks: &mut K,
-    place: Place<'_>,
+    place: OfficePlace<'_>,
     look: &Look,
 ) -> Result<Report, AllocError>
     ensures shown { IfOk result (λ report. IsLookedAt (K.known desks.old) (K.known desks.new)
@@ -155,8 +155,8 @@ fn report_at<D: Databases, K: Desks>(
         (D.known databases.new) place.entry look.now)) }
 {
     match place {
-        Place::Database(path) => shown_report(alloc, databases.look(alloc, path, look)),
-        Place::Desk(port) => {
+        OfficePlace::Database(path) => shown_report(alloc, databases.look(alloc, path, look)),
+        OfficePlace::Desk(port) => {
             let target = target_of(alloc, look)?;
             let form = look.form();
             asked_report(alloc, port, desks.ask(alloc, port, &target, form))
@@ -169,7 +169,7 @@ pub(crate) fn look_report<D: Databases, K: Desks>(
     alloc: Global,
     databases: &mut D,
     desks: &mut K,
-    place: Place<'_>,
+    place: OfficePlace<'_>,
     look: Option<Look>,
 ) -> Result<Report, AllocError>
     ensures shown { IfOk result (λ report. IsLookOutcome (K.known desks.old) (K.known desks.new)
@@ -192,7 +192,7 @@ pub fn show_report<D: Databases, K: Desks>(
     alloc: Global,
     databases: &mut D,
     desks: &mut K,
-    place: Place<'_>,
+    place: OfficePlace<'_>,
     net: Option<&str>,
     what: What,
     name: Option<&str>,
@@ -217,7 +217,7 @@ pub fn requests_report<D: Databases, K: Desks>(
     alloc: Global,
     databases: &mut D,
     desks: &mut K,
-    place: Place<'_>,
+    place: OfficePlace<'_>,
     team: &str,
     json: bool,
 ) -> Result<Report, AllocError>

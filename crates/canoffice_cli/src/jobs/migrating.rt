@@ -12,7 +12,7 @@ ghost use Rattle.canoffice_cli.specs.Outcome.{outcome_of};
 use crate::answering::lost_report;
 use crate::databases::Databases;
 use crate::progress::Progress;
-use crate::report::{Report, Status};
+use crate::report::{ExitStatus, Report};
 use sqlite::{Alter, Connection};
 use std::alloc::{AllocError, Global};
 use std::io::Write;
@@ -57,7 +57,7 @@ fn migrated_report(alloc: Global, done: Result<(), Lost>) -> Result<Report, Allo
     match done {
         Ok(()) => {
             let text = b"profile 2\n".to_vec(alloc)?;
-            Ok(Report::of_output(alloc, text, Status::Success))
+            Ok(Report::of_output(alloc, text, ExitStatus::Success))
         }
         Err(lost) => lost_report(alloc, lost),
     }

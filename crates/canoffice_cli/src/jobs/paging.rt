@@ -12,8 +12,8 @@ use crate::files::{FileSource, StandardInput, bytes_at};
 use crate::jobs::file_jobs::unreadable_report;
 use crate::jobs::looking::look_report;
 use crate::jobs::reading::{reading_of, unread_report};
-use crate::report::{Report, Status};
-use canoffice_jobs::{Place, page_look};
+use crate::report::{ExitStatus, Report};
+use canoffice_jobs::{OfficePlace, page_look};
 use desk_send::Desks;
 use office_page::file_page;
 use std::alloc::{AllocError, Global};
@@ -60,7 +60,7 @@ fn page_of_text(alloc: Global, path: &str, source: &[u8]) -> Result<Report, Allo
     match reading_of(alloc, source)? {
         Ok(reading) => {
             let output = file_page(alloc, page_name(path), source, &reading)?;
-            Ok(Report::of_output(alloc, output, Status::Success))
+            Ok(Report::of_output(alloc, output, ExitStatus::Success))
         }
         Err(fault) => unread_report(alloc, fault),
     }
@@ -87,7 +87,7 @@ pub fn page_report<D: Databases, K: Desks>(
     alloc: Global,
     databases: &mut D,
     desks: &mut K,
-    place: Place<'_>,
+    place: OfficePlace<'_>,
     net: &str,
     number: u32,
 ) -> Result<Report, AllocError>

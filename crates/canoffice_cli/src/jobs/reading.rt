@@ -8,7 +8,7 @@ ghost use Rattle.dbc_read.specs.Passed.{start_and_keyword};
 ghost use Rattle.dbc_read.specs.Reading.{IsReadFault};
 
 use crate::jobs::checking::fault_line;
-use crate::report::{Report, Status};
+use crate::report::{ExitStatus, Report};
 use dbc_read::{ReadCode, ReadFault, Reading, read};
 use std::alloc::{AllocError, Global};
 
@@ -37,5 +37,5 @@ pub(crate) fn unread_report(alloc: Global, fault: ReadFault) -> Result<Report, A
     ensures { IfOk result (λ report. outcome_of report ≡ fault_errors (fault_line fault)) }
 {
     let line = fault_line(alloc, fault)?;
-    Ok(Report::of_errors(alloc, line, Status::FaultFound))
+    Ok(Report::of_errors(alloc, line, ExitStatus::FaultFound))
 }

@@ -5,7 +5,7 @@ ghost use Rattle.canoffice_cli.specs.Jobs.Served.{IsServeOutcome, end_outcome};
 
 use crate::answering::lost_report;
 use crate::databases::Databases;
-use crate::report::{Report, Status};
+use crate::report::{ExitStatus, Report};
 use std::alloc::{AllocError, Global};
 use store::Lost;
 
@@ -25,7 +25,7 @@ pub(crate) fn failed_report(alloc: Global, text: &[u8]) -> Result<Report, AllocE
     ensures { IfOk result (λ report. outcome_of report ≡ failure text.now) }
 {
     let text = text.to_vec(alloc)?;
-    Ok(Report::of_errors(alloc, text, Status::Failed))
+    Ok(Report::of_errors(alloc, text, ExitStatus::Failed))
 }
 
 /// The report on how serving ended.
@@ -33,7 +33,7 @@ fn end_report(alloc: Global, end: Result<(), ServeEnd>) -> Result<Report, AllocE
     ensures { IfOk result (λ report. outcome_of report ≡ end_outcome end) }
 {
     match end {
-        Ok(()) => Ok(Report::of_output(alloc, Vec::new(alloc), Status::Success)),
+        Ok(()) => Ok(Report::of_output(alloc, Vec::new(alloc), ExitStatus::Success)),
         Err(ServeEnd::CannotListen) => failed_report(alloc, b"cannot listen\n"),
         Err(ServeEnd::CannotAccept) => failed_report(alloc, b"cannot accept\n"),
         Err(ServeEnd::IsLost(lost)) => lost_report(alloc, lost),

@@ -8,7 +8,7 @@ ghost use Rattle.canoffice_cli.specs.Jobs.Tabled.{IsTableOutcome};
 use crate::files::{FileSource, StandardInput, bytes_at};
 use crate::jobs::file_jobs::unreadable_report;
 use crate::jobs::reading::{reading_of, unread_report};
-use crate::report::{Report, Status};
+use crate::report::{ExitStatus, Report};
 use office_views::sheet_table;
 use rows::list_text;
 use std::alloc::{AllocError, Global};
@@ -22,7 +22,7 @@ fn table_of_text(alloc: Global, source: &[u8], json: bool) -> Result<Report, All
         Ok(reading) => {
             let table = sheet_table(alloc, &reading.sheet)?;
             let output = list_text(alloc, &table, json)?;
-            Ok(Report::of_output(alloc, output, Status::Success))
+            Ok(Report::of_output(alloc, output, ExitStatus::Success))
         }
         Err(fault) => unread_report(alloc, fault),
     }

@@ -3,7 +3,7 @@ use Rattle.dbc_advice.proofs.Common.{arith, length-map, Message}
 use Rattle.std.proofs.lemmas.List.{length-append}
 use Rattle.dbc_advice.specs.Clashes.{bytes_of, clash_sentence}
 use Rattle.dbc_advice.specs.Limits.{clashes_reported, reasons_reported}
-use Rattle.dbc_advice.specs.declared.reasons.Reason.{Reason}
+use Rattle.dbc_advice.specs.declared.reasons.ClashReason.{ClashReason}
 use Rattle.dbc_advice.proofs.ClashSentences.{told_all, told_cut, told_more}
 use Rattle.dbc_advice.proofs.clashes.clash_sentences.Goals as goal
 
@@ -23,8 +23,8 @@ returns-then-len-room c =
     (omega (arith, c.len-room.ensures, old.invariant.few)) refl
     (omega (arith, c.if-len-room.true, c.len.ensures)) old.invariant.told
     (c.in_ok-add_sentences.ensures
-    ∙ ap (λ (rs : List Reason). map bytes_of old.sentences.items
-    ++ map (λ (r : Reason). clash_sentence (m, r)) (take room rs))
+    ∙ ap (λ (rs : List ClashReason). map bytes_of old.sentences.items
+    ++ map (λ (r : ClashReason). clash_sentence (m, r)) (take room rs))
     c.deref.ensures.value)
 
 pub loop-message-preserved : goal.loop-message-preserved
@@ -38,7 +38,7 @@ loop-message-preserved c =
     let lt : i < length messages = subst (λ (ms : List Message). i < length ms) same c.loop-message-test.true in
     let item : m ≡ get_or messages i m = c.message-item.is ∙ ap (λ (ms : List Message). get_or ms i m) same in
     let e = c.in_ok-add_sentences-2.ensures
-    ∙ ap (λ (rs : List Reason). map bytes_of old.sentences.items ++ map (λ (r : Reason). clash_sentence (m, r)) rs)
+    ∙ ap (λ (rs : List ClashReason). map bytes_of old.sentences.items ++ map (λ (r : ClashReason). clash_sentence (m, r)) rs)
     c.deref-in-loop-message.ensures.value in
     let few : length reasons ≤ reasons_reported =
     omega (arith, c.if-len-room.false, c.len.ensures, c.len-room.ensures, old.invariant.few) in
@@ -46,9 +46,9 @@ loop-message-preserved c =
     let n1 = length-map sentences bytes_of in
     let n2 = ap length e in
     let n3 = length-append (map bytes_of old.sentences.items)
-    (map (λ (r : Reason). clash_sentence (m, r)) reasons) in
+    (map (λ (r : ClashReason). clash_sentence (m, r)) reasons) in
     let n4 = length-map old.sentences.items bytes_of in
-    let n5 = length-map reasons (λ (r : Reason). clash_sentence (m, r)) in
+    let n5 = length-map reasons (λ (r : ClashReason). clash_sentence (m, r)) in
     record {
       told = told_more messages i m reasons (map bytes_of old.sentences.items) (map bytes_of sentences) lt item
           c.in_ok-reasons.ensures few old.invariant.told e;

@@ -1,5 +1,5 @@
 use Rattle.dbc_advice.proofs.Common.{◌≡◌, ◌<◌, ◌∙◌, List, Some, length, get_or, sym, ap, subst, slice_get, Message}
-use Rattle.dbc_advice.specs.declared.reasons.Reason.{Reason}
+use Rattle.dbc_advice.specs.declared.reasons.ClashReason.{ClashReason}
 use Rattle.dbc_advice.proofs.FirstClash.{first_found}
 use Rattle.dbc_advice.proofs.clashes.first_unclear.Goals as goal
 
@@ -13,6 +13,6 @@ returns-in-Some c =
     let lt : i < length ms = subst (λ (v : List Message). i < length v) same c.loop-message-test.true in
     let item : m ≡ get_or ms i m = c.message-item.is ∙ ap (λ (v : List Message). get_or v i m) same in
     let first : slice_get reasons 0 ≡ Some c.in-Some.reason.now =
-    ap (λ (v : List Reason). slice_get v 0) (sym c.deref.ensures.value) ∙ sym c.in-Some.ensures.value in
+    ap (λ (v : List ClashReason). slice_get v 0) (sym c.deref.ensures.value) ∙ sym c.in-Some.ensures.value in
     first_found c.args.text.now ms i m c.in-Some.reason.now reasons c.in_ok-stated_reason.field-0 lt item
     c.in_ok-reasons.ensures first c.loop-message.invariant c.in_ok-stated_reason.ensures

@@ -3,7 +3,7 @@ use Rattle.dbc_advice.proofs.Common.{Message}
 use Rattle.dbc_advice.specs.Clashes.{IsClashLine}
 use Rattle.dbc_advice.specs.Limits.{clashes_reported}
 use Rattle.dbc_advice.specs.ReportedLine.{AreLinesOf}
-use Rattle.dbc_advice.specs.declared.reasons.Reason.{Reason}
+use Rattle.dbc_advice.specs.declared.reasons.ClashReason.{ClashReason}
 use Rattle.dbc_advice.proofs.ClashLines.{all_reported, count_more, cut_reported, message_more}
 use Rattle.dbc_advice.proofs.clashes.unclear.Goals as goal
 
@@ -21,7 +21,7 @@ returns-then-len-room c =
     old.lines.items c.in_ok-last.last.items c.extend_from_slice.new.self.items m c.in_ok-reasons.reasons.items _
     lt item c.in_ok-reasons.ensures old.invariant.lines old.invariant.reported old.invariant.few refl
     (omega (arith, c.if-len-room.true, c.len.ensures))
-    (ap (λ (rs : List Reason). take (clashes_reported - old.reported) rs) c.deref-then-len-room.ensures.value)
+    (ap (λ (rs : List ClashReason). take (clashes_reported - old.reported) rs) c.deref-then-len-room.ensures.value)
     c.in_ok-last.ensures
     (c.in_ok-extend_from_slice.ensures.items
     ∙ ap (λ (v : List ℕ). old.lines.items ++ v) c.deref-then-len-room-2.ensures.value)
@@ -37,8 +37,8 @@ loop-message-preserved c =
     let same = c.messages-message-items.ensures.messages in
     let lt : i < length messages = subst (λ (ms : List Message). i < length ms) same c.loop-message-test.true in
     let item : m ≡ get_or messages i m = c.message-item.is ∙ ap (λ (ms : List Message). get_or ms i m) same in
-    let here = subst (λ (rs : List Reason). AreLinesOf
-    (λ (r : Reason). IsClashLine source.name.now source.text.now (m, r)) rs c.in_ok-all.all.items)
+    let here = subst (λ (rs : List ClashReason). AreLinesOf
+    (λ (r : ClashReason). IsClashLine source.name.now source.text.now (m, r)) rs c.in_ok-all.all.items)
     c.deref-in-loop-message-2.ensures.value c.in_ok-all.ensures in
     record {
       lines = message_more source.name.now source.text.now messages i old.lines.items c.in_ok-all.all.items

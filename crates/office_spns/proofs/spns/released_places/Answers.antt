@@ -1,7 +1,7 @@
 use Rattle.std.proofs.Common.{◌≡◌, ◌+◌, ◌∙◌, List, ◌∷◌, ap, cond, drop, sym, get_or, Bor}
 use Rattle.std.proofs.lemmas.List.{at_drop_more}
 use Rattle.dbc_sheet.specs.declared.sheet.Sheet.{Sheet}
-use Rattle.office_spns.specs.Spns.{Place, has_spn, places}
+use Rattle.office_spns.specs.Spns.{SpnPlace, has_spn, places}
 use Rattle.office_spns.proofs.LastPlaces.{places_else, places_in_next}
 use Rattle.office_spns.proofs.spns.released_places.Goals as goal
 use Rattle.office_spns.proofs.spns.released_places.Goals.{then-has, else-has}
@@ -14,9 +14,9 @@ loop-release-preserved c =
     let i = c.loop-release.release-index in
     let now : c.if-has.found.now ≡ cond (has_spn n s) (places n s) c.loop-release.found.now =
     elim c.if-has.branch [
-      | then-has w ↦ ap (λ (r : Bor (List Place)). r.now) w.found-is ∙ w.places-found.ensures
+      | then-has w ↦ ap (λ (r : Bor (List SpnPlace)). r.now) w.found-is ∙ w.places-found.ensures
           ∙ sym (ap (λ b. cond b (places n s) c.loop-release.found.now) (sym c.has.ensures ∙ w.if-has.true))
-      | else-has w ↦ ap (λ (r : Bor (List Place)). r.now) w.found-is
+      | else-has w ↦ ap (λ (r : Bor (List SpnPlace)). r.now) w.found-is
           ∙ sym (ap (λ b. cond b (places n s) c.loop-release.found.now) (sym c.has.ensures ∙ w.if-has.false))
     ] in
     let next : places_else n (drop i sheets) c.loop-release.found.now

@@ -25,19 +25,19 @@ use Rattle.dbc_compare.proofs.ChangeLists.{list_told}
 first_byte : (a b : List ℕ) → a ≡ b → get_or a 0 0 ≡ get_or b 0 0
 first_byte a b e = ap (λ bytes. get_or bytes 0 0) e
 
-order_told : (a b : Order) → order_word a ≡ order_word b → a ≡ b
+pub order_told : (a b : Order) → order_word a ≡ order_word b → a ≡ b
 order_told Intel Intel e = refl
 order_told Intel Motorola e = absurd (omega (arith, first_byte (order_word Intel) (order_word Motorola) e))
 order_told Motorola Intel e = absurd (omega (arith, first_byte (order_word Motorola) (order_word Intel) e))
 order_told Motorola Motorola e = refl
 
-truth_told : (a b : Bool) → truth_word a ≡ truth_word b → a ≡ b
+pub truth_told : (a b : Bool) → truth_word a ≡ truth_word b → a ≡ b
 truth_told true true e = refl
 truth_told true false e = absurd (omega (arith, first_byte (truth_word true) (truth_word false) e))
 truth_told false true e = absurd (omega (arith, first_byte (truth_word false) (truth_word true) e))
 truth_told false false e = refl
 
-type_told : (a b : ValueType) → type_word a ≡ type_word b → a ≡ b
+pub type_told : (a b : ValueType) → type_word a ≡ type_word b → a ≡ b
 type_told Integer Integer e = refl
 type_told Integer Float e = absurd (omega (arith, first_byte (type_word Integer) (type_word Float) e))
 type_told Integer Double e = absurd (omega (arith, first_byte (type_word Integer) (type_word Double) e))
@@ -48,7 +48,7 @@ type_told Double Integer e = absurd (omega (arith, first_byte (type_word Double)
 type_told Double Float e = absurd (omega (arith, first_byte (type_word Double) (type_word Float) e))
 type_told Double Double e = refl
 
-mux_told : (a b : Mux) → IsMux a → IsMux b → indicator_of a ≡ indicator_of b → a ≡ b
+pub mux_told : (a b : Mux) → IsMux a → IsMux b → indicator_of a ≡ indicator_of b → a ≡ b
 mux_told Always Always h k e = refl
 mux_told Always Multiplexor h k e = cc e
 mux_told Always (Under n) h k e = cc e
@@ -77,7 +77,7 @@ ident_told (id.Ext m) (id.Ext n) h k e = ap (λ v. id.Ext v) (let same : m ≡ n
 
 -- ---- values
 
-whole_is : (m n : ℕ) → Whole m ≡ Whole n → m ≡ n
+pub whole_is : (m n : ℕ) → Whole m ≡ Whole n → m ≡ n
 whole_is m n e = cc
 
 pub word_is : (a b : List ℕ) → Word a ≡ Word b → a ≡ b

@@ -54,7 +54,7 @@ module _ (gone shown : Message → List Difference) where
           inl (it.0, in_take (below (number_of m) old) old it.0 it.1, it.2)
       by_place (inr later) rests = by_later (in_either (shown m) _ d later) rests
 
-  to_gone : (old new : List Message) (p : Message) (d : Difference) → In p old → In d (gone p)
+  pub to_gone : (old new : List Message) (p : Message) (d : Difference) → In p old → In d (gone p)
       → In d (by_numbers gone shown old new)
   to_gone old [] p d h k = in_flat gone old p d h k
   to_gone old (m ∷ new) p d h k = elim (in_parts (below (number_of m) old) old p h) [
@@ -64,7 +64,7 @@ module _ (gone shown : Message → List Difference) where
         (in_right (shown m) _ d (to_gone (drop (below (number_of m) old) old) new p d rest k))
   ]
 
-  to_shown : (old new : List Message) (m : Message) (d : Difference) → In m new → In d (shown m)
+  pub to_shown : (old new : List Message) (m : Message) (d : Difference) → In m new → In d (shown m)
       → In d (by_numbers gone shown old new)
   to_shown old [] m d h k = absurd (none_if_empty [] refl m h)
   to_shown old (n ∷ new) m d h k = elim (in_cons m n new h) [

@@ -18,7 +18,7 @@ above : (x : Message) (xs : List Message) (y : Message) → AllByRecursion (λ z
 above x xs y all h = ranked (number_of x) (number_of y) Less (sym (each_in (λ z. by_number x z ≡ Less) xs y all h))
 
 -- each number is that of one message
-one_number : (xs : List Message) → IsStrictlySortedBy by_number xs → (x y : Message) → In x xs → In y xs
+pub one_number : (xs : List Message) → IsStrictlySortedBy by_number xs → (x y : Message) → In x xs → In y xs
     → number_of x ≡ number_of y → x ≡ y
 unfolding IsStrictlySortedBy
 one_number [] sorted x y h k same = absurd (none_if_empty [] refl x h)
@@ -62,13 +62,13 @@ one_list (x ∷ xs) (y ∷ ys) rx ry forth back =
 
 -- ---- the message of a number
 
-found_number : (xs : List Message) → AreMessages xs → (x : Message) → In x xs → (n : ℕ) → number_of x ≡ n
+pub found_number : (xs : List Message) → AreMessages xs → (x : Message) → In x xs → (n : ℕ) → number_of x ≡ n
     → message_at xs n ≡ Some x
 found_number xs are x h n e =
     find_only (λ m. number_of m == n) xs x h (eq-eqb (number_of x) n e)
     (λ y k t. one_number xs are.ascending y x k h (eqb-true (number_of y) n t ∙ sym e))
 
-number_found : (xs : List Message) (n : ℕ) (x : Message) → message_at xs n ≡ Some x → In x xs × (number_of x ≡ n)
+pub number_found : (xs : List Message) (n : ℕ) (x : Message) → message_at xs n ≡ Some x → In x xs × (number_of x ≡ n)
 number_found xs n x e =
     let it = found_in (λ m. number_of m == n) xs x e in (it.0, eqb-true (number_of x) n it.1)
 

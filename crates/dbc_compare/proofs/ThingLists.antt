@@ -85,7 +85,7 @@ module _ {A : Type 0} (name : A → List ℕ) (fields : A → List Valued) where
       (λ y k t. one_alone (λ a b. bytes_eq (name a) (name b)) (λ a b. bytes_eq-flip (name a) (name b)) xs apart y x k h
       ((bytes_eq-Decides (name y) (name x)).1 ((bytes_eq-Decides (name y) n).0 t ∙ sym e)))
 
-  found_named : (xs : List A) (n : List ℕ) (x : A) → thing_named name xs n ≡ Some x → In x xs × (name x ≡ n)
+  pub found_named : (xs : List A) (n : List ℕ) (x : A) → thing_named name xs n ≡ Some x → In x xs × (name x ≡ n)
   found_named xs n x e =
       let it = found_in (λ a. bytes_eq (name a) n) xs x e in (it.0, (bytes_eq-Decides (name x) n).0 it.1)
 

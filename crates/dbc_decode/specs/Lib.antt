@@ -1,0 +1,3 @@
+pub mod Decoding
+pub mod Laws
+pub mod Marks

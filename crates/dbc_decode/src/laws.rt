@@ -1,0 +1,15 @@
+//! The laws of what a receiver reads.
+ghost use Rattle.dbc_decode.specs.Laws.{BreakingNone, UnmarkedFramesAreRead, UnmarkedIsRead};
+
+use dbc_sheet::{Sheet, sheets_are_well_formed};
+
+/// Where no difference breaks a receiver, whoever was built for the old sheet takes each of its messages from what is
+/// sent by the new one, and reads each of its signals as the new sheet means it. The function does nothing.
+pub fn unmarked_sheets_are_read(old: &Sheet, new: &Sheet)
+    ensures printed { BreakingNone old.now new.now }
+    ensures messages { UnmarkedIsRead old.now new.now }
+    ensures frames { UnmarkedFramesAreRead old.now new.now }
+{
+    sheets_are_well_formed(old);
+    sheets_are_well_formed(new);
+}

@@ -3,4 +3,5 @@ pub mod Alike
 pub mod Quiet
 pub mod Unmarked
 pub mod Frames
+pub mod Positions
 mod Rows

@@ -1,5 +1,7 @@
 -- What the marks of a comparison say of receivers.
-use Rattle.std.specs.Prelude.{◌≡◌, ℕ, false, List, count_by, Contains, Some}
+use Rattle.std.specs.Prelude.{◌≡◌, ◌<◌, ◌↔◌, ℕ, false, List, length, count_by, All, Contains, Some}
+use Rattle.bitlayout.specs.Bits.{IsInside}
+use Rattle.bitlayout.specs.declared.layout.Layout.{Layout}
 use Rattle.dbc_compare.specs.Differences.{differences}
 use Rattle.dbc_compare.specs.List.{breaks}
 use Rattle.dbc_compare.specs.declared.difference.Difference.{Difference}
@@ -8,7 +10,7 @@ use Rattle.dbc_sheet.specs.declared.message.Message.{Message}
 use Rattle.dbc_sheet.specs.declared.sheet.Sheet.{Sheet}
 use Rattle.dbc_sheet.specs.declared.signal.Signal.{Signal}
 use Rattle.dbc_sheet.specs.Sheet.{IsClearSheet}
-use Rattle.dbc_decode.specs.Decoding.{Decoded, Frame, Read, Reading, decode, read}
+use Rattle.dbc_decode.specs.Decoding.{Decoded, Frame, Read, Reading, bits_number, by_weight, decode, read}
 
 -- no line is marked
 abbrev pub NoneBreaks : Sheet → Sheet → Type 0
@@ -47,3 +49,17 @@ abbrev pub UnmarkedFramesAreRead : Sheet → Sheet → Type 0
 UnmarkedFramesAreRead old new =
     NoneBreaks old new → IsClearSheet old → (f : Frame) (before : Decoded) → decode old f ≡ Some before
     → (after : Decoded) × (decode new f ≡ Some after) × SaysAsMuch before after
+
+-- ---- which changes of a layout are seen
+
+-- the payload of a frame: so many bytes
+pub record IsPayload (bytes : ℕ) (payload : List ℕ) : Type 0 where
+  pub count : length payload ≡ bytes
+  pub each : All (λ b. b < 256) payload
+
+-- Two layouts in a payload have the same number in each payload if and only if they have the same positions by weight.
+abbrev pub LayoutsTellApart : Type 0
+LayoutsTellApart =
+    (a b : Layout) (bytes : ℕ) → IsInside a bytes → IsInside b bytes
+    → (by_weight a ≡ by_weight b) ↔ ((payload : List ℕ) → IsPayload bytes payload
+    → bits_number payload (by_weight a) ≡ bits_number payload (by_weight b))

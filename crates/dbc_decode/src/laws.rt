@@ -1,5 +1,5 @@
 //! The laws of what a receiver reads.
-ghost use Rattle.dbc_decode.specs.Laws.{BreakingNone, UnmarkedFramesAreRead, UnmarkedIsRead};
+ghost use Rattle.dbc_decode.specs.Laws.{BreakingNone, LayoutsTellApart, UnmarkedFramesAreRead, UnmarkedIsRead};
 
 use dbc_sheet::{Sheet, sheets_are_well_formed};
 
@@ -13,3 +13,9 @@ pub fn unmarked_sheets_are_read(old: &Sheet, new: &Sheet)
     sheets_are_well_formed(old);
     sheets_are_well_formed(new);
 }
+
+/// Two layouts inside a payload have the same number in each payload if and only if they have the same positions, from
+/// the least significant bit on. The function does nothing.
+pub fn layouts_tell_apart()
+    ensures { LayoutsTellApart }
+{}

@@ -7,4 +7,4 @@
 
 mod laws;
 
-pub use laws::unmarked_sheets_are_read;
+pub use laws::{layouts_tell_apart, unmarked_sheets_are_read};

@@ -4,4 +4,5 @@ pub mod Quiet
 pub mod Unmarked
 pub mod Frames
 pub mod Positions
+pub mod NamedPartners
 mod Rows

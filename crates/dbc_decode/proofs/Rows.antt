@@ -9,6 +9,7 @@ use Rattle.bitlayout.specs.Bits.{walk}
 use Rattle.can_id.specs.declared.ident.Ident.TheVariants.{Ext, Std}
 use Rattle.decimal.specs.Number.{Number}
 use Rattle.dbc_sheet.specs.Sheet.{empty_sheet}
+use Rattle.dbc_decode.specs.ByName.{named_differences, named_partner}
 use Rattle.dbc_decode.specs.Decoding.{Decoded, Whole, bits_number, by_weight, decode, Signed, payload_bit, raw_by, read}
 use Rattle.dbc_decode.specs.Decoding.{reading, twos_complement}
 
@@ -159,3 +160,22 @@ was_left = refl
 
 is_right : message_said (decode after (record { ident = Std 1; payload = 0 ∷ 0 ∷ [] })) ≡ codes "Right"
 is_right = refl
+
+-- with partners by name both are renumbered, and marked
+exchange_marked : count_by breaks (named_differences before.messages after.messages) ≡ 2
+unfolding differences_about field_changes pair_differences thing_differences
+exchange_marked = refl
+
+-- ---- partners by name
+
+-- the one of the name, whatever its number
+by_the_name : named_partner after.messages before.messages (wheel (codes "Left") 1) ≡ Some (wheel (codes "Left") 2)
+by_the_name = refl
+
+-- else the one of the number, if its name is new
+by_the_number : named_partner (wheel (codes "Rear") 1 ∷ []) before.messages (wheel (codes "Left") 1)
+    ≡ Some (wheel (codes "Rear") 1)
+by_the_number = refl
+
+of_neither : named_partner (wheel (codes "Right") 1 ∷ []) before.messages (wheel (codes "Left") 1) ≡ None
+of_neither = refl

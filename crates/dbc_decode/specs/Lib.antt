@@ -1,3 +1,4 @@
 pub mod Decoding
 pub mod Laws
+pub mod ByName
 pub mod Marks

@@ -1,4 +1,5 @@
 //! The laws of what a receiver reads.
+ghost use Rattle.dbc_decode.specs.ByName.{UnmarkedIsReadByName};
 ghost use Rattle.dbc_decode.specs.Laws.{BreakingNone, LayoutsTellApart, UnmarkedFramesAreRead, UnmarkedIsRead};
 
 use dbc_sheet::{Sheet, sheets_are_well_formed};
@@ -19,3 +20,12 @@ pub fn unmarked_sheets_are_read(old: &Sheet, new: &Sheet)
 pub fn layouts_tell_apart()
     ensures { LayoutsTellApart }
 {}
+
+/// With messages paired by their names first, each message of the old sheet is read from the one that is its own. The
+/// function does nothing.
+pub fn unmarked_sheets_are_read_by_name(old: &Sheet, new: &Sheet)
+    ensures { UnmarkedIsReadByName old.now new.now }
+{
+    sheets_are_well_formed(old);
+    sheets_are_well_formed(new);
+}

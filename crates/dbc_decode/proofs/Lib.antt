@@ -5,4 +5,7 @@ pub mod Unmarked
 pub mod Frames
 pub mod Positions
 pub mod NamedPartners
+pub mod Seen
+pub mod Signed
+pub mod SeenOnly
 mod Rows

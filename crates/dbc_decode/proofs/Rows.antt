@@ -9,7 +9,9 @@ use Rattle.bitlayout.specs.Bits.{walk}
 use Rattle.can_id.specs.declared.ident.Ident.TheVariants.{Ext, Std}
 use Rattle.decimal.specs.Number.{Number}
 use Rattle.dbc_sheet.specs.Sheet.{empty_sheet}
+use Rattle.dbc_compare.specs.declared.field.Field.TheVariants as field
 use Rattle.dbc_decode.specs.ByName.{named_differences, named_partner}
+use Rattle.dbc_decode.specs.Marks.{is_seen}
 use Rattle.dbc_decode.specs.Decoding.{Decoded, Whole, bits_number, by_weight, decode, Signed, payload_bit, raw_by, read}
 use Rattle.dbc_decode.specs.Decoding.{reading, twos_complement}
 
@@ -165,6 +167,27 @@ is_right = refl
 exchange_marked : count_by breaks (named_differences before.messages after.messages) ≡ 2
 unfolding differences_about field_changes pair_differences thing_differences
 exchange_marked = refl
+
+-- ---- what is seen of a signal
+
+abbrev intel_byte : Signal
+intel_byte = record speed { layout = record { start = 8; size = 8; order = Intel } }
+
+abbrev motorola_byte : Signal
+motorola_byte = record speed { layout = record { start = 15; size = 8; order = Motorola } }
+
+start_unseen : is_seen intel_byte motorola_byte field.Start ≡ false
+unfolding walk
+start_unseen = refl
+
+start_seen : is_seen speed (record speed { layout = record { start = 7; size = 16; order = Motorola } }) field.Order
+    ≡ true
+unfolding walk
+start_seen = refl
+
+sign_unseen : is_seen (record speed { value_type = Float }) (record speed { value_type = Float; signed = true })
+    field.Signed ≡ false
+sign_unseen = refl
 
 -- ---- partners by name
 

@@ -1,6 +1,7 @@
 //! The laws of what a receiver reads.
 ghost use Rattle.dbc_decode.specs.ByName.{UnmarkedIsReadByName};
 ghost use Rattle.dbc_decode.specs.Laws.{BreakingNone, LayoutsTellApart, UnmarkedFramesAreRead, UnmarkedIsRead};
+ghost use Rattle.dbc_decode.specs.Marks.{ReadIsUnseen, SeenIsRead, UnseenIsRead};
 
 use dbc_sheet::{Sheet, sheets_are_well_formed};
 
@@ -29,3 +30,11 @@ pub fn unmarked_sheets_are_read_by_name(old: &Sheet, new: &Sheet)
     sheets_are_well_formed(old);
     sheets_are_well_formed(new);
 }
+
+/// Signals of which no change is seen are read alike; and of signals that are read alike, and have one size where both
+/// are signed integers, none is seen. The function does nothing.
+pub fn seen_changes_are_read()
+    ensures unseen { UnseenIsRead }
+    ensures same { ReadIsUnseen }
+    ensures seen { SeenIsRead }
+{}

@@ -1,0 +1,184 @@
+-- Of signals that are read alike no change is seen.
+use Rattle.dbc_decode.proofs.Common.{◌≡◌, ◌⊎◌, ◌∙◌, Bool, true, false, not, ℕ, List, [], ◌∷◌, inl, inr, refl, sym, ap}
+use Rattle.dbc_decode.proofs.Common.{subst, ◌≤◌, ◌++◌, length, pos, length-reverse, positions, Layout, Order, Intel}
+use Rattle.dbc_decode.proofs.Common.{Motorola, both_ways, cases_Bool, cond-false, cond-true, not-true, ValueType}
+use Rattle.dbc_decode.proofs.Common.{Integer, Float, Double, Signal, changes_between, Valued, signal_fields, Dec, Value}
+use Rattle.dbc_decode.proofs.Common.{same_value, value_text, Change, Field, In, in_from, value_decides}
+use Rattle.std.proofs.lemmas.Bool.{false≢true}
+use Rattle.std.specs.Prelude.{ℤ}
+use Rattle.dbc_compare.specs.Differences.{field_changes}
+use Rattle.dbc_compare.specs.Fields.{meaning_fields, reading_fields, scale_fields, truth_word, type_word}
+use Rattle.dbc_compare.specs.Value.{Word}
+use Rattle.dbc_compare.proofs.Members.{none_if_empty, in_alone, in_either}
+use Rattle.bitlayout.proofs.Walks.{length-walk}
+use Rattle.bitlayout.specs.Mux.{indicator_of}
+use Rattle.dbc_compare.specs.declared.difference.Change.TheVariants as change
+use Rattle.dbc_decode.specs.Decoding.{Coding, Reading, Signed, Single, Twofold, Unsigned, Whole, OfSingle, OfDouble}
+use Rattle.dbc_decode.specs.Decoding.{by_weight, coding_by, coding_of, in_weight, raw_by}
+use Rattle.dbc_decode.specs.Laws.{IsPayload}
+use Rattle.dbc_decode.specs.Marks.{ReadIsUnseen, ReadsAs, SeenIsRead, is_integer, is_seen, same_bits, sees}
+use Rattle.dbc_decode.proofs.Seen.{SeenSame, bits_decide}
+use Rattle.dbc_decode.proofs.Signed.{mixed_told, signed_told}
+use Rattle.dbc_decode.proofs.Positions.{AreBelow, are_below, its_payload, lists_told, one_bit}
+
+-- ---- types and the signs of integers are told by codings
+
+type_of : Coding → ValueType
+type_of Single = Float
+type_of Twofold = Double
+type_of c = Integer
+
+sign_of : Coding → Bool
+sign_of Signed = true
+sign_of c = false
+
+its_type : (t : ValueType) (x : Bool) → type_of (coding_by t x) ≡ t
+unfolding type_of
+its_type Integer true = refl
+its_type Integer false = refl
+its_type Float x = refl
+its_type Double x = refl
+
+its_sign : (t : ValueType) (x : Bool) → is_integer t ≡ true → sign_of (coding_by t x) ≡ x
+unfolding sign_of
+its_sign Integer true i = refl
+its_sign Integer false i = refl
+its_sign t x i = absurd (false≢true i)
+
+type_coded : (t u : ValueType) (x y : Bool) → coding_by t x ≡ coding_by u y → t ≡ u
+type_coded t u x y e = sym (its_type t x) ∙ ap type_of e ∙ its_type u y
+
+sign_coded : (t u : ValueType) (x y : Bool) → coding_by t x ≡ coding_by u y → is_integer t ≡ true → x ≡ y
+sign_coded t u x y e i =
+    sym (its_sign t x i) ∙ ap sign_of e ∙ its_sign u y (ap is_integer (sym (type_coded t u x y e)) ∙ i)
+
+-- ---- no change is seen
+
+module _ (a b : Signal) where
+  seen_only : (f : Field) (x y : Value) → (is_seen a b f ≡ true → x ≡ y) → (c : Change) → In c (field_changes f x y)
+      → sees a b c ≡ false
+  unfolding field_changes
+  seen_only f x y same c h = by_test (cases_Bool (same_value x y))
+    where
+      told : Change
+      told = change.Changed f (value_text x) (value_text y)
+
+      by_seen : same_value x y ≡ false → (is_seen a b f ≡ true) ⊎ (is_seen a b f ≡ false) → is_seen a b f ≡ false
+      by_seen n (inl t) = absurd (both_ways (same_value x y) n ((value_decides x y).1 (same t)))
+      by_seen n (inr f) = f
+
+      by_test : (same_value x y ≡ true) ⊎ (same_value x y ≡ false) → sees a b c ≡ false
+      by_test (inl t) =
+          absurd (none_if_empty [] refl c
+          (subst (λ cs. In c cs) (cond-true (same_value x y) [] (told ∷ []) t) h))
+      by_test (inr n) =
+          let it : c ≡ told = in_alone c told
+          (subst (λ cs. In c cs) (cond-false (same_value x y) [] (told ∷ []) n) h) in
+          ap (sees a b) it ∙ by_seen n (cases_Bool (is_seen a b f))
+
+  none_seen : (xs ys : List Valued) → SeenSame a b xs ys → (c : Change) → In c (changes_between xs ys)
+      → sees a b c ≡ false
+  none_seen [] ys same c h = absurd (none_if_empty [] refl c h)
+  none_seen (x ∷ xs) [] same c h = absurd (none_if_empty [] refl c h)
+  none_seen (x ∷ xs) (y ∷ ys) same c h =
+      by_place (in_either (field_changes x.0 x.1 y.1) (changes_between xs ys) c h) (none_seen xs ys same.1 c)
+    where
+      by_place : In c (field_changes x.0 x.1 y.1) ⊎ In c (changes_between xs ys)
+          → (In c (changes_between xs ys) → sees a b c ≡ false) → sees a b c ≡ false
+      by_place (inl here) rest = seen_only x.0 x.1 y.1 same.0 c here
+      by_place (inr later) rest = rest later
+
+  moved : {A : Type 0} → same_bits a.layout b.layout ≡ true → not (same_bits a.layout b.layout) ≡ true → A
+  moved bits t = absurd (both_ways (same_bits a.layout b.layout) (not-true (same_bits a.layout b.layout) t) bits)
+
+  never : {A : Type 0} → false ≡ true → A
+  never e = absurd (false≢true e)
+
+  all_same : ReadsAs a b → SeenSame a b (signal_fields a) (signal_fields b)
+  all_same like =
+      let bits : same_bits a.layout b.layout ≡ true = (bits_decide a.layout b.layout).1 like.bits in
+      let meaning : SeenSame a b (meaning_fields a) (meaning_fields b) =
+      (never, (never, (never, (never, (never, tt))))) in
+      let scale : SeenSame a b (scale_fields a ++ meaning_fields a) (scale_fields b ++ meaning_fields b) =
+      ((λ t. ap Dec like.factor), ((λ t. ap Dec like.offset), (never, (never, meaning)))) in
+      let taken : SeenSame a b (reading_fields a ++ (scale_fields a ++ meaning_fields a))
+      (reading_fields b ++ (scale_fields b ++ meaning_fields b)) = (
+        (λ t. ap (λ s. Word (truth_word s)) (sign_coded a.value_type b.value_type a.signed b.signed like.coding t)),
+        (
+          (λ t. ap (λ v. Word (type_word v)) (type_coded a.value_type b.value_type a.signed b.signed like.coding)),
+          ((λ t. ap (λ m. Word (indicator_of m)) like.mux), scale),
+        ),
+      ) in
+      (moved bits, (moved bits, (moved bits, taken)))
+
+pub read_unseen : ReadIsUnseen
+read_unseen a b like c h =
+    none_seen a b (signal_fields a) (signal_fields b) (all_same a b like) c
+    (in_from (changes_between (signal_fields a) (signal_fields b)) c h)
+
+-- ---- what readings tell
+
+abbrev SameRaw : ℕ → Coding → Coding → List ℕ → List ℕ → Type 0
+SameRaw bytes c d ps qs = (payload : List ℕ) → IsPayload bytes payload → raw_by c payload ps ≡ raw_by d payload qs
+
+pub record AreToldSame (c d : Coding) (ps qs : List ℕ) : Type 0 where
+  pub coding : c ≡ d
+  pub bits : ps ≡ qs
+
+whole_told : (m n : ℕ) → Whole (pos m) ≡ Whole (pos n) → m ≡ n
+whole_told m n e = cc
+
+single_told : (m n : ℕ) → OfSingle m ≡ OfSingle n → m ≡ n
+single_told m n e = cc
+
+double_told : (m n : ℕ) → OfDouble m ≡ OfDouble n → m ≡ n
+double_told m n e = cc
+
+integer_told : (x y : ℤ) → Whole x ≡ Whole y → x ≡ y
+integer_told x y e = cc
+
+length_weight : (order : Order) (ps : List ℕ) → length (in_weight order ps) ≡ length ps
+length_weight Intel ps = refl
+length_weight Motorola ps = length-reverse ps
+
+its_length : (layout : Layout) → length (by_weight layout) ≡ layout.size
+its_length layout =
+    length_weight layout.order (positions layout) ∙ length-walk layout.order layout.size layout.start
+
+raw_told : (bytes : ℕ) (c d : Coding) (ps qs : List ℕ) → AreBelow bytes ps → AreBelow bytes qs → 1 ≤ length ps
+    → 1 ≤ length qs → (c ≡ Signed → d ≡ Signed → length ps ≡ length qs) → SameRaw bytes c d ps qs
+    → AreToldSame c d ps qs
+raw_told bytes Unsigned Unsigned ps qs hp hq some_p some_q sizes same =
+    record { coding = refl; bits = lists_told bytes ps qs hp hq (λ payload is. whole_told _ _ (same payload is)) }
+raw_told bytes Single Single ps qs hp hq some_p some_q sizes same =
+    record { coding = refl; bits = lists_told bytes ps qs hp hq (λ payload is. single_told _ _ (same payload is)) }
+raw_told bytes Twofold Twofold ps qs hp hq some_p some_q sizes same =
+    record { coding = refl; bits = lists_told bytes ps qs hp hq (λ payload is. double_told _ _ (same payload is)) }
+raw_told bytes Signed Signed ps qs hp hq some_p some_q sizes same =
+    record {
+      coding = refl;
+      bits = signed_told bytes ps qs hp hq (sizes refl refl) (λ payload is. integer_told _ _ (same payload is));
+    }
+raw_told bytes Signed Unsigned ps qs hp hq some_p some_q sizes same =
+    absurd (mixed_told bytes ps qs hp some_p (λ payload is. integer_told _ _ (same payload is)))
+raw_told bytes Unsigned Signed ps qs hp hq some_p some_q sizes same =
+    absurd (mixed_told bytes qs ps hq some_q (λ payload is. sym (integer_told _ _ (same payload is))))
+raw_told bytes c d ps qs hp hq some_p some_q sizes same =
+    let e = same (one_bit bytes 0) (its_payload bytes 0) in cc e
+
+pub seen_read : SeenIsRead
+seen_read a b bytes ha hb inside_a inside_b sizes mux same =
+    let some_a : 1 ≤ length (by_weight a.layout) = subst (λ n. 1 ≤ n) (sym (its_length a.layout)) ha.layout.least in
+    let some_b : 1 ≤ length (by_weight b.layout) = subst (λ n. 1 ≤ n) (sym (its_length b.layout)) hb.layout.least in
+    let told = raw_told bytes (coding_of a) (coding_of b) (by_weight a.layout) (by_weight b.layout)
+    (are_below a.layout bytes inside_a) (are_below b.layout bytes inside_b) some_a some_b
+    (λ x y. its_length a.layout ∙ sizes x y ∙ sym (its_length b.layout))
+    (λ payload is. ap (λ (r : Reading). r.raw) (same payload is)) in
+    let once = same (one_bit bytes 0) (its_payload bytes 0) in
+    read_unseen a b (record {
+      bits = told.bits;
+      coding = told.coding;
+      mux = mux;
+      factor = ap (λ (r : Reading). r.factor) once;
+      offset = ap (λ (r : Reading). r.offset) once;
+    })

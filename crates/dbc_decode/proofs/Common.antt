@@ -1,13 +1,15 @@
 -- What several proofs use of other crates, passed on from one place.
 pub use Rattle.std.proofs.Common.{◌≡◌, ◌⊎◌, ◌∙◌, Bool, true, false, cond, ℕ, List, Option, Some, None, inl, inr, refl}
-pub use Rattle.std.proofs.Common.{sym, ap, subst, ◌==◌, length, Contains, not, ◌<◌, ◌+◌, ◌*◌, ◌^◌, [], ◌∷◌, arith, ◌++◌}
-pub use Rattle.std.proofs.Common.{◌≤◌}
+pub use Rattle.std.proofs.Common.{sym, ap, subst, ◌==◌, length, Contains, not, ◌<◌, ◌+◌, ◌*◌, ◌^◌, [], ◌∷◌, arith, ◌≢◌}
+pub use Rattle.std.proofs.Common.{◌-◌, suc, get_or, ◌++◌, ◌≤◌}
+pub use Rattle.std.proofs.Math.Nat.{pow-suc}
 pub use Rattle.std.proofs.lemmas.Bool.{and_from, cond-true, both_ways, eq-eqb, eqb-true, not-true, cases_Bool}
-pub use Rattle.std.proofs.lemmas.Bool.{true≢false, cond-false}
-pub use Rattle.std.proofs.lemmas.List.{length-reverse}
+pub use Rattle.std.proofs.lemmas.Bool.{true≢false, cond-false, le-ltb}
+pub use Rattle.std.proofs.lemmas.List.{length-reverse, get_or-reverse}
 pub use Rattle.std.specs.List.{find}
-pub use Rattle.std.specs.Prelude.{count_by, pos}
+pub use Rattle.std.specs.Prelude.{reverse, count_by, pos, ◌-ℤ◌, nat_lt}
 pub use Rattle.std.specs.Str.{bytes_eq}
+pub use Rattle.bitlayout.proofs.Walks.{length-walk}
 pub use Rattle.bitlayout.specs.Bits.{positions}
 pub use Rattle.bitlayout.specs.Mux.{is_multiplexor}
 pub use Rattle.bitlayout.specs.declared.layout.Layout.{Layout}

@@ -7,5 +7,6 @@ pub mod Positions
 pub mod NamedPartners
 pub mod Seen
 pub mod Signed
+pub mod Sizes
 pub mod SeenOnly
 mod Rows

@@ -1,13 +1,12 @@
 -- Lists of positions that write the same number in each payload are the same.
 use Rattle.dbc_decode.proofs.Common.{◌≡◌, ◌<◌, ◌+◌, ◌*◌, ◌^◌, ◌⊎◌, ◌∙◌, ◌==◌, ℕ, true, false, List, [], ◌∷◌, length}
-use Rattle.dbc_decode.proofs.Common.{inl, inr, refl, sym, ap, subst, Contains, arith, cases_Bool, eqb-true, eq-eqb}
-use Rattle.dbc_decode.proofs.Common.{true≢false, length-reverse, positions, Layout, Order, Intel, Motorola, In}
-use Rattle.dbc_decode.proofs.Common.{in_first, in_later, in_to}
-use Rattle.std.proofs.Common.{◌≢◌, ◌-◌, ◌/◌, ◌%◌, zero, suc, get_or, set, replicate}
-use Rattle.std.proofs.lemmas.List.{get_or-reverse, get_or-set_other, get_or-set_same, length-replicate, length-set}
+use Rattle.dbc_decode.proofs.Common.{inl, inr, refl, sym, ap, subst, Contains, arith, ◌≢◌, ◌-◌, suc, get_or, cases_Bool}
+use Rattle.dbc_decode.proofs.Common.{eqb-true, eq-eqb, true≢false, length-reverse, get_or-reverse, positions, Layout}
+use Rattle.dbc_decode.proofs.Common.{Order, Intel, Motorola, In, in_first, in_later, in_to, reverse}
+use Rattle.std.proofs.Common.{◌/◌, ◌%◌, zero, set, replicate}
+use Rattle.std.proofs.lemmas.List.{get_or-set_other, get_or-set_same, length-replicate, length-set}
 use Rattle.std.proofs.lemmas.List.Elements.{All-replicate, All-set}
 use Rattle.std.proofs.lemmas.Nat.Bits.{bit_at-pow_other, bit_at-pow_same}
-use Rattle.std.specs.Prelude.{reverse}
 use Rattle.std.specs.Int.{bit_at}
 use Rattle.bitlayout.specs.Bits.{IsInside}
 use Rattle.dbc_decode.specs.Decoding.{bits_number, by_weight, in_weight, payload_bit}
@@ -53,7 +52,7 @@ bit_set bytes p h =
 bit_of_zero : (i : ℕ) → bit_at 0 i ≡ 0
 bit_of_zero i = grind arith
 
-bit_clear : (bytes p q : ℕ) → p < 8 * bytes → q ≢ p → payload_bit (one_bit bytes p) q ≡ 0
+pub bit_clear : (bytes p q : ℕ) → p < 8 * bytes → q ≢ p → payload_bit (one_bit bytes p) q ≡ 0
 unfolding one_bit payload_bit
 bit_clear bytes p q h differs = by_byte (cases_Bool (q / 8 == p / 8))
   where

@@ -3,14 +3,13 @@ use Rattle.dbc_decode.proofs.Common.{◌≡◌, ◌⊎◌, ◌∙◌, Bool, true
 use Rattle.dbc_decode.proofs.Common.{subst, ◌≤◌, ◌++◌, length, pos, length-reverse, positions, Layout, Order, Intel}
 use Rattle.dbc_decode.proofs.Common.{Motorola, both_ways, cases_Bool, cond-false, cond-true, not-true, ValueType}
 use Rattle.dbc_decode.proofs.Common.{Integer, Float, Double, Signal, changes_between, Valued, signal_fields, Dec, Value}
-use Rattle.dbc_decode.proofs.Common.{same_value, value_text, Change, Field, In, in_from, value_decides}
+use Rattle.dbc_decode.proofs.Common.{same_value, value_text, Change, Field, In, in_from, value_decides, length-walk}
 use Rattle.std.proofs.lemmas.Bool.{false≢true}
 use Rattle.std.specs.Prelude.{ℤ}
 use Rattle.dbc_compare.specs.Differences.{field_changes}
 use Rattle.dbc_compare.specs.Fields.{meaning_fields, reading_fields, scale_fields, truth_word, type_word}
 use Rattle.dbc_compare.specs.Value.{Word}
 use Rattle.dbc_compare.proofs.Members.{none_if_empty, in_alone, in_either}
-use Rattle.bitlayout.proofs.Walks.{length-walk}
 use Rattle.bitlayout.specs.Mux.{indicator_of}
 use Rattle.dbc_compare.specs.declared.difference.Change.TheVariants as change
 use Rattle.dbc_decode.specs.Decoding.{Coding, Reading, Signed, Single, Twofold, Unsigned, Whole, OfSingle, OfDouble}
@@ -18,7 +17,8 @@ use Rattle.dbc_decode.specs.Decoding.{by_weight, coding_by, coding_of, in_weight
 use Rattle.dbc_decode.specs.Laws.{IsPayload}
 use Rattle.dbc_decode.specs.Marks.{ReadIsUnseen, ReadsAs, SeenIsRead, is_integer, is_seen, same_bits, sees}
 use Rattle.dbc_decode.proofs.Seen.{SeenSame, bits_decide}
-use Rattle.dbc_decode.proofs.Signed.{mixed_told, signed_told}
+use Rattle.dbc_decode.proofs.Signed.{SameSigned, mixed_told, signed_told}
+use Rattle.dbc_decode.proofs.Sizes.{AreApart, are_apart, sizes_told}
 use Rattle.dbc_decode.proofs.Positions.{AreBelow, are_below, its_payload, lists_told, one_bit}
 
 -- ---- types and the signs of integers are told by codings
@@ -145,35 +145,32 @@ its_length : (layout : Layout) → length (by_weight layout) ≡ layout.size
 its_length layout =
     length_weight layout.order (positions layout) ∙ length-walk layout.order layout.size layout.start
 
-raw_told : (bytes : ℕ) (c d : Coding) (ps qs : List ℕ) → AreBelow bytes ps → AreBelow bytes qs → 1 ≤ length ps
-    → 1 ≤ length qs → (c ≡ Signed → d ≡ Signed → length ps ≡ length qs) → SameRaw bytes c d ps qs
-    → AreToldSame c d ps qs
-raw_told bytes Unsigned Unsigned ps qs hp hq some_p some_q sizes same =
+raw_told : (bytes : ℕ) (c d : Coding) (ps qs : List ℕ) → AreBelow bytes ps → AreBelow bytes qs → AreApart ps
+    → AreApart qs → 1 ≤ length ps → 1 ≤ length qs → SameRaw bytes c d ps qs → AreToldSame c d ps qs
+raw_told bytes Unsigned Unsigned ps qs hp hq apart_p apart_q some_p some_q same =
     record { coding = refl; bits = lists_told bytes ps qs hp hq (λ payload is. whole_told _ _ (same payload is)) }
-raw_told bytes Single Single ps qs hp hq some_p some_q sizes same =
+raw_told bytes Single Single ps qs hp hq apart_p apart_q some_p some_q same =
     record { coding = refl; bits = lists_told bytes ps qs hp hq (λ payload is. single_told _ _ (same payload is)) }
-raw_told bytes Twofold Twofold ps qs hp hq some_p some_q sizes same =
+raw_told bytes Twofold Twofold ps qs hp hq apart_p apart_q some_p some_q same =
     record { coding = refl; bits = lists_told bytes ps qs hp hq (λ payload is. double_told _ _ (same payload is)) }
-raw_told bytes Signed Signed ps qs hp hq some_p some_q sizes same =
-    record {
-      coding = refl;
-      bits = signed_told bytes ps qs hp hq (sizes refl refl) (λ payload is. integer_told _ _ (same payload is));
-    }
-raw_told bytes Signed Unsigned ps qs hp hq some_p some_q sizes same =
+raw_told bytes Signed Signed ps qs hp hq apart_p apart_q some_p some_q same =
+    let whole : SameSigned bytes ps qs = λ payload is. integer_told _ _ (same payload is) in
+    let sizes : length ps ≡ length qs = sizes_told bytes ps qs hp hq apart_p apart_q whole in
+    record { coding = refl; bits = signed_told bytes ps qs hp hq sizes whole }
+raw_told bytes Signed Unsigned ps qs hp hq apart_p apart_q some_p some_q same =
     absurd (mixed_told bytes ps qs hp some_p (λ payload is. integer_told _ _ (same payload is)))
-raw_told bytes Unsigned Signed ps qs hp hq some_p some_q sizes same =
+raw_told bytes Unsigned Signed ps qs hp hq apart_p apart_q some_p some_q same =
     absurd (mixed_told bytes qs ps hq some_q (λ payload is. sym (integer_told _ _ (same payload is))))
-raw_told bytes c d ps qs hp hq some_p some_q sizes same =
+raw_told bytes c d ps qs hp hq apart_p apart_q some_p some_q same =
     let e = same (one_bit bytes 0) (its_payload bytes 0) in cc e
 
 pub seen_read : SeenIsRead
-seen_read a b bytes ha hb inside_a inside_b sizes mux same =
+seen_read a b bytes ha hb inside_a inside_b mux same =
     let some_a : 1 ≤ length (by_weight a.layout) = subst (λ n. 1 ≤ n) (sym (its_length a.layout)) ha.layout.least in
     let some_b : 1 ≤ length (by_weight b.layout) = subst (λ n. 1 ≤ n) (sym (its_length b.layout)) hb.layout.least in
     let told = raw_told bytes (coding_of a) (coding_of b) (by_weight a.layout) (by_weight b.layout)
-    (are_below a.layout bytes inside_a) (are_below b.layout bytes inside_b) some_a some_b
-    (λ x y. its_length a.layout ∙ sizes x y ∙ sym (its_length b.layout))
-    (λ payload is. ap (λ (r : Reading). r.raw) (same payload is)) in
+    (are_below a.layout bytes inside_a) (are_below b.layout bytes inside_b) (are_apart a.layout) (are_apart b.layout)
+    some_a some_b (λ payload is. ap (λ (r : Reading). r.raw) (same payload is)) in
     let once = same (one_bit bytes 0) (its_payload bytes 0) in
     read_unseen a b (record {
       bits = told.bits;

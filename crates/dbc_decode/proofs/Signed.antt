@@ -1,16 +1,14 @@
 -- Signed integers of one size that are read alike from each payload have the same positions.
 use Rattle.dbc_decode.proofs.Common.{◌≡◌, ◌<◌, ◌+◌, ◌*◌, ◌^◌, ◌∙◌, ℕ, Bool, true, false, cond, List, [], ◌∷◌, length}
-use Rattle.dbc_decode.proofs.Common.{sym, ap, subst, arith, ◌≤◌, refl, pos, cond-false, In, in_first, in_later}
-use Rattle.std.proofs.Math.Nat.{pow-suc}
-use Rattle.std.proofs.Math.IntN.{◌+ℤ◌, -ℤ-+ℤ_cancel}
+use Rattle.dbc_decode.proofs.Common.{sym, ap, subst, arith, ◌≤◌, refl, pos, ◌-ℤ◌, nat_lt, cond-false, le-ltb, In}
+use Rattle.dbc_decode.proofs.Common.{in_first, in_later, pow-suc}
+use Rattle.std.proofs.Math.IntN.{◌+ℤ◌, +ℤ_assoc, +ℤ_comm, -ℤ-+ℤ_cancel}
 use Rattle.std.proofs.lemmas.Nat.Bits.{bit_at-lt}
-use Rattle.std.proofs.lemmas.Bool.{le-ltb}
-use Rattle.std.specs.Prelude.{◌-ℤ◌, nat_lt}
 use Rattle.dbc_decode.specs.Decoding.{bits_number, payload_bit, twos_complement}
 use Rattle.dbc_decode.specs.Laws.{IsPayload}
 use Rattle.dbc_decode.proofs.Positions.{AreBelow, bit_set, its_payload, lists_told, one_bit}
 
-bit_small : (payload : List ℕ) (p : ℕ) → payload_bit payload p < 2
+pub bit_small : (payload : List ℕ) (p : ℕ) → payload_bit payload p < 2
 unfolding payload_bit
 bit_small payload p = bit_at-lt _ _
 
@@ -26,12 +24,18 @@ number_small payload (p ∷ ps) =
 pos_told : (m n : ℕ) → pos m ≡ pos n → m ≡ n
 pos_told m n e = cc
 
-both_less : (n m k : ℕ) → pos n -ℤ pos k ≡ pos m -ℤ pos k → n ≡ m
-both_less n m k e =
-    pos_told n m
-    (sym (-ℤ-+ℤ_cancel (pos n) (pos k)) ∙ ap (λ z. z +ℤ pos k) e ∙ -ℤ-+ℤ_cancel (pos m) (pos k))
+pub less_told : (n m j k : ℕ) → pos n -ℤ pos j ≡ pos m -ℤ pos k → n + k ≡ m + j
+less_told n m j k e =
+    let x = pos n -ℤ pos j in
+    pos_told (n + k) (m + j)
+    (ap (λ z. z +ℤ pos k) (sym (-ℤ-+ℤ_cancel (pos n) (pos j)))
+    ∙ +ℤ_assoc x (pos j) (pos k)
+    ∙ ap (λ z. x +ℤ z) (+ℤ_comm (pos j) (pos k))
+    ∙ sym (+ℤ_assoc x (pos k) (pos j))
+    ∙ ap (λ z. (z +ℤ pos k) +ℤ pos j) e
+    ∙ ap (λ z. z +ℤ pos j) (-ℤ-+ℤ_cancel (pos m) (pos k)))
 
-one_less : (n m k : ℕ) → m < k → pos n ≡ pos m -ℤ pos k → ⊥
+pub one_less : (n m k : ℕ) → m < k → pos n ≡ pos m -ℤ pos k → ⊥
 one_less n m k below e =
     let sums : pos (n + k) ≡ pos m = ap (λ z. z +ℤ pos k) e ∙ -ℤ-+ℤ_cancel (pos m) (pos k) in
     let same : n + k ≡ m = pos_told (n + k) m sums in
@@ -40,7 +44,7 @@ one_less n m k below e =
 complement_by : (b c : Bool) (n m k : ℕ) → n < k → m < k
     → cond b (pos n) (pos n -ℤ pos k) ≡ cond c (pos m) (pos m -ℤ pos k) → n ≡ m
 complement_by true true n m k hn hm e = pos_told n m e
-complement_by false false n m k hn hm e = both_less n m k e
+complement_by false false n m k hn hm e = omega (arith, less_told n m k k e)
 complement_by true false n m k hn hm e = absurd (one_less n m k hm e)
 complement_by false true n m k hn hm e = absurd (one_less m n k hn (sym e))
 
@@ -63,15 +67,15 @@ signed_told bytes ps qs hp hq sizes same =
 
 -- ---- beside an unsigned integer: the top bit makes it negative
 
-abbrev last : ℕ → List ℕ → ℕ
+abbrev pub last : ℕ → List ℕ → ℕ
 last p [] = p
 last p (q ∷ qs) = last q qs
 
-last_in : (p : ℕ) (ps : List ℕ) → In (last p ps) (p ∷ ps)
+pub last_in : (p : ℕ) (ps : List ℕ) → In (last p ps) (p ∷ ps)
 last_in p [] = in_first p p [] refl
 last_in p (q ∷ qs) = in_later (last q qs) p (q ∷ qs) (last_in q qs)
 
-top_set : (payload : List ℕ) (p : ℕ) (ps : List ℕ) → payload_bit payload (last p ps) ≡ 1
+pub top_set : (payload : List ℕ) (p : ℕ) (ps : List ℕ) → payload_bit payload (last p ps) ≡ 1
     → 2 ^ length (p ∷ ps) ≤ 2 * bits_number payload (p ∷ ps)
 unfolding bits_number
 top_set payload p [] e =

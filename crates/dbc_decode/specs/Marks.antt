@@ -15,7 +15,7 @@ use Rattle.dbc_compare.specs.declared.difference.Change.{Change}
 use Rattle.dbc_compare.specs.declared.difference.Change.TheVariants as change
 use Rattle.dbc_compare.specs.declared.field.Field.{Field}
 use Rattle.dbc_compare.specs.declared.field.Field.TheVariants as field
-use Rattle.dbc_decode.specs.Decoding.{Signed, by_weight, coding_of, reading}
+use Rattle.dbc_decode.specs.Decoding.{by_weight, coding_of, reading}
 use Rattle.dbc_decode.specs.Laws.{IsPayload}
 
 -- the same positions, from the least significant bit on
@@ -69,11 +69,11 @@ ReadIsUnseen =
     (a b : Signal) → ReadsAs a b
     → (c : Change) → Contains (changes_between (signal_fields a) (signal_fields b)) c → sees a b c ≡ false
 
--- Signals inside a payload that are read alike from each payload and are there for the same values of the multiplexor,
--- where signed integers have one size: no change of them is seen. So a change that is seen is read from some payload.
+-- Signals inside a payload that are read alike from each payload and are there for the same values of the multiplexor:
+-- no change of them is seen. So a change that is seen is read from some payload.
 abbrev pub SeenIsRead : Type 0
 SeenIsRead =
     (a b : Signal) (bytes : ℕ) → IsSignal a → IsSignal b → IsInside a.layout bytes → IsInside b.layout bytes
-    → (coding_of a ≡ Signed → coding_of b ≡ Signed → a.layout.size ≡ b.layout.size) → a.mux ≡ b.mux
+    → a.mux ≡ b.mux
     → ((payload : List ℕ) → IsPayload bytes payload → reading payload a ≡ reading payload b)
     → (c : Change) → Contains (changes_between (signal_fields a) (signal_fields b)) c → sees a b c ≡ false

@@ -31,8 +31,8 @@ pub fn unmarked_sheets_are_read_by_name(old: &Sheet, new: &Sheet)
     sheets_are_well_formed(new);
 }
 
-/// Signals of which no change is seen are read alike; and of signals that are read alike, and have one size where both
-/// are signed integers, none is seen. The function does nothing.
+/// Signals of which no change is seen are read alike, and of signals that are read alike no change is seen. The
+/// function does nothing.
 pub fn seen_changes_are_read()
     ensures unseen { UnseenIsRead }
     ensures same { ReadIsUnseen }

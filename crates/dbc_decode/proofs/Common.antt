@@ -26,9 +26,9 @@ pub use Rattle.dbc_compare.specs.Differences.{changes_between, differences}
 pub use Rattle.dbc_compare.specs.Fields.{message_fields, Valued, signal_fields}
 pub use Rattle.dbc_compare.specs.List.{breaks}
 pub use Rattle.dbc_compare.specs.Value.{Value, same_value, value_text, Dec}
-pub use Rattle.dbc_compare.specs.declared.difference.Change.{Change}
+pub use Rattle.dbc_compare.specs.declared.difference.Alteration.{Alteration}
 pub use Rattle.dbc_compare.specs.declared.difference.Difference.{Difference}
-pub use Rattle.dbc_compare.specs.declared.field.Field.{Field}
+pub use Rattle.dbc_compare.specs.declared.field.SheetField.{SheetField}
 pub use Rattle.dbc_sheet.specs.Form.{IsSheet, IsSignal}
 pub use Rattle.dbc_sheet.specs.Messages.{IsClearMessage, number_of, AreMessages}
 pub use Rattle.dbc_sheet.specs.Signals.{signal_is_multiplexor}

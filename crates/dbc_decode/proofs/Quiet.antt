@@ -2,8 +2,8 @@
 use Rattle.dbc_decode.proofs.Common.{◌≡◌, ◌++◌, ◌⊎◌, ◌∙◌, Bool, true, false, cond, not, ℕ, List, [], ◌∷◌, Option, Some}
 use Rattle.dbc_decode.proofs.Common.{None, inl, inr, refl, sym, ap, subst, ◌==◌, bytes_eq, both_ways, cases_Bool}
 use Rattle.dbc_decode.proofs.Common.{cond-false, eq-eqb, has_name, thing_named, none_found, changes_between}
-use Rattle.dbc_decode.proofs.Common.{differences, Valued, breaks, Value, same_value, value_text, Change, Difference}
-use Rattle.dbc_decode.proofs.Common.{Field, In, in_first, in_left, in_map, in_right, all_in, in_from, found_named}
+use Rattle.dbc_decode.proofs.Common.{differences, Valued, breaks, Value, same_value, value_text, Alteration, Difference}
+use Rattle.dbc_decode.proofs.Common.{SheetField, In, in_first, in_left, in_map, in_right, all_in, in_from, found_named}
 use Rattle.dbc_decode.proofs.Common.{found_self, value_decides, count_by, Sheet}
 use Rattle.std.proofs.lemmas.List.Folds.{sum_by-zero}
 use Rattle.std.proofs.lemmas.List.Sums.{AllPass-from_list_all}
@@ -14,8 +14,8 @@ use Rattle.dbc_compare.specs.Differences.{shown_thing, thing_differences}
 use Rattle.dbc_compare.specs.Fields.{breaks_receivers}
 use Rattle.dbc_compare.specs.List.{is_breaking}
 use Rattle.dbc_compare.proofs.Members.{in_flat}
-use Rattle.dbc_compare.specs.declared.difference.Change.TheVariants as change
-use Rattle.dbc_compare.specs.declared.place.Place.{Place}
+use Rattle.dbc_compare.specs.declared.difference.Alteration.TheVariants as change
+use Rattle.dbc_compare.specs.declared.place.Region.{Region}
 use Rattle.dbc_decode.specs.Laws.{BreakingNone}
 
 -- ---- lists
@@ -23,8 +23,8 @@ use Rattle.dbc_decode.specs.Laws.{BreakingNone}
 abbrev pub Quiet : List Difference → Type 0
 Quiet ds = (d : Difference) → In d ds → breaks d ≡ false
 
-abbrev pub QuietChanges : Place → List Change → Type 0
-QuietChanges here cs = (c : Change) → In c cs → is_breaking here c ≡ false
+abbrev pub QuietChanges : Region → List Alteration → Type 0
+QuietChanges here cs = (c : Alteration) → In c cs → is_breaking here c ≡ false
 
 pub quiet_left : (xs ys : List Difference) → Quiet (xs ++ ys) → Quiet xs
 quiet_left xs ys quiet d h = quiet d (in_left xs ys d h)
@@ -36,13 +36,13 @@ pub quiet_each : {A : Type 0} (f : A → List Difference) (xs : List A) → Quie
     → Quiet (f x)
 quiet_each f xs quiet x h d k = quiet d (in_flat f xs x d h k)
 
-pub quiet_about : (here : Place) (name : Option (List ℕ)) (cs : List Change)
+pub quiet_about : (here : Region) (name : Option (List ℕ)) (cs : List Alteration)
     → Quiet (differences_about here name cs)
     → QuietChanges here cs
 unfolding differences_about
 quiet_about here name cs quiet c h =
     quiet (record { place = here; name = name; change = c })
-    (in_map (λ (x : Change). record { place = here; name = name; change = x }) cs c h)
+    (in_map (λ (x : Alteration). record { place = here; name = name; change = x }) cs c h)
 
 uncounted : (b : Bool) → (cond b 1 0 == 0) ≡ true → b ≡ false
 uncounted true e = cc e
@@ -61,14 +61,14 @@ breaking_none old new e d h =
 
 -- ---- fields
 
-field_quiet : (here : Place) (f : Field) (x y : Value) → QuietChanges here (field_changes f x y)
-    → ((c : Change) → is_breaking here c ≡ false → c ≡ change.Changed f (value_text x) (value_text y)
+field_quiet : (here : Region) (f : SheetField) (x y : Value) → QuietChanges here (field_changes f x y)
+    → ((c : Alteration) → is_breaking here c ≡ false → c ≡ change.Changed f (value_text x) (value_text y)
     → breaks_receivers f ≡ false)
     → breaks_receivers f ≡ true → x ≡ y
 unfolding field_changes
 field_quiet here f x y quiet tells breaking = by_test (cases_Bool (same_value x y))
   where
-    told : Change
+    told : Alteration
     told = change.Changed f (value_text x) (value_text y)
 
     by_test : (same_value x y ≡ true) ⊎ (same_value x y ≡ false) → x ≡ y
@@ -85,10 +85,10 @@ AllQuiet (x ∷ xs) [] = Unit {0}
 AllQuiet (x ∷ xs) (y ∷ ys) = (breaks_receivers x.0 ≡ true → x.1 ≡ y.1) × AllQuiet xs ys
 
 -- a field's change is marked by its field
-abbrev pub MarksFields : Place → Type 0
-MarksFields here = (f : Field) (a b : List ℕ) → is_breaking here (change.Changed f a b) ≡ breaks_receivers f
+abbrev pub MarksFields : Region → Type 0
+MarksFields here = (f : SheetField) (a b : List ℕ) → is_breaking here (change.Changed f a b) ≡ breaks_receivers f
 
-pub fields_quiet : (here : Place) → MarksFields here → (xs ys : List Valued)
+pub fields_quiet : (here : Region) → MarksFields here → (xs ys : List Valued)
     → QuietChanges here (changes_between xs ys)
     → AllQuiet xs ys
 fields_quiet here marks [] ys quiet = tt
@@ -108,7 +108,7 @@ found_if_any name xs n has None e =
     absurd (both_ways (has_name name xs n) (none_found (λ a. bytes_eq (name a) n) xs e) has)
 found_if_any name xs n has (Some x) e = (x, e)
 
-not_gone : (here : Place) (b : Bool) → is_breaking here change.Removed ≡ true
+not_gone : (here : Region) (b : Bool) → is_breaking here change.Removed ≡ true
     → QuietChanges here (change_if (not b) change.Removed) → b ≡ true
 not_gone here true removed quiet = refl
 not_gone here false removed quiet =
@@ -117,7 +117,7 @@ not_gone here false removed quiet =
 
 module _ {A : Type 0} (name : A → List ℕ) (fields : A → List Valued) where
   -- each thing of the old list is in the new one, and has not changed in what a receiver goes by
-  pub things_quiet : (here : Place) → MarksFields here → is_breaking here change.Removed ≡ true → (old new : List A)
+  pub things_quiet : (here : Region) → MarksFields here → is_breaking here change.Removed ≡ true → (old new : List A)
       → AreNamedApart name old
       → Quiet (thing_differences here name fields old new) → (x : A) → In x old
       → (y : A) × In y new × (name y ≡ name x) × AllQuiet (fields x) (fields y)

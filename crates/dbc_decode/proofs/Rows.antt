@@ -9,7 +9,7 @@ use Rattle.bitlayout.specs.Bits.{walk}
 use Rattle.can_id.specs.declared.ident.Ident.TheVariants.{Ext, Std}
 use Rattle.decimal.specs.Number.{Number}
 use Rattle.dbc_sheet.specs.Sheet.{empty_sheet}
-use Rattle.dbc_compare.specs.declared.field.Field.TheVariants as field
+use Rattle.dbc_compare.specs.declared.field.SheetField.TheVariants as field
 use Rattle.dbc_decode.specs.ByName.{named_differences, named_partner}
 use Rattle.dbc_decode.specs.Marks.{is_seen}
 use Rattle.dbc_decode.specs.Decoding.{Decoded, Whole, bits_number, by_weight, decode, Signed, payload_bit, raw_by, read}

@@ -2,13 +2,13 @@
 use Rattle.dbc_decode.proofs.Common.{◌≡◌, ◌⊎◌, Bool, true, false, cond, not, List, [], ◌∷◌, inl, inr, refl, sym, ap}
 use Rattle.dbc_decode.proofs.Common.{subst, both_ways, cases_Bool, cond-false, Layout, ValueType, Integer, Float}
 use Rattle.dbc_decode.proofs.Common.{Double, IsSignal, Signal, changes_between, Valued, signal_fields, Dec, Value}
-use Rattle.dbc_decode.proofs.Common.{same_value, value_text, Change, Field, mux_told, order_told, truth_told, type_told}
+use Rattle.dbc_decode.proofs.Common.{same_value, value_text, Alteration, SheetField, mux_told, order_told, truth_told, type_told}
 use Rattle.dbc_decode.proofs.Common.{whole_is, word_is, In, in_first, in_left, in_right, in_to, value_decides}
 use Rattle.std.proofs.lemmas.Bool.Decides.{Decides-eqb}
 use Rattle.std.proofs.lemmas.Slice.Eq.{slice_eq-Decides}
 use Rattle.std.specs.Bool.{Decides}
 use Rattle.dbc_compare.specs.Differences.{field_changes}
-use Rattle.dbc_compare.specs.declared.difference.Change.TheVariants as change
+use Rattle.dbc_compare.specs.declared.difference.Alteration.TheVariants as change
 use Rattle.dbc_decode.specs.Decoding.{by_weight, coding_by}
 use Rattle.dbc_decode.specs.Marks.{ReadsAs, UnseenIsRead, is_integer, is_seen, same_bits, sees}
 use Rattle.dbc_decode.proofs.Alike.{reading_alike}
@@ -17,12 +17,12 @@ pub bits_decide : (a b : Layout) → Decides (same_bits a b) (by_weight a ≡ by
 bits_decide a b = slice_eq-Decides Decides-eqb (by_weight a) (by_weight b) (same_bits a b) refl
 
 module _ (a b : Signal) where
-  field_unseen : (f : Field) (x y : Value) → ((c : Change) → In c (field_changes f x y) → sees a b c ≡ false)
+  field_unseen : (f : SheetField) (x y : Value) → ((c : Alteration) → In c (field_changes f x y) → sees a b c ≡ false)
       → is_seen a b f ≡ true → x ≡ y
   unfolding field_changes
   field_unseen f x y unseen seen = by_test (cases_Bool (same_value x y))
     where
-      told : Change
+      told : Alteration
       told = change.Changed f (value_text x) (value_text y)
 
       by_test : (same_value x y ≡ true) ⊎ (same_value x y ≡ false) → x ≡ y
@@ -38,7 +38,7 @@ module _ (a b : Signal) where
   SeenSame (x ∷ xs) [] = Unit {0}
   SeenSame (x ∷ xs) (y ∷ ys) = (is_seen a b x.0 ≡ true → x.1 ≡ y.1) × SeenSame xs ys
 
-  fields_unseen : (xs ys : List Valued) → ((c : Change) → In c (changes_between xs ys) → sees a b c ≡ false)
+  fields_unseen : (xs ys : List Valued) → ((c : Alteration) → In c (changes_between xs ys) → sees a b c ≡ false)
       → SeenSame xs ys
   fields_unseen [] ys unseen = tt
   fields_unseen (x ∷ xs) [] unseen = tt

@@ -3,7 +3,7 @@ use Rattle.dbc_decode.proofs.Common.{◌≡◌, ◌⊎◌, ◌∙◌, Bool, true
 use Rattle.dbc_decode.proofs.Common.{subst, ◌≤◌, ◌++◌, length, pos, length-reverse, positions, Layout, Order, Intel}
 use Rattle.dbc_decode.proofs.Common.{Motorola, both_ways, cases_Bool, cond-false, cond-true, not-true, ValueType}
 use Rattle.dbc_decode.proofs.Common.{Integer, Float, Double, Signal, changes_between, Valued, signal_fields, Dec, Value}
-use Rattle.dbc_decode.proofs.Common.{same_value, value_text, Change, Field, In, in_from, value_decides, length-walk}
+use Rattle.dbc_decode.proofs.Common.{same_value, value_text, Alteration, SheetField, In, in_from, value_decides, length-walk}
 use Rattle.std.proofs.lemmas.Bool.{false≢true}
 use Rattle.std.specs.Prelude.{ℤ}
 use Rattle.dbc_compare.specs.Differences.{field_changes}
@@ -11,7 +11,7 @@ use Rattle.dbc_compare.specs.Fields.{meaning_fields, reading_fields, scale_field
 use Rattle.dbc_compare.specs.Value.{Word}
 use Rattle.dbc_compare.proofs.Members.{none_if_empty, in_alone, in_either}
 use Rattle.bitlayout.specs.Mux.{indicator_of}
-use Rattle.dbc_compare.specs.declared.difference.Change.TheVariants as change
+use Rattle.dbc_compare.specs.declared.difference.Alteration.TheVariants as change
 use Rattle.dbc_decode.specs.Decoding.{Coding, Reading, Signed, Single, Twofold, Unsigned, Whole, OfSingle, OfDouble}
 use Rattle.dbc_decode.specs.Decoding.{by_weight, coding_by, coding_of, in_weight, raw_by}
 use Rattle.dbc_decode.specs.Laws.{IsPayload}
@@ -55,12 +55,12 @@ sign_coded t u x y e i =
 -- ---- no change is seen
 
 module _ (a b : Signal) where
-  seen_only : (f : Field) (x y : Value) → (is_seen a b f ≡ true → x ≡ y) → (c : Change) → In c (field_changes f x y)
+  seen_only : (f : SheetField) (x y : Value) → (is_seen a b f ≡ true → x ≡ y) → (c : Alteration) → In c (field_changes f x y)
       → sees a b c ≡ false
   unfolding field_changes
   seen_only f x y same c h = by_test (cases_Bool (same_value x y))
     where
-      told : Change
+      told : Alteration
       told = change.Changed f (value_text x) (value_text y)
 
       by_seen : same_value x y ≡ false → (is_seen a b f ≡ true) ⊎ (is_seen a b f ≡ false) → is_seen a b f ≡ false
@@ -76,7 +76,7 @@ module _ (a b : Signal) where
           (subst (λ cs. In c cs) (cond-false (same_value x y) [] (told ∷ []) n) h) in
           ap (sees a b) it ∙ by_seen n (cases_Bool (is_seen a b f))
 
-  none_seen : (xs ys : List Valued) → SeenSame a b xs ys → (c : Change) → In c (changes_between xs ys)
+  none_seen : (xs ys : List Valued) → SeenSame a b xs ys → (c : Alteration) → In c (changes_between xs ys)
       → sees a b c ≡ false
   none_seen [] ys same c h = absurd (none_if_empty [] refl c h)
   none_seen (x ∷ xs) [] same c h = absurd (none_if_empty [] refl c h)

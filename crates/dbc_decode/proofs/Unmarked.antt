@@ -20,8 +20,8 @@ use Rattle.bitlayout.specs.declared.place.Place.{Place}
 use Rattle.dbc_sheet.specs.Signal.{place_of}
 use Rattle.dbc_sheet.specs.Sheet.{node_name, table_name}
 use Rattle.dbc_sheet.specs.Pairs.{partner}
-use Rattle.dbc_compare.specs.declared.difference.Change.TheVariants as change
-use Rattle.dbc_compare.specs.declared.place.Place.TheVariants as place
+use Rattle.dbc_compare.specs.declared.difference.Alteration.TheVariants as change
+use Rattle.dbc_compare.specs.declared.place.Region.TheVariants as place
 use Rattle.dbc_compare.proofs.PartnersBack.{partner_back, partner_in}
 use Rattle.dbc_decode.specs.Decoding.{Reading, by_weight, chosen, coding_by, pattern_in, read}
 use Rattle.dbc_decode.specs.Laws.{IsReadAs, Serves, UnmarkedIsRead}

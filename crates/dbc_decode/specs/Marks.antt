@@ -11,10 +11,10 @@ use Rattle.dbc_sheet.specs.Form.{IsSignal}
 use Rattle.dbc_sheet.specs.declared.signal.Signal.{Signal}
 use Rattle.dbc_compare.specs.Differences.{changes_between}
 use Rattle.dbc_compare.specs.Fields.{signal_fields}
-use Rattle.dbc_compare.specs.declared.difference.Change.{Change}
-use Rattle.dbc_compare.specs.declared.difference.Change.TheVariants as change
-use Rattle.dbc_compare.specs.declared.field.Field.{Field}
-use Rattle.dbc_compare.specs.declared.field.Field.TheVariants as field
+use Rattle.dbc_compare.specs.declared.difference.Alteration.{Alteration}
+use Rattle.dbc_compare.specs.declared.difference.Alteration.TheVariants as change
+use Rattle.dbc_compare.specs.declared.field.SheetField.{SheetField}
+use Rattle.dbc_compare.specs.declared.field.SheetField.TheVariants as field
 use Rattle.dbc_decode.specs.Decoding.{by_weight, coding_of, reading}
 use Rattle.dbc_decode.specs.Laws.{IsPayload}
 
@@ -28,7 +28,7 @@ is_integer t = false
 
 -- Whether a receiver of the old signal sees that the field has changed: start, size and order where the bits are
 -- others, the sign of an integer, and type, multiplexor, factor and offset always.
-abbrev pub is_seen : Signal → Signal → Field → Bool
+abbrev pub is_seen : Signal → Signal → SheetField → Bool
 is_seen a b field.Start = not (same_bits a.layout b.layout)
 is_seen a b field.Size = not (same_bits a.layout b.layout)
 is_seen a b field.Order = not (same_bits a.layout b.layout)
@@ -39,7 +39,7 @@ is_seen a b field.Factor = true
 is_seen a b field.Offset = true
 is_seen a b f = false
 
-abbrev pub sees : Signal → Signal → Change → Bool
+abbrev pub sees : Signal → Signal → Alteration → Bool
 sees a b (change.Changed f old new) = is_seen a b f
 sees a b c = false
 
@@ -60,14 +60,14 @@ pub record AreReadAlike (a b : Signal) : Type 0 where
 abbrev pub UnseenIsRead : Type 0
 UnseenIsRead =
     (a b : Signal) → IsSignal a → IsSignal b
-    → ((c : Change) → Contains (changes_between (signal_fields a) (signal_fields b)) c → sees a b c ≡ false)
+    → ((c : Alteration) → Contains (changes_between (signal_fields a) (signal_fields b)) c → sees a b c ≡ false)
     → AreReadAlike a b
 
 -- and where they are the same to a receiver, none is seen
 abbrev pub ReadIsUnseen : Type 0
 ReadIsUnseen =
     (a b : Signal) → ReadsAs a b
-    → (c : Change) → Contains (changes_between (signal_fields a) (signal_fields b)) c → sees a b c ≡ false
+    → (c : Alteration) → Contains (changes_between (signal_fields a) (signal_fields b)) c → sees a b c ≡ false
 
 -- Signals inside a payload that are read alike from each payload and are there for the same values of the multiplexor:
 -- no change of them is seen. So a change that is seen is read from some payload.
@@ -76,4 +76,4 @@ SeenIsRead =
     (a b : Signal) (bytes : ℕ) → IsSignal a → IsSignal b → IsInside a.layout bytes → IsInside b.layout bytes
     → a.mux ≡ b.mux
     → ((payload : List ℕ) → IsPayload bytes payload → reading payload a ≡ reading payload b)
-    → (c : Change) → Contains (changes_between (signal_fields a) (signal_fields b)) c → sees a b c ≡ false
+    → (c : Alteration) → Contains (changes_between (signal_fields a) (signal_fields b)) c → sees a b c ≡ false

@@ -11,7 +11,10 @@ ghost use Rattle.dbc_sheet.specs.WellFormed.{AreFewTexts};
 ghost use Rattle.dbc_lex.specs.declared.fault.ReadCode.TheVariants.{TooMany};
 ghost use Rattle.dbc_read.specs.Built.{CanBeSheet};
 ghost use Rattle.dbc_read.specs.Described.{described};
-ghost use Rattle.dbc_read.specs.Faults.{AreDefined, AreMessageLines, AreNamedWithin, AreNumbered, AreSignalLines, HaveOneMultiplexor, HaveSignalLines, IsEntriesFault, IsFault, IsFaultAt, IsFaultOfDefinitions, IsFaultOfMessages, IsFaultOfSignals, IsMultiplexorFault, IsNameRefused, IsNumberFault, IsSignalsFault, entries_of};
+ghost use Rattle.dbc_read.specs.Faults.{AreDefined, AreMessageLines, AreNamedWithin, AreNumbered, AreSignalLines};
+ghost use Rattle.dbc_read.specs.Faults.{HaveOneMultiplexor, HaveSignalLines, IsEntriesFault, IsFault, IsFaultAt};
+ghost use Rattle.dbc_read.specs.Faults.{IsFaultOfDefinitions, IsFaultOfMessages, IsFaultOfSignals};
+ghost use Rattle.dbc_read.specs.Faults.{IsMultiplexorFault, IsNameRefused, IsNumberFault, IsSignalsFault, entries_of};
 
 use crate::described::{DescribedSignal, described_signals};
 use crate::gathered::Gathered;

@@ -1,6 +1,6 @@
 -- What the text that makes a table makes of a database.
 use Rattle.store_tables.proofs.Common.{◌≡◌, ℕ, List, [], ◌∷◌, ◌++◌, false, None, Ok, Err, Result, refl, sym, ap}
-use Rattle.store_tables.proofs.Common.{subst, ◌∙◌, inl, inr, IsTrue, OnOk, unwrap_or, AllByRecursion, cases_Bool}
+use Rattle.store_tables.proofs.Common.{subst, ◌∙◌, inl, inr, IsTrue, OnOk, AllByRecursion, cases_Bool}
 use Rattle.store_tables.proofs.Common.{Error, SqliteFailure, TransactionState, Table, Trees, Schema}
 use Rattle.store_tables.proofs.Common.{created, next_tree, KeepsRows, Database, Tally, State, Executes, ExecutesInside}
 use Rattle.store_tables.proofs.Common.{IsSound, runs_as, IsShaped}
@@ -17,6 +17,7 @@ use Rattle.std.specs.Prelude.{◌≢◌}
 use Rattle.sqlite_trees.specs.declared.store.Shape.TheVariants as shape
 use Rattle.store_tables.specs.Tables.{AreNumbered, IsEmptyWith}
 use Rattle.store_tables.specs.Statements.{AreMade, IsTableAdded, IsAt, IsEmptyOffice}
+use Rattle.std.proofs.lemmas.Result.{on_ok_weaker}
 use Rattle.store_tables.proofs.Inserting.{went, same_value}
 
 all_then : {X : Type 0} (P : X → Type 0) (xs : List X) (x : X) → AllByRecursion P xs → P x
@@ -28,53 +29,6 @@ still_empty : (old new : Trees) (tables : List Table) → AllByRecursion (λ t. 
     → AllByRecursion (λ t. old t.tree ≡ []) tables → AllByRecursion (λ t. new t.tree ≡ []) tables
 still_empty old new [] same empty = tt
 still_empty old new (t ∷ tables) same empty = (same.0 ∙ empty.0, still_empty old new tables same.1 empty.1)
-
--- what the text of a CREATE TABLE means under a schema
-made : (schema : Schema) (sql : List ℕ) (table : Table) → Defines schema sql table → (old new : State) (count : ℕ)
-    → old.now.schema ≡ schema → AllByRecursion (λ (t : Table). old.now.trees t.tree ≡ []) schema.tables
-    → Executes sql [] old new (Ok count) → IsEmptyWith (created schema table) new.now
-    × IsSound (created schema table) new.now.trees × (count ≡ 0)
-made schema sql table it old new count has none h =
-    let w = subst (λ t. Runs old new None CreateTable t [] count) it.whole
-    (runs_as sql [] old new schema has CreateTable it.command it.plain count h) in
-    let all = went w.changed in
-    let first = went all.1 in
-    let made = first.1 in
-    let both : Ok made.table ≡ Ok table = sym made.defined ∙ it.defined in
-    let same : made.table ≡ table = cc in
-    let after : first.0.schema ≡ created schema table = made.is ∙ ap (λ s. created s made.table) has
-    ∙ ap (created schema) same in
-    let plain : lacks_sequence first.0.schema ≡ false = ap lacks_sequence after ∙ it.counts in
-    let now : new.now ≡ first.0 = ap (λ (p : Tally × Database). p.1) (same_value all.2)
-    ∙ same_value (rw plain at first.2) in
-    let kept : KeepsRows schema.tables old.now.trees first.0.trees =
-    subst (λ (s : Schema). KeepsRows s.tables old.now.trees first.0.trees) has made.others in
-    let fresh : first.0.trees (next_tree schema) ≡ [] = subst (λ s. first.0.trees (next_tree s) ≡ []) has made.empty in
-    let empty : IsEmptyWith (created schema table) new.now = subst (IsEmptyWith (created schema table)) (sym now)
-    (record {
-      schema_is = after;
-      empty =
-          all_then (λ (t : Table). first.0.trees t.tree ≡ []) schema.tables _
-          (still_empty old.now.trees first.0.trees schema.tables kept none) fresh;
-    }) in (
-      empty,
-      subst (λ s. IsSound s new.now.trees) empty.schema_is w.sound,
-      w.counted
-          ∙ ap (λ (p : Tally × Database). unwrap_or p.0.rows 0) (same_value all.2),
-    )
-
-pub makes : (schema : Schema) (sql : List ℕ) (table : Table) → Defines schema sql table
-    → (old new : State) (r : Result ℕ Error) → old.now.schema ≡ schema
-    → AllByRecursion (λ (t : Table). old.now.trees t.tree ≡ []) schema.tables
-    → (old.in_transaction ≡ false → r ≡ Err (SqliteFailure TransactionState))
-    → (IsTrue old.in_transaction → ExecutesInside 0 sql [] old new r) → OnOk r (AreMade (created schema table) new)
-makes schema sql table it old new (Err e) has none ended ran = tt
-makes schema sql table it old new (Ok count) has none ended ran =
-    let mode : IsTrue old.in_transaction =
-    elim (cases_Bool old.in_transaction) [ inl t ↦ t | inr f ↦ absurd (let e = ended f in cc) ] in
-    let all = ran mode in
-    let done = made schema sql table it old new count has none all.0 in
-    record { empty = done.0; sound = done.1; inside = all.1.mode }
 
 -- ---- a table that is made beside others, whose rows stay
 
@@ -114,6 +68,20 @@ adds schema sql table it old new (Ok count) has ended ran =
     elim (cases_Bool old.in_transaction) [ inl t ↦ t | inr f ↦ absurd (let e = ended f in cc) ] in
     let all = ran mode in
     (added schema sql table it old new count has all.0, all.1.mode)
+
+-- where the others have no row, no table has one
+made : (schema : Schema) (table : Table) (old new : State) → IsEmptyWith schema old.now
+    → IsTableAdded schema table old.now.trees new.now → IsTrue new.in_transaction → AreMade (created schema table) new
+made schema table old new none done inside = record {
+  empty = record {
+    schema_is = done.at.schema_is;
+    empty =
+        all_then (λ (t : Table). new.now.trees t.tree ≡ []) schema.tables _
+        (still_empty old.now.trees new.now.trees schema.tables done.at.others none.empty) done.at.empty;
+  };
+  sound = done.sound;
+  inside = inside;
+}
 
 -- the rowids of all tables ascend still
 numbered_still : (old new : Trees) (tables : List Table)
@@ -224,11 +192,11 @@ with_is table = refl
 module _ (table : OfficeTable) (ours : table ≢ Statistics) (old new : State) (r : Result ℕ Error)
     (ended : old.in_transaction ≡ false → r ≡ Err (SqliteFailure TransactionState))
     (ran : IsTrue old.in_transaction → ExecutesInside 0 (text_of table) [] old new r) where
-  pub makes_table : IsEmptyWith (schema_before table) old.now → OnOk r (AreMade (schema_with table) new)
-  makes_table none = subst (λ s. OnOk r (AreMade s new)) (with_is table)
-      (makes (schema_before table) (text_of table) (declared table) (defines table ours) old new r none.schema_is
-      none.empty ended ran)
-
   pub adds_table : old.now.schema ≡ schema_before table
       → OnOk r (IsTableAdded (schema_before table) (declared table) old.now.trees new.now × IsTrue new.in_transaction)
   adds_table has = adds (schema_before table) (text_of table) (declared table) (defines table ours) old new r has ended ran
+
+  pub makes_table : IsEmptyWith (schema_before table) old.now → OnOk r (AreMade (schema_with table) new)
+  makes_table none = subst (λ s. OnOk r (AreMade s new)) (with_is table)
+      (on_ok_weaker r (λ done. made (schema_before table) (declared table) old new none done.0 done.1)
+      (adds_table none.schema_is))

@@ -12,3 +12,4 @@ pub mod Search
 pub mod Starts
 pub mod Turns
 pub mod Walks
+pub mod Weights

@@ -1,5 +1,5 @@
 -- The definitions computed on small messages.
-use Rattle.bitlayout.proofs.Common.{◌≡◌, ◌*◌, ◌≤◌, [], ◌∷◌, Some, None, refl, arith}
+use Rattle.bitlayout.proofs.Common.{◌≡◌, ◌*◌, ◌≤◌, [], ◌∷◌, Some, None, true, false, refl, arith}
 use Rattle.bitlayout.specs.declared.layout.Order.TheVariants.{Intel, Motorola}
 use Rattle.bitlayout.specs.declared.place.Mux.TheVariants.{Always, Multiplexor, Under}
 use Rattle.bitlayout.specs.declared.clash.Clash.TheVariants.{TwoMultiplexors, NoMultiplexor, Overlap, Outside}
@@ -8,6 +8,7 @@ use Rattle.bitlayout.specs.Clash.{clash_after, first_clash_of}
 use Rattle.bitlayout.specs.First.{first_answer}
 use Rattle.bitlayout.specs.Mask.{mask_end}
 use Rattle.bitlayout.specs.Start.{least_start_of, place_from}
+use Rattle.bitlayout.specs.Weight.{by_weight, same_bits}
 
 -- a mask has 224 words of 64 positions, more than the 8 * 1785 of the longest payload
 reach : mask_end ≡ 64 * 224
@@ -93,3 +94,32 @@ multiplexor_beside_what_hangs_on_it : least_start_of (place_from 4 Intel (Under 
     ≡ Some 4
 unfolding walk shares_bit is_inside clash_after first_answer
 multiplexor_beside_what_hangs_on_it = refl
+
+-- one bit is the same in both orders
+one_bit : same_bits (record { start = 3; size = 1; order = Intel }) (record { start = 3; size = 1; order = Motorola })
+    ≡ true
+unfolding walk
+one_bit = refl
+
+-- so is a byte, whose least significant bit an Intel signal starts with, and a Motorola signal ends with
+one_byte : same_bits (record { start = 8; size = 8; order = Intel }) (record { start = 15; size = 8; order = Motorola })
+    ≡ true
+unfolding walk
+one_byte = refl
+
+-- ten bits of a Motorola signal, the least significant first: the upper two of byte 1, then all of byte 0
+motorola_by_weight : by_weight (record { start = 7; size = 10; order = Motorola }) ≡ 14 ∷ 15 ∷ 0 ∷ 1 ∷ 2 ∷ 3 ∷ 4 ∷ 5 ∷ 6
+    ∷ 7 ∷ []
+unfolding walk
+motorola_by_weight = refl
+
+-- two bytes have the same bits in both orders, and other weights
+two_bytes : same_bits (record { start = 0; size = 16; order = Intel })
+    (record { start = 7; size = 16; order = Motorola }) ≡ false
+unfolding walk
+two_bytes = refl
+
+two_sizes : same_bits (record { start = 0; size = 8; order = Intel }) (record { start = 0; size = 7; order = Intel })
+    ≡ false
+unfolding walk
+two_sizes = refl

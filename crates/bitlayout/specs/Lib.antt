@@ -9,5 +9,6 @@ pub mod Mux
 pub mod Order
 pub mod Start
 pub mod Taken
+pub mod Weight
 pub mod Words
 pub mod WordsBack

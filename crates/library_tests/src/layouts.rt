@@ -1,6 +1,17 @@
 //! Layouts beside walks over their bits, and a start. Further starts, and clashes, are rows of
 //! `bitlayout/proofs/Rows.antt`.
-use bitlayout::{Layout, Mux, Order, Place, Size, has_bit, inside, least_start, share_bit};
+use bitlayout::{
+    Layout, Mux, Order, Place, Size, has_bit, inside, least_start, same_bits, share_bit,
+};
+
+/// The position after this one in a walk.
+fn next_position(order: Order, position: u16) -> u16 {
+    match order {
+        Order::Intel => position.wrapping_add(1),
+        Order::Motorola if position % 8 == 0 => position.wrapping_add(15),
+        Order::Motorola => position.wrapping_sub(1),
+    }
+}
 
 /// The positions of a layout as a set of numbers below 128, walked one by one as the definition says.
 fn walk_positions(layout: &Layout) -> u128 {
@@ -8,13 +19,23 @@ fn walk_positions(layout: &Layout) -> u128 {
     let mut position = layout.start;
     for _ in 0..layout.size.bits() {
         set |= 1u128.wrapping_shl(u32::from(position));
-        position = match layout.order {
-            Order::Intel => position.wrapping_add(1),
-            Order::Motorola if position % 8 == 0 => position.wrapping_add(15),
-            Order::Motorola => position.wrapping_sub(1),
-        };
+        position = next_position(layout.order, position);
     }
     set
+}
+
+/// The position of a layout's bit of this weight, a power of two, found on the walk: an Intel walk starts with the
+/// least significant bit, a Motorola walk ends with it.
+fn position_of(layout: &Layout, weight: u8) -> u16 {
+    let steps = match layout.order {
+        Order::Intel => weight,
+        Order::Motorola => layout.size.bits().wrapping_sub(weight).wrapping_sub(1),
+    };
+    let mut position = layout.start;
+    for _ in 0..steps {
+        position = next_position(layout.order, position);
+    }
+    position
 }
 
 /// The layouts of both orders, of starts 0 to 23 and of 1 to 24 bits, by their index below 1152.
@@ -50,6 +71,15 @@ fn share_as_their_walks(a: &Layout, b: &Layout) -> bool {
     share_bit(*a, *b) == common
 }
 
+/// Whether the layouts are the same where they are of one size, and each weight is at one position in both.
+fn same_as_their_weights(a: &Layout, b: &Layout) -> bool {
+    let mut alike = a.size == b.size;
+    for weight in 0..a.size.bits() {
+        alike = alike && position_of(a, weight) == position_of(b, weight);
+    }
+    same_bits(*a, *b) == alike
+}
+
 fn lies_at(index: u16) -> bool {
     match layout_at(index) {
         Some(layout) => lies_on_its_walk(&layout),
@@ -60,6 +90,13 @@ fn lies_at(index: u16) -> bool {
 fn share_at(first: u16, second: u16) -> bool {
     match (layout_at(first), layout_at(second)) {
         (Some(a), Some(b)) => share_as_their_walks(&a, &b),
+        _ => false,
+    }
+}
+
+fn same_at(first: u16, second: u16) -> bool {
+    match (layout_at(first), layout_at(second)) {
+        (Some(a), Some(b)) => same_as_their_weights(&a, &b),
         _ => false,
     }
 }
@@ -76,6 +113,15 @@ fn layouts_share_where_their_walks_do(rt: HostRuntime) {
     for first in 0..1152 {
         for second in 0..1152 {
             assert!(rt; share_at(first, second), "{first} and {second}");
+        }
+    }
+}
+
+#[test]
+fn layouts_are_the_same_where_their_weights_are(rt: HostRuntime) {
+    for first in 0..1152 {
+        for second in 0..1152 {
+            assert!(rt; same_at(first, second), "{first} and {second}");
         }
     }
 }

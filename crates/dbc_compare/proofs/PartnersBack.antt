@@ -1,15 +1,19 @@
 -- The partner of a message: it is in the other sheet, and has the message as its own partner.
-use Rattle.dbc_compare.proofs.Common.{◌≡◌, ◌==◌, ◌<◌, ◌⊎◌, ◌∙◌, true, not, ℕ, List, [], ◌∷◌, Option, Some, None, inl}
-use Rattle.dbc_compare.proofs.Common.{inr, refl, sym, ap, arith, AllByRecursion, bytes_eq, bytes_eq-Decides, none_found}
-use Rattle.dbc_compare.proofs.Common.{bytes_eq-flip, AreMessages, number_of, Message, partner}
+use Rattle.dbc_compare.proofs.Common.{◌≡◌, ◌==◌, ◌<◌, ◌⊎◌, ◌∙◌, Bool, true, false, ℕ, List, [], ◌∷◌, Option, Some, None}
+use Rattle.dbc_compare.proofs.Common.{inl, inr, refl, sym, ap, arith, AllByRecursion, bytes_eq, none_found, some_same}
+use Rattle.dbc_compare.proofs.Common.{AreMessages, number_of, Message, partner, thing_named}
+use Rattle.std.proofs.Common.{cond}
 use Rattle.std.specs.List.Sorted.{IsStrictlySortedBy}
 use Rattle.std.specs.declared.cmp.Ordering.TheVariants.{Less}
-use Rattle.std.proofs.lemmas.Bool.{and_from, and_parts, eq-eqb, eqb-true, not_from_false, not-true}
+use Rattle.std.proofs.lemmas.Bool.{cond-false, eq-eqb, eqb-true}
 use Rattle.std.proofs.lemmas.Cmp.{ranked}
-use Rattle.dbc_sheet.specs.Messages.{by_number, has_number, message_at}
-use Rattle.dbc_sheet.specs.Pairs.{is_renumbered, renumbered}
+use Rattle.dbc_words.specs.Named.{has_name}
+use Rattle.dbc_words.proofs.NamedThings.{some_none}
+use Rattle.dbc_sheet.specs.Messages.{by_number, message_at, message_name}
+use Rattle.dbc_sheet.specs.Pairs.{if_new_name, or_else}
 use Rattle.dbc_compare.proofs.Members.{In, each_in, find_none, find_only, found_in, in_cons, in_first, in_later}
-use Rattle.dbc_compare.proofs.Members.{none_if_empty, one_alone}
+use Rattle.dbc_compare.proofs.Members.{none_if_empty}
+use Rattle.dbc_compare.proofs.ThingLists.{found_named, found_self}
 
 -- ---- ascending numbers
 
@@ -74,80 +78,64 @@ number_found xs n x e =
 
 -- ---- partners
 
-chosen : Option Message → Option Message → Option Message
-chosen (Some p) later = Some p
-chosen None later = later
-
-by_choice : (xs others : List Message) (m : Message)
-    → partner xs others m ≡ chosen (message_at xs (number_of m)) (renumbered xs others m.name)
-unfolding chosen
-by_choice xs others m = elim (message_at xs (number_of m)) as (λ o. elim o as (λ q. Option Message) [
-  | Some p ↦ Some p
-  | None ↦ renumbered xs others m.name
-] ≡ chosen o (renumbered xs others m.name)) [ Some p ↦ refl | None ↦ refl ]
-
-from_choice : (o later : Option Message) (p : Message) → chosen o later ≡ Some p
+-- the one that is found first, or else the other
+which_one : (o later : Option Message) (p : Message) → or_else o later ≡ Some p
     → (o ≡ Some p) ⊎ ((o ≡ None) × (later ≡ Some p))
-unfolding chosen
-from_choice (Some q) later p e = inl e
-from_choice None later p e = inr (refl, e)
+which_one (Some q) later p e = inl e
+which_one None later p e = inr (refl, e)
 
-the_first : (o later : Option Message) (p : Message) → o ≡ Some p → chosen o later ≡ Some p
-unfolding chosen
-the_first o later p e = ap (λ q. chosen q later) e
+is_new_name : (others : List Message) (o : Option Message) (p : Message) → if_new_name others o ≡ Some p
+    → (o ≡ Some p) × (has_name message_name others p.name ≡ false)
+is_new_name others None p e = absurd (some_none p (sym e))
+is_new_name others (Some q) p e = by_test (has_name message_name others q.name) refl e
+  where
+    by_test : (b : Bool) → has_name message_name others q.name ≡ b → cond b None (Some q) ≡ Some p
+        → (Some q ≡ Some p) × (has_name message_name others p.name ≡ false)
+    by_test true h f = absurd (some_none p (sym f))
+    by_test false h f = (f, ap (λ (m : Message). has_name message_name others m.name) (sym (some_same q p f)) ∙ h)
 
-the_later : (o later : Option Message) → o ≡ None → chosen o later ≡ later
-unfolding chosen
-the_later o later e = ap (λ q. chosen q later) e
-
-of_number : (xs others : List Message) (m p : Message) → message_at xs (number_of m) ≡ Some p
-    → partner xs others m ≡ Some p
-of_number xs others m p e =
-    by_choice xs others m ∙ the_first (message_at xs (number_of m)) (renumbered xs others m.name) p e
-
-of_name : (xs others : List Message) (m p : Message) → message_at xs (number_of m) ≡ None
-    → renumbered xs others m.name ≡ Some p → partner xs others m ≡ Some p
-of_name xs others m p none e =
-    by_choice xs others m ∙ the_later (message_at xs (number_of m)) (renumbered xs others m.name) none ∙ e
-
-which_way : (xs others : List Message) (m p : Message) → partner xs others m ≡ Some p
-    → (message_at xs (number_of m) ≡ Some p)
-    ⊎ ((message_at xs (number_of m) ≡ None) × (renumbered xs others m.name ≡ Some p))
+-- it has the name; or neither has the other's name, and it has the number
+pub which_way : (xs others : List Message) (m p : Message) → partner xs others m ≡ Some p
+    → (thing_named message_name xs m.name ≡ Some p)
+    ⊎ ((thing_named message_name xs m.name ≡ None) × (message_at xs (number_of m) ≡ Some p)
+    × (has_name message_name others p.name ≡ false))
 which_way xs others m p e =
-    from_choice (message_at xs (number_of m)) (renumbered xs others m.name) p (sym (by_choice xs others m) ∙ e)
+    elim (which_one (thing_named message_name xs m.name) (if_new_name others (message_at xs (number_of m))) p e) [
+      | inl n ↦ inl n
+      | inr r ↦ let it = is_new_name others (message_at xs (number_of m)) p r.1 in inr (r.0, it.0, it.1)
+    ]
+
+of_name : (xs others : List Message) (m p : Message) → thing_named message_name xs m.name ≡ Some p
+    → partner xs others m ≡ Some p
+of_name xs others m p e = ap (λ o. or_else o (if_new_name others (message_at xs (number_of m)))) e
 
 pub partner_in : (xs others : List Message) (m p : Message) → partner xs others m ≡ Some p → In p xs
 partner_in xs others m p e = elim (which_way xs others m p e) [
-  | inl n ↦ (number_found xs (number_of m) p n).0
-  | inr r ↦ (found_in (is_renumbered others m.name) xs p r.1).0
+  | inl n ↦ (found_named message_name xs m.name p n).0
+  | inr r ↦ (number_found xs (number_of m) p r.1).0
 ]
 
 pub partner_self : (xs : List Message) → AreMessages xs → (m : Message) → In m xs → partner xs xs m ≡ Some m
-partner_self xs are m h = of_number xs xs m m (found_number xs are m h (number_of m) refl)
+partner_self xs are m h = of_name xs xs m m (found_self message_name xs are.apart m h m.name refl)
 
--- the message of the name, whose number no message of the other list has
-renumbered_back : (old new : List Message) → AreMessages new → (m p : Message) → In m new
-    → message_at old (number_of m) ≡ None → renumbered old new m.name ≡ Some p → partner new old p ≡ Some m
-renumbered_back old new are m p h none e =
-    let it = found_in (is_renumbered new m.name) old p e in
-    let parts = and_parts (bytes_eq p.name m.name) (not (has_number new (number_of p))) it.1 in
-    let named : p.name ≡ m.name = (bytes_eq-Decides p.name m.name).0 parts.0 in
-    let absent : message_at new (number_of p) ≡ None = find_none (λ q. number_of q == number_of p) new
-    (not-true (has_number new (number_of p)) parts.1) in
-    let new_number : not (has_number old (number_of m)) ≡ true = not_from_false (has_number old (number_of m))
-    (none_found (λ q. number_of q == number_of m) old none) in
-    let back : renumbered new old p.name ≡ Some m = find_only (is_renumbered old p.name) new m h
-    (and_from (bytes_eq m.name p.name) (not (has_number old (number_of m)))
-    ((bytes_eq-Decides m.name p.name).1 (sym named)) new_number)
-    (λ y k t. let names = and_parts (bytes_eq y.name p.name) (not (has_number old (number_of y))) t in
-    one_alone (λ a b. bytes_eq a.name b.name) (λ a b. bytes_eq-flip a.name b.name) new are.apart y m k h
-    ((bytes_eq-Decides y.name m.name).1 ((bytes_eq-Decides y.name p.name).0 names.0 ∙ named))) in
-    of_name new old p m absent back
+-- the message of the number, where neither name is in the other list
+renamed_back : (old new : List Message) → AreMessages new → (m p : Message) → In m new
+    → thing_named message_name old m.name ≡ None → message_at old (number_of m) ≡ Some p
+    → has_name message_name new p.name ≡ false → partner new old p ≡ Some m
+renamed_back old new are m p h none at unnamed =
+    let number : number_of p ≡ number_of m = (number_found old (number_of m) p at).1 in
+    let absent : thing_named message_name new p.name ≡ None =
+    find_none (λ q. bytes_eq (message_name q) p.name) new unnamed in
+    let new_name : has_name message_name old m.name ≡ false =
+    none_found (λ q. bytes_eq (message_name q) m.name) old none in
+    ap (λ o. or_else o (if_new_name old (message_at new (number_of p)))) absent
+    ∙ ap (if_new_name old) (found_number new are m h (number_of p) (sym number))
+    ∙ cond-false (has_name message_name old m.name) None (Some m) new_name
 
 pub partner_back : (old new : List Message) → AreMessages old → AreMessages new → (m p : Message) → In m new
     → partner old new m ≡ Some p → partner new old p ≡ Some m
 partner_back old new are_old are_new m p h e = elim (which_way old new m p e) [
-  | inl n ↦ of_number new old p m
-      (found_number new are_new m h (number_of p) (sym (number_found old (number_of m) p n).1))
-  | inr r ↦ renumbered_back old new are_new m p h r.0 r.1
+  | inl n ↦ of_name new old p m
+      (found_self message_name new are_new.apart m h p.name (sym (found_named message_name old m.name p n).1))
+  | inr r ↦ renamed_back old new are_new m p h r.0 r.1 r.2
 ]

@@ -7,3 +7,4 @@ mod SheetRows
 mod KeptRows
 mod ChangeRows
 pub mod Found
+mod Namesakes

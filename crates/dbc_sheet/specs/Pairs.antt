@@ -1,26 +1,26 @@
 -- Which message of a sheet is which one of another, and how many messages differ.
-use Rattle.std.specs.Prelude.{ℕ, Bool, false, not, ◌&&◌, List, find, count_by, is_none, Option, Some, None}
-use Rattle.std.specs.Str.{bytes_eq}
-use Rattle.dbc_sheet.specs.Messages.{has_number, message_at, number_of}
+use Rattle.std.specs.Prelude.{Bool, false, not, List, count_by, is_none, Option, Some, None, if◌then◌else◌}
+use Rattle.dbc_words.specs.Named.{has_name, thing_named}
+use Rattle.dbc_sheet.specs.Messages.{message_at, message_name, number_of}
 use Rattle.dbc_sheet.specs.Same.{same_message}
 use Rattle.dbc_sheet.specs.declared.message.Message.{Message}
 use Rattle.dbc_sheet.specs.declared.counts.Counts.{Counts}
 
--- the message has the name, and its number is that of no other message
-abbrev pub is_renumbered : List Message → List ℕ → Message → Bool
-is_renumbered others name p = bytes_eq p.name name && not (has_number others (number_of p))
+-- the message, if none of the others has its name
+abbrev pub if_new_name : List Message → Option Message → Option Message
+if_new_name others None = None
+if_new_name others (Some p) = if has_name message_name others p.name then None else Some p
 
--- the message of the name whose number no other message has
-abbrev pub renumbered : List Message → List Message → List ℕ → Option Message
-renumbered messages others name = find (is_renumbered others name) messages
+-- the one, or else the other
+abbrev pub or_else : Option Message → Option Message → Option Message
+or_else None later = later
+or_else (Some p) later = Some p
 
--- The partner of a message of `others` among the messages: the one of its number; else, where neither number is in the
--- other sheet, the one of its name.
+-- The partner of a message of `others` among the messages: the one of its name; else, where neither name is in the
+-- other sheet, the one of its number.
 abbrev pub partner : List Message → List Message → Message → Option Message
-partner messages others m = elim (message_at messages (number_of m)) [
-  | Some p ↦ Some p
-  | None ↦ renumbered messages others m.name
-]
+partner messages others m =
+    or_else (thing_named message_name messages m.name) (if_new_name others (message_at messages (number_of m)))
 
 -- it has a partner that isn't equal to it
 abbrev pub has_changed : Option Message → Message → Bool

@@ -7,10 +7,10 @@
 //! equality ([`same_messages_are_equal`]). What a DBC text is, and which sheet it reads as, is defined in
 //! `dbc_grammar`.
 //!
-//! [`partner`] is the message of one sheet that belongs to a message of another: the one of its DBC number; else, where
-//! neither number is in the other sheet, the one of its name. [`counts_of`] says how many messages of the newer sheet
-//! have no partner in the older one (added), how many of the older one have none in the newer (removed), and how many
-//! have one that isn't equal (changed).
+//! [`partner`] is the message of one sheet that belongs to a message of another: the one of its name; else, where
+//! neither name is in the other sheet, the one of its DBC number. [`counts_of`] says how many messages of the newer
+//! sheet have no partner in the older one (added), how many of the older one have none in the newer (removed), and how
+//! many have one that isn't equal (changed).
 //!
 //! Names, texts and the limits are of `dbc_words`.
 #![tactic(auto)]

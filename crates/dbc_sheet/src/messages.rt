@@ -8,7 +8,8 @@ ghost use Rattle.base.specs.Refusing.{first_refusal};
 ghost use Rattle.base.specs.Ascending.{IsAt, IsGap};
 ghost use Rattle.dbc_words.specs.Fault.{IsRefusal};
 ghost use Rattle.dbc_words.specs.Limits.{message_limit};
-ghost use Rattle.dbc_sheet.specs.Messages.{AreMessages, by_number, message_at, message_tests};
+ghost use Rattle.dbc_words.specs.Named.{has_name};
+ghost use Rattle.dbc_sheet.specs.Messages.{AreMessages, by_number, message_at, message_name, message_tests};
 ghost use Rattle.dbc_sheet.specs.Messages.{number_of, without_number};
 
 use crate::message::Message;
@@ -73,6 +74,13 @@ impl Messages {
             Ok(at) => Some(&messages[at]),
             Err(_) => None,
         }
+    }
+
+    /// Whether a message has the name.
+    pub(crate) fn has_name(&self, name: &Name) -> bool
+        ensures { result ≡ has_name message_name self.now name.now }
+    {
+        self.names.has(name)
     }
 
     /// The index at which the message would go, or why it is refused whatever its name is.

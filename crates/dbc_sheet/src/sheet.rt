@@ -6,9 +6,9 @@ ghost use Rattle.base.specs.Keyed.{put};
 ghost use Rattle.base.specs.Refusing.{first_refusal};
 ghost use Rattle.dbc_words.specs.Fault.{IsMemoryOr, IsRefusal};
 ghost use Rattle.dbc_words.specs.Limits.{node_limit, table_limit};
-ghost use Rattle.dbc_words.specs.Named.{AreNamedApart, roster_tests};
-ghost use Rattle.dbc_sheet.specs.Messages.{AreMessages, by_number, message_at, message_tests, number_of};
-ghost use Rattle.dbc_sheet.specs.Messages.{without_number};
+ghost use Rattle.dbc_words.specs.Named.{AreNamedApart, has_name, roster_tests};
+ghost use Rattle.dbc_sheet.specs.Messages.{AreMessages, by_number, message_at, message_name, message_tests};
+ghost use Rattle.dbc_sheet.specs.Messages.{number_of, without_number};
 ghost use Rattle.dbc_sheet.specs.Sheet.{IsClearSheet, IsFirstFault, empty_sheet, node_name, table_name};
 
 use crate::message::Message;
@@ -16,7 +16,7 @@ use crate::messages::Messages;
 use crate::node::Node;
 use crate::value_table::ValueTable;
 use base::{Copying, Items};
-use dbc_words::{About, Roster, SheetCode, SheetFault, Text};
+use dbc_words::{About, Name, Roster, SheetCode, SheetFault, Text};
 use std::alloc::{AllocError, Global};
 
 /// What a DBC file says of a network: a version, a comment, nodes, value tables, and messages by their DBC numbers.
@@ -107,6 +107,13 @@ impl Sheet {
         ensures { option_copied result ≡ message_at self.now.messages number }
     {
         self.messages.find(number)
+    }
+
+    /// Whether a message has the name.
+    pub(crate) fn has_name(&self, name: &Name) -> bool
+        ensures { result ≡ has_name message_name self.now.messages name.now }
+    {
+        self.messages.has_name(name)
     }
 
     /// Adds a node as the last one. It is refused, and nothing changes, with the first of these that holds:

@@ -1,33 +1,38 @@
 -- Differences that are side by side in one message.
 use Rattle.page_changes.proofs.Common.{◌≡◌, ◌+◌, ◌++◌, ◌∙◌, Bool, true, false, cond, ℕ, suc, List, [], ◌∷◌, take, drop}
 use Rattle.page_changes.proofs.Common.{Option, Some, None, Bor, map, get_or, refl, sym, ap, subst, arith, append-nil}
-use Rattle.page_changes.proofs.Common.{append_assoc, prefix_len, false≢true, Decides-eqb, dbc_number, Difference, Region}
-use Rattle.std.proofs.Common.{◌==◌}
+use Rattle.page_changes.proofs.Common.{append_assoc, prefix_len, false≢true, Decides-eqb, Difference}
+use Rattle.std.proofs.Common.{◌*◌, ◌==◌, ◌&&◌}
+use Rattle.std.proofs.lemmas.Bool.{and_parts}
 use Rattle.std.specs.Prelude.{unwrap_or}
 use Rattle.std.specs.List.{filter, find}
 use Rattle.base.specs.Ascending.{IsAt, IsGap}
 use Rattle.base.proofs.AscendingLists.{find_at, find_gap}
-use Rattle.dbc_compare.specs.declared.place.Region.TheVariants as place
-use Rattle.page_changes.specs.Changes.{are_one_message, change_at, is_beside, is_in_message, is_of_message, kept_if}
-use Rattle.page_changes.specs.Changes.{list_of, number_in, number_of_change, place_is_in}
+use Rattle.page_changes.specs.Changes.{change_at, is_beside, is_in_message, is_of_message, kept_if, list_of, rank_in}
+use Rattle.page_changes.specs.Changes.{rank_of, rank_of_change}
 use Rattle.page_changes.specs.Parts.{parts_by}
 use Rattle.page_changes.proofs.Cutting.{cut}
 
-no_place : (p q r : Region) → false ≡ true → are_one_message p r ≡ are_one_message q r
-no_place p q r e = absurd (false≢true e)
+-- both are in one message: then both are in a message, of one rank
+pub same_message : (x y : Difference) → is_beside x y ≡ true
+    → (is_in_message x ≡ true) × (is_in_message y ≡ true) × (rank_of x ≡ rank_of y)
+same_message x y e =
+    let parts = and_parts (is_in_message x && is_in_message y) (rank_of x == rank_of y) e in
+    let inside = and_parts (is_in_message x) (is_in_message y) parts.0 in
+    (inside.0, inside.1, (Decides-eqb (rank_of x) (rank_of y)).0 parts.1)
 
-alike_places : (p q : Region) → are_one_message p q ≡ true → (r : Region) → are_one_message p r ≡ are_one_message q r
-alike_places (place.Message a b) (place.Message c d) e r =
-    ap (λ n. place_is_in n r) (sym ((Decides-eqb (dbc_number d.ident) (dbc_number b.ident)).0 e))
-alike_places (place.Message a b) place.Sheet e r = no_place (place.Message a b) place.Sheet r e
-alike_places (place.Message a b) place.Nodes e r = no_place (place.Message a b) place.Nodes r e
-alike_places (place.Message a b) place.Tables e r = no_place (place.Message a b) place.Tables r e
-alike_places place.Sheet q e r = no_place place.Sheet q r e
-alike_places place.Nodes q e r = no_place place.Nodes q r e
-alike_places place.Tables q e r = no_place place.Tables q r e
+-- of two messages that aren't one the ranks differ
+pub other_message : (x y : Difference) → is_in_message x ≡ true → is_in_message y ≡ true → is_beside x y ≡ false
+    → (rank_of y ≡ rank_of x → ⊥)
+other_message x y first second e same =
+    false≢true (sym e ∙ ap (λ b. b && is_in_message y && rank_of x == rank_of y) first
+    ∙ ap (λ b. b && rank_of x == rank_of y) second ∙ (Decides-eqb (rank_of x) (rank_of y)).1 (sym same))
 
 pub alike : (x y : Difference) → is_beside x y ≡ true → (z : Difference) → is_beside x z ≡ is_beside y z
-alike x y e z = alike_places x.place y.place e z.place
+alike x y e z =
+    let same = same_message x y e in
+    ap (λ b. b && is_in_message z && rank_of x == rank_of z) (same.0 ∙ sym same.1)
+    ∙ ap (λ n. is_in_message y && is_in_message z && n == rank_of z) same.2
 
 first_test : (own ds : List Difference) (d : Difference) → own ≡ d ∷ ds → is_of_message own ≡ is_in_message d
 first_test own ds d e = ap is_of_message e
@@ -61,28 +66,32 @@ list_in None = None
 list_in (Some m) = Some (list_of m)
 
 found_list : (n : ℕ) (messages : List (Bor (List Difference)))
-    → find (λ m. number_in m == n) (map list_of messages)
-    ≡ list_in (find (λ m. number_of_change m == n) messages)
+    → find (λ m. rank_in m == n) (map list_of messages)
+    ≡ list_in (find (λ m. rank_of_change m == n) messages)
 found_list n [] = refl
 found_list n (m ∷ messages) =
-    elim (number_of_change m == n) as (λ b.
-    cond b (Some (list_of m)) (find (λ x. number_in x == n) (map list_of messages))
-    ≡ list_in (cond b (Some m) (find (λ x. number_of_change x == n) messages))) [
+    elim (rank_of_change m == n) as (λ b.
+    cond b (Some (list_of m)) (find (λ x. rank_in x == n) (map list_of messages))
+    ≡ list_in (cond b (Some m) (find (λ x. rank_of_change x == n) messages))) [
       | true ↦ refl
       | false ↦ found_list n messages
     ]
 
 -- what differs of the message that a search finds, and nothing where it finds none
-pub change_found : (n i : ℕ) (messages searched read : List (Bor (List Difference))) (m : Bor (List Difference))
-    → searched ≡ messages → read ≡ messages → IsAt number_of_change searched n i → m ≡ get_or read i m
-    → list_of m ≡ change_at (map list_of messages) n
-change_found n i messages searched read m e f at is =
-    ap list_of (is ∙ ap (λ ms. get_or ms i m) f)
-    ∙ sym (ap (λ o. unwrap_or o []) (found_list n messages
-    ∙ ap list_in (find_at number_of_change messages n i m (subst (λ ms. IsAt number_of_change ms n i) e at))))
+module _ (n rank i : ℕ) (messages searched : List (Bor (List Difference))) (ranked : rank ≡ 2 * n)
+    (same : searched ≡ messages) where
+  pub change_found : (read : List (Bor (List Difference))) (m : Bor (List Difference)) → read ≡ messages
+      → IsAt rank_of_change searched rank i → m ≡ get_or read i m → list_of m ≡ change_at (map list_of messages) n
+  change_found read m f at is =
+      let here = subst (λ r. IsAt rank_of_change messages r i) ranked
+      (subst (λ ms. IsAt rank_of_change ms rank i) same at) in
+      ap list_of (is ∙ ap (λ ms. get_or ms i m) f)
+      ∙ sym (ap (λ o. unwrap_or o []) (found_list (2 * n) messages
+      ∙ ap list_in (find_at rank_of_change messages (2 * n) i m here)))
 
-pub change_missing : (n i : ℕ) (messages searched : List (Bor (List Difference))) → searched ≡ messages
-    → IsGap number_of_change searched n i → [] ≡ change_at (map list_of messages) n
-change_missing n i messages searched e gap =
-    sym (ap (λ o. unwrap_or o []) (found_list n messages
-    ∙ ap list_in (find_gap number_of_change messages n i (subst (λ ms. IsGap number_of_change ms n i) e gap))))
+  pub change_missing : IsGap rank_of_change searched rank i → [] ≡ change_at (map list_of messages) n
+  change_missing gap =
+      let here = subst (λ r. IsGap rank_of_change messages r i) ranked
+      (subst (λ ms. IsGap rank_of_change ms rank i) same gap) in
+      sym (ap (λ o. unwrap_or o []) (found_list (2 * n) messages
+      ∙ ap list_in (find_gap rank_of_change messages (2 * n) i here)))

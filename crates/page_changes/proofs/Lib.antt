@@ -3,6 +3,7 @@ pub mod RisingNames
 pub mod Backwards
 pub mod Cutting
 pub mod ChangeParts
+pub mod ChangeRows
 pub mod LostParts
 pub mod MarkRows
 pub mod RisingDifferences

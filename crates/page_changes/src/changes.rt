@@ -6,9 +6,9 @@ ghost use Rattle.std.specs.Ordering.{nat_cmp, on};
 ghost use Rattle.base.specs.Ascending.{IsAt, IsGap};
 ghost use Rattle.dbc_compare.specs.List.{breaks};
 ghost use Rattle.page_changes.specs.Changes.{AreByNumber, AreRising, change_at, changes_in, is_beside};
-ghost use Rattle.page_changes.specs.Changes.{is_elsewhere, is_in_message, is_nothing, kept_if, list_of, messages_in};
-ghost use Rattle.page_changes.specs.Changes.{name_at, name_in, number_at, number_in, number_of_change, old_number_at};
-ghost use Rattle.page_changes.specs.Changes.{old_number_in, place_is_in};
+ghost use Rattle.page_changes.specs.Changes.{is_elsewhere, is_gone, is_in_message, is_nothing, kept_if, list_of};
+ghost use Rattle.page_changes.specs.Changes.{messages_in, name_at, name_in, number_at, old_number_at, old_number_in};
+ghost use Rattle.page_changes.specs.Changes.{rank_in, rank_of, rank_of_change};
 ghost use Rattle.page_changes.specs.Fates.{fate_by, fate_in};
 
 use dbc_compare::{Alteration, Difference, Region, breaking_count};
@@ -28,8 +28,8 @@ pub enum Fate {
 /// What has changed between two sheets.
 #[derive(Drop)]
 pub struct Changes<'a> {
-    /// The messages that differ, in ascending order of DBC number; of each its differences, in order: those of the
-    /// message itself, and then those of each signal.
+    /// The messages that differ, in ascending order of DBC number; one that is gone comes after the one that has its
+    /// number now. Of each its differences, in order: those of the message itself, and then those of each signal.
     pub messages: Vec<&'a [Difference]>,
     /// How many other differences there are: of nodes, of value tables and of the sheet itself.
     pub others: usize,
@@ -37,13 +37,43 @@ pub struct Changes<'a> {
     pub breaking: usize,
 }
 
-/// Whether the place is in the message that has this DBC number now.
-fn is_in(place: &Region, number: u32) -> bool
-    ensures { result ≡ place_is_in number place.now }
+/// Whether the difference is in a message.
+fn is_in_message(difference: &Difference) -> bool
+    ensures { result ≡ is_in_message difference.now }
+{
+    matches!(difference.place, Region::Message { .. })
+}
+
+/// The DBC number of a place's message; 0 where it is in none.
+fn number_at(place: &Region) -> u32
+    ensures { result ≡ number_at place.now }
 {
     match place {
-        Region::Message { old: _, new } => new.ident.to_dbc() == number,
-        _ => false,
+        Region::Message { old: _, new } => new.ident.to_dbc(),
+        _ => 0,
+    }
+}
+
+/// Whether the message that the difference is in is gone.
+fn is_gone(difference: &Difference) -> bool
+    ensures { result ≡ is_gone difference.now }
+{
+    matches!(
+        (&difference.name, &difference.change),
+        (None, Alteration::Removed)
+    )
+}
+
+/// The rank of the difference's message among those that differ: twice its DBC number, and one more where it is gone,
+/// since another message may have that number now.
+fn rank_of(difference: &Difference) -> u64
+    ensures { result ≡ rank_of difference.now }
+{
+    let twice = 2 * u64::from(number_at(&difference.place));
+    if is_gone(difference) {
+        twice + 1
+    } else {
+        twice
     }
 }
 
@@ -51,10 +81,7 @@ fn is_in(place: &Region, number: u32) -> bool
 fn is_beside(a: &Difference, b: &Difference) -> bool
     ensures { result ≡ is_beside a.now b.now }
 {
-    match &a.place {
-        Region::Message { old: _, new } => is_in(&b.place, new.ident.to_dbc()),
-        _ => false,
-    }
+    is_in_message(a) && is_in_message(b) && rank_of(a) == rank_of(b)
 }
 
 /// How many of the differences in front are in the message of the one before them.
@@ -63,13 +90,6 @@ fn count_beside(first: &Difference, later: &[Difference]) -> usize
     ensures within { result ≤ length later.now }
 {
     later.iter().take_while(|one| is_beside(first, one)).count()
-}
-
-/// Whether the difference is in a message.
-fn is_in_message(difference: &Difference) -> bool
-    ensures { result ≡ is_in_message difference.now }
-{
-    matches!(difference.place, Region::Message { .. })
 }
 
 /// Adds the differences, if they are in a message.
@@ -105,16 +125,6 @@ fn message_changes<'a>(
     Ok(messages)
 }
 
-/// The DBC number of a place's message; 0 where it is in none.
-fn number_at(place: &Region) -> u32
-    ensures { result ≡ number_at place.now }
-{
-    match place {
-        Region::Message { old: _, new } => new.ident.to_dbc(),
-        _ => 0,
-    }
-}
-
 /// The DBC number that a place's message had; 0 where it is in none.
 fn old_number_at(place: &Region) -> u32
     ensures { result ≡ old_number_at place.now }
@@ -135,13 +145,13 @@ fn name_at(place: &Region) -> &[u8]
     }
 }
 
-/// The DBC number of the message that differs so; where it was removed, the one that it had.
-pub(crate) fn number_in(differences: &[Difference]) -> u32
-    ensures { result ≡ number_in differences.now }
+/// The rank of the message that differs so.
+fn rank_in(differences: &[Difference]) -> u64
+    ensures { result ≡ rank_in differences.now }
 {
     match differences {
         [] => 0,
-        [first, _later @ ..] => number_at(&first.place),
+        [first, _later @ ..] => rank_of(first),
     }
 }
 
@@ -186,14 +196,14 @@ pub(crate) fn fate_in(differences: &[Difference]) -> Fate
     }
 }
 
-/// The index of the message of the number, or the index at which it would go.
-fn search(messages: &[&[Difference]], number: u32) -> Result<usize, usize>
-    ensures found { IsStrictlySortedBy (on number_of_change nat_cmp) messages.now
-        → IfOk result (IsAt number_of_change messages.now number) }
-    ensures absent { IsStrictlySortedBy (on number_of_change nat_cmp) messages.now
-        → IfErr result (IsGap number_of_change messages.now number) }
+/// The index of the message of the rank, or the index at which it would go.
+fn search(messages: &[&[Difference]], rank: u64) -> Result<usize, usize>
+    ensures found { IsStrictlySortedBy (on rank_of_change nat_cmp) messages.now
+        → IfOk result (IsAt rank_of_change messages.now rank) }
+    ensures absent { IsStrictlySortedBy (on rank_of_change nat_cmp) messages.now
+        → IfErr result (IsGap rank_of_change messages.now rank) }
 {
-    messages.binary_search_by_key(&number, |message| number_in(message))
+    messages.binary_search_by_key(&rank, |message| rank_in(message))
 }
 
 impl<'a> Changes<'a> {
@@ -231,12 +241,13 @@ impl<'a> Changes<'a> {
             .count()
     }
 
-    /// What differs of the message that has this DBC number; nothing where it doesn't differ.
+    /// What differs of the message that has this DBC number now; nothing where it doesn't differ.
     pub(crate) fn find(&self, number: u32) -> &'a [Difference]
         ensures { AreByNumber self.now
             → result.now ≡ change_at (changes_in self.now) number }
     {
-        match search(&self.messages, number) {
+        let rank = 2 * u64::from(number);
+        match search(&self.messages, rank) {
             Ok(index) => match self.messages.get(index) {
                 Some(message) => message,
                 None => &[],

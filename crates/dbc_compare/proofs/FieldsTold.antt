@@ -14,9 +14,9 @@ use Rattle.can_id.specs.declared.ident.Ident.TheVariants as id
 use Rattle.dbc_words.specs.declared.value_type.ValueType.{ValueType}
 use Rattle.dbc_words.specs.declared.value_type.ValueType.TheVariants.{Double}
 use Rattle.dbc_sheet.specs.Form.{IsMux}
-use Rattle.dbc_compare.specs.Differences.{changes_between}
-use Rattle.dbc_compare.specs.Fields.{message_fields, names_of, node_fields, signal_fields, table_fields, truth_word}
-use Rattle.dbc_compare.specs.Fields.{type_word}
+use Rattle.dbc_compare.specs.Differences.{message_changes, node_changes, signal_changes, table_changes}
+use Rattle.dbc_compare.specs.Fields.{message_breaks, message_fields, names_of, node_fields, none_breaks, signal_breaks}
+use Rattle.dbc_compare.specs.Fields.{signal_fields, table_fields, truth_word, type_word}
 use Rattle.dbc_compare.specs.Value.{Whole, Word, WholeOrNone, Dec, Names, Texts}
 use Rattle.dbc_compare.proofs.ChangeLists.{list_told}
 
@@ -85,24 +85,24 @@ word_is a b e = cc
 
 -- ---- things
 
-pub node_told : (a b : Node) → a.name ≡ b.name → changes_between (node_fields a) (node_fields b) ≡ [] → a ≡ b
+pub node_told : (a b : Node) → a.name ≡ b.name → node_changes a b ≡ [] → a ≡ b
 node_told a b named e =
-    let told = list_told (node_fields a) (node_fields b) e in
+    let told = list_told none_breaks (node_fields a) (node_fields b) e in
     let comment : a.comment ≡ b.comment = word_is a.comment b.comment told.0 in
     λ i. record { name = named i; comment = comment i }
 
-pub table_told : (a b : ValueTable) → a.name ≡ b.name → changes_between (table_fields a) (table_fields b) ≡ []
+pub table_told : (a b : ValueTable) → a.name ≡ b.name → table_changes a b ≡ []
     → a ≡ b
 table_told a b named e =
-    let told = list_told (table_fields a) (table_fields b) e in
+    let told = list_told none_breaks (table_fields a) (table_fields b) e in
     let same : Texts a.entries ≡ Texts b.entries = told.0 in
     let entries : a.entries ≡ b.entries = cc same in
     λ i. record { name = named i; entries = entries i }
 
 pub signal_told : (a b : Signal) → IsMux a.mux → IsMux b.mux → a.name ≡ b.name
-    → changes_between (signal_fields a) (signal_fields b) ≡ [] → a ≡ b
+    → signal_changes a b ≡ [] → a ≡ b
 signal_told a b ha hb named e =
-    let told = list_told (signal_fields a) (signal_fields b) e in
+    let told = list_told (signal_breaks a b) (signal_fields a) (signal_fields b) e in
     let start : a.layout.start ≡ b.layout.start = whole_is _ _ told.0 in
     let size : a.layout.size ≡ b.layout.size = whole_is _ _ told.1.0 in
     let order : a.layout.order ≡ b.layout.order = order_told _ _ (word_is _ _ told.1.1.0) in
@@ -146,9 +146,9 @@ signal_told a b ha hb named e =
 
 -- all of a message but its signals
 pub message_told : (a b : Message) → IsIdentifier a.ident → IsIdentifier b.ident
-    → changes_between (message_fields a) (message_fields b) ≡ [] → a.signals ≡ b.signals → a ≡ b
+    → message_changes a b ≡ [] → a.signals ≡ b.signals → a ≡ b
 message_told a b ha hb e signals =
-    let told = list_told (message_fields a) (message_fields b) e in
+    let told = list_told message_breaks (message_fields a) (message_fields b) e in
     let ident : a.ident ≡ b.ident = ident_told a.ident b.ident ha hb (whole_is _ _ told.0) in
     let name : a.name ≡ b.name = word_is _ _ told.1.0 in
     let length : a.length ≡ b.length = whole_is _ _ told.1.1.0 in

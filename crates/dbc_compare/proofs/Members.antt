@@ -1,5 +1,5 @@
 -- What is in a list, and in lists that are made of others.
-use Rattle.dbc_compare.proofs.Common.{◌≡◌, ◌<◌, ◌+◌, ◌++◌, ◌⊎◌, ◌∙◌, Bool, true, false, ℕ, suc, List, [], ◌∷◌, get_or}
+use Rattle.dbc_compare.proofs.Common.{◌≡◌, ◌<◌, ◌++◌, ◌⊎◌, ◌∙◌, Bool, true, false, ℕ, suc, List, [], ◌∷◌, get_or}
 use Rattle.dbc_compare.proofs.Common.{take, drop, map, Some, None, inl, inr, refl, sym, ap, subst, arith}
 use Rattle.dbc_compare.proofs.Common.{AllByRecursion, flat_map, both_ways, cond-true, some_same}
 use Rattle.std.proofs.Common.{zero, length, Contains}

@@ -1,20 +1,30 @@
 -- The differences of messages.
-use Rattle.dbc_compare.proofs.Common.{◌≡◌, ◌++◌, ◌⊎◌, ◌∙◌, List, [], ◌∷◌, take, drop, Option, Some, None, inl, inr}
+use Rattle.dbc_compare.proofs.Common.{◌≡◌, ◌++◌, ◌⊎◌, ◌∙◌, Bool, true, false, List, [], ◌∷◌, take, drop, Option, Some, None, inl, inr}
 use Rattle.dbc_compare.proofs.Common.{refl, sym, ap, subst, flat_map, AreMessages, number_of, Message, Signal, partner}
 use Rattle.dbc_compare.proofs.Common.{some_same}
+use Rattle.std.proofs.Common.{◌||◌, nat_eq, not}
+use Rattle.std.proofs.lemmas.Bool.Decides.{Decides-eqb}
+use Rattle.std.proofs.lemmas.Slice.Eq.{slice_eq-Decides}
+use Rattle.std.specs.Cmp.Lexicographic.{pointwise}
+use Rattle.bitlayout.specs.Weight.{by_weight, same_bits}
+use Rattle.bitlayout.specs.declared.layout.Layout.{Layout}
 use Rattle.dbc_sheet.specs.Form.{KeepsMessage, IsSignal}
 use Rattle.dbc_sheet.specs.Signals.{signal_name}
-use Rattle.dbc_compare.specs.Differences.{below, between, by_numbers, changes_between, differences_about, gone_message}
-use Rattle.dbc_compare.specs.Differences.{message_differences, pair_differences, shown_message}
-use Rattle.dbc_compare.specs.Fields.{message_fields, signal_fields}
+use Rattle.dbc_compare.specs.Differences.{below, between, by_numbers, differences_about, gone_message}
+use Rattle.dbc_compare.specs.Differences.{message_changes, message_differences, pair_differences, shown_message}
+use Rattle.dbc_compare.specs.Differences.{signal_changes}
+use Rattle.dbc_compare.specs.Fields.{is_integer, message_breaks, message_fields, signal_breaks, signal_fields}
 use Rattle.dbc_compare.specs.Laws.{swapped, swapped_change}
 use Rattle.dbc_compare.specs.declared.difference.Alteration.{Alteration}
 use Rattle.dbc_compare.specs.declared.difference.Alteration.TheVariants as change
 use Rattle.dbc_compare.specs.declared.difference.Difference.{Difference}
+use Rattle.dbc_compare.specs.declared.field.SheetField.{SheetField}
+use Rattle.dbc_compare.specs.declared.field.SheetField.TheVariants as field
 use Rattle.dbc_compare.proofs.ChangeLists.{AreAligned, both_empty, list_same, list_swapped}
 use Rattle.dbc_compare.proofs.FieldsTold.{message_told, signal_told}
 use Rattle.dbc_compare.proofs.Members.{In, all_in, empty_if_none, from_flat, in_alone, in_cons, in_drop, in_either}
 use Rattle.dbc_compare.proofs.Members.{in_first, in_flat, in_later, in_left, in_parts, in_right, in_take, none_if_empty}
+use Rattle.dbc_compare.proofs.ValueTests.{flip}
 use Rattle.dbc_compare.proofs.PartnersBack.{one_list, partner_back, partner_in, partner_self}
 use Rattle.dbc_compare.proofs.ThingLists.{about_empty, about_swapped, about_told, joined_empty, things_same}
 use Rattle.dbc_compare.proofs.ThingLists.{things_swapped, things_told}
@@ -85,13 +95,43 @@ signal_aligned a b = (
   (refl, (refl, (refl, (refl, (refl, (refl, (refl, (refl, (refl, (refl, (refl, (refl, (refl, (refl, tt)))))))))))))),
 )
 
+bits_flip : (a b : Layout) → same_bits a b ≡ same_bits b a
+bits_flip a b =
+    flip (pointwise nat_eq) (λ xs ys. slice_eq-Decides Decides-eqb xs ys _ refl) (by_weight a) (by_weight b)
+
+or_flip : (b c : Bool) → (b || c) ≡ (c || b)
+or_flip true true = refl
+or_flip true false = refl
+or_flip false c = or_none c
+  where
+    or_none : (d : Bool) → d ≡ (d || false)
+    or_none true = refl
+    or_none false = refl
+
+-- what a receiver of a signal sees, it sees the other way round
+seen_back : (a b : Signal) (f : SheetField) → signal_breaks a b f ≡ signal_breaks b a f
+seen_back a b field.Start = ap not (bits_flip a.layout b.layout)
+seen_back a b field.Size = ap not (bits_flip a.layout b.layout)
+seen_back a b field.Order = ap not (bits_flip a.layout b.layout)
+seen_back a b field.Signed = or_flip (is_integer a.value_type) (is_integer b.value_type)
+seen_back a b field.ValueType = refl
+seen_back a b field.Mux = refl
+seen_back a b field.Factor = refl
+seen_back a b field.Offset = refl
+seen_back a b f = refl
+
+signal_swapped : (a b : Signal) (c : Alteration) → In c (signal_changes a b) → In (swapped_change c) (signal_changes b a)
+signal_swapped a b =
+    list_swapped (signal_breaks a b) (signal_breaks b a) (seen_back a b) (signal_fields a) (signal_fields b)
+    (signal_aligned a b)
+
 pair_told : (p m : Message) → KeepsMessage p → KeepsMessage m → pair_differences p m ≡ [] → p ≡ m
 unfolding pair_differences
 pair_told p m keeps_p keeps_m empty =
     let parts = both_empty
-    (differences_about (between p m) None (changes_between (message_fields p) (message_fields m))) _ empty in
+    (differences_about (between p m) None (message_changes p m)) _ empty in
     let signals : p.signals ≡ m.signals =
-    things_told signal_name signal_fields (between p m) p.signals m.signals keeps_p.well_formed.signals.apart
+    things_told signal_name signal_changes (between p m) p.signals m.signals keeps_p.well_formed.signals.apart
     (λ x y h k named e. signal_told x y (all_in IsSignal p.signals x keeps_p.form.signals h).mux
     (all_in IsSignal m.signals y keeps_m.form.signals k).mux named e) parts.1 in
     message_told p m keeps_p.form.ident keeps_m.form.ident (about_told (between p m) None _ parts.0) signals
@@ -99,24 +139,26 @@ pair_told p m keeps_p keeps_m empty =
 pair_same : (m : Message) → KeepsMessage m → pair_differences m m ≡ []
 unfolding pair_differences
 pair_same m keeps =
-    joined_empty (differences_about (between m m) None (changes_between (message_fields m) (message_fields m))) _
-    (about_empty (between m m) None _ (list_same (message_fields m)))
-    (things_same signal_name signal_fields (between m m) m.signals keeps.well_formed.signals.apart)
+    joined_empty (differences_about (between m m) None (message_changes m m)) _
+    (about_empty (between m m) None _ (list_same message_breaks (message_fields m)))
+    (things_same signal_name signal_changes (between m m) m.signals keeps.well_formed.signals.apart
+    (λ s. list_same (signal_breaks s s) (signal_fields s)))
 
 pair_swapped : (p m : Message) → KeepsMessage m → (d : Difference) → In d (pair_differences p m)
     → In (swapped d) (pair_differences m p)
 unfolding pair_differences
 pair_swapped p m keeps d h = elim
-    (in_either (differences_about (between p m) None (changes_between (message_fields p) (message_fields m))) _ d h) [
+    (in_either (differences_about (between p m) None (message_changes p m)) _ d h) [
       | inl own ↦ in_left
-          (differences_about (between m p) None (changes_between (message_fields m) (message_fields p))) _ (swapped d)
-          (about_swapped (between p m) None (changes_between (message_fields p) (message_fields m))
-          (changes_between (message_fields m) (message_fields p)) d own
-          (list_swapped (message_fields p) (message_fields m) (message_aligned p m)))
+          (differences_about (between m p) None (message_changes m p)) _ (swapped d)
+          (about_swapped (between p m) None (message_changes p m)
+          (message_changes m p) d own
+          (list_swapped message_breaks message_breaks (λ f. refl) (message_fields p) (message_fields m)
+          (message_aligned p m)))
       | inr signals ↦ in_right
-          (differences_about (between m p) None (changes_between (message_fields m) (message_fields p))) _ (swapped d)
-          (things_swapped signal_name signal_fields (between p m) p.signals m.signals keeps.well_formed.signals.apart
-          signal_aligned d signals)
+          (differences_about (between m p) None (message_changes m p)) _ (swapped d)
+          (things_swapped signal_name signal_changes (between p m) p.signals m.signals keeps.well_formed.signals.apart
+          signal_swapped d signals)
     ]
 
 -- ---- all messages

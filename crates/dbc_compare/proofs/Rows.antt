@@ -5,6 +5,7 @@ use Rattle.dbc_compare.proofs.Common.{Integer, Float}
 use Rattle.std.proofs.Common.{codes}
 use Rattle.std.specs.Prelude.{pos, negsuc}
 use Rattle.std.specs.Fmt.{digits}
+use Rattle.bitlayout.specs.Bits.{walk}
 use Rattle.can_id.specs.declared.ident.Ident.TheVariants.{Std, Ext}
 use Rattle.decimal.specs.Printing.{unsigned_text}
 use Rattle.dbc_sheet.specs.Sheet.{empty_sheet}
@@ -135,7 +136,7 @@ each_field : compare_text false old new
     ++ codes ". signal  2147484160 ext 00000200      0 Lamp.Torque values - -> 0:Not%20there,1:%2d\n"
     ++ codes ". signal  2147484160 ext 00000200      0 Lamp.Torque comment - -> a%2c%20b\n"
     ++ codes "differences 28 breaking 11 added 0 removed 1 changed 1\n"
-unfolding digits unsigned_text field_changes differences_about thing_differences pair_differences
+unfolding digits unsigned_text walk field_changes differences_about thing_differences pair_differences
 each_field = refl
 
 the_other_way : compare_text false new old
@@ -168,7 +169,7 @@ the_other_way : compare_text false new old
     ++ codes ". signal         256 std 00000100      - Lamp.Torque comment a%2c%20b -> -\n"
     ++ codes ". message        257 std 00000101      - Gone added\n"
     ++ codes "differences 28 breaking 10 added 1 removed 0 changed 1\n"
-unfolding digits unsigned_text field_changes differences_about thing_differences pair_differences
+unfolding digits unsigned_text walk field_changes differences_about thing_differences pair_differences
 the_other_way = refl
 
 equal_sheets : compare_text false old old ≡ codes "differences 0 breaking 0 added 0 removed 0 changed 0\n"
@@ -181,6 +182,50 @@ renamed : compare_text false (record empty_sheet { messages = lamp [] ∷ [] })
     ++ codes "differences 1 breaking 0 added 0 removed 0 changed 1\n"
 unfolding digits field_changes differences_about thing_differences pair_differences
 renamed = refl
+
+-- ---- partners
+
+-- a lamp of this number and this name
+abbrev named : ℕ → List ℕ → Message
+named number name = record (lamp []) { ident = Std number; name = name }
+
+-- two messages exchange their identifiers: each keeps its name, and has another number
+exchanged : compare_text false
+    (record empty_sheet { messages = named 256 (codes "Left") ∷ named 257 (codes "Right") ∷ [] })
+    (record empty_sheet { messages = named 256 (codes "Right") ∷ named 257 (codes "Left") ∷ [] })
+    ≡ codes "! message        256 std 00000100      - Right renumbered 257 -> 256\n"
+    ++ codes "! message        257 std 00000101      - Left renumbered 256 -> 257\n"
+    ++ codes "differences 2 breaking 2 added 0 removed 0 changed 2\n"
+unfolding digits unsigned_text field_changes differences_about thing_differences pair_differences
+exchanged = refl
+
+-- a message takes the number of one that is gone
+number_of_another : compare_text false
+    (record empty_sheet { messages = named 256 (codes "Left") ∷ named 257 (codes "Right") ∷ [] })
+    (record empty_sheet { messages = named 256 (codes "Right") ∷ [] })
+    ≡ codes "! message        256 std 00000100      - Right renumbered 257 -> 256\n"
+    ++ codes "! message        256 std 00000100      - Left removed\n"
+    ++ codes "differences 2 breaking 2 added 0 removed 1 changed 1\n"
+unfolding digits unsigned_text field_changes differences_about thing_differences pair_differences
+number_of_another = refl
+
+-- ---- the same bits in another order, and the sign of a float
+
+same_to_a_receiver : compare_text false
+    (record empty_sheet { messages = lamp (record torque { value_type = Float } ∷ []) ∷ [] })
+    (record empty_sheet {
+      messages = lamp (record torque {
+        layout = record { start = 15; size = 8; order = Motorola };
+        value_type = Float;
+        signed = true;
+      } ∷ []) ∷ [];
+    })
+    ≡ codes ". signal         256 std 00000100      - Lamp.Torque start 8 -> 15\n"
+    ++ codes ". signal         256 std 00000100      - Lamp.Torque order intel -> motorola\n"
+    ++ codes ". signal         256 std 00000100      - Lamp.Torque signed false -> true\n"
+    ++ codes "differences 3 breaking 0 added 0 removed 0 changed 1\n"
+unfolding digits unsigned_text walk field_changes differences_about thing_differences pair_differences
+same_to_a_receiver = refl
 
 -- ---- two files of one message
 

@@ -3,16 +3,15 @@ use Rattle.dbc_compare.proofs.Common.{◌≡◌, ◌++◌, ◌∙◌, Bool, true
 use Rattle.dbc_compare.proofs.Common.{inl, inr, refl, sym, ap, subst, flat_map, bytes_eq, bytes_eq-Decides, thing_named}
 use Rattle.dbc_compare.proofs.Common.{none_found, some_same, bytes_eq-flip}
 use Rattle.dbc_words.specs.Named.{AreNamedApart, has_name}
-use Rattle.dbc_compare.specs.Differences.{are_reordered, change_if, changes_between, changes_since, differences_about}
+use Rattle.dbc_compare.specs.Differences.{are_reordered, change_if, changes_since, differences_about}
 use Rattle.dbc_compare.specs.Differences.{gone_thing, kept_names, shown_thing, thing_differences}
-use Rattle.dbc_compare.specs.Fields.{Valued}
 use Rattle.dbc_compare.specs.Laws.{swapped, swapped_change, swapped_place}
 use Rattle.dbc_compare.specs.Value.{same_names}
 use Rattle.dbc_compare.specs.declared.difference.Alteration.{Alteration}
 use Rattle.dbc_compare.specs.declared.difference.Alteration.TheVariants as change
 use Rattle.dbc_compare.specs.declared.difference.Difference.{Difference}
 use Rattle.dbc_compare.specs.declared.place.Region.{Region}
-use Rattle.dbc_compare.proofs.ChangeLists.{AreAligned, both_empty, list_same, list_swapped}
+use Rattle.dbc_compare.proofs.ChangeLists.{both_empty}
 use Rattle.dbc_compare.proofs.Members.{In, all_kept, any_in, empty_if_none, find_none, find_only, found_in, from_flat}
 use Rattle.dbc_compare.proofs.Members.{from_map, in_alone, in_either, in_first, in_flat, in_later, in_left, in_map}
 use Rattle.dbc_compare.proofs.Members.{in_right, none_if_empty, one_alone}
@@ -74,9 +73,9 @@ from_not : (b : Bool) → not b ≡ true → b ≡ false
 from_not true e = cc e
 from_not false e = refl
 
-module _ {A : Type 0} (name : A → List ℕ) (fields : A → List Valued) where
-  -- ---- who is found
+-- ---- who is found
 
+module _ {A : Type 0} (name : A → List ℕ) where
   -- the thing of a name
   pub found_self : (xs : List A) → AreNamedApart name xs → (x : A) → In x xs → (n : List ℕ) → name x ≡ n
       → thing_named name xs n ≡ Some x
@@ -93,6 +92,7 @@ module _ {A : Type 0} (name : A → List ℕ) (fields : A → List Valued) where
   has_itself xs x h =
       any_in (λ a. bytes_eq (name a) (name x)) xs x h ((bytes_eq-Decides (name x) (name x)).1 refl)
 
+module _ {A : Type 0} (name : A → List ℕ) (changes : A → A → List Alteration) where
   all_names_kept : (xs others : List A) → ((x : A) → In x xs → has_name name others (name x) ≡ true)
       → kept_names name xs others ≡ map name xs
   all_names_kept xs others h =
@@ -117,105 +117,105 @@ module _ {A : Type 0} (name : A → List ℕ) (fields : A → List Valued) where
       λ i. same i ∷ rest i
 
   found_same : (here : Region) (old : List A) (y : A) (o : Option A) → thing_named name old (name y) ≡ o
-      → ((x : A) → In x old → name x ≡ name y → changes_between (fields x) (fields y) ≡ [] → x ≡ y)
-      → differences_about here (Some (name y)) (changes_since fields o y) ≡ [] → o ≡ Some y
+      → ((x : A) → In x old → name x ≡ name y → changes x y ≡ [] → x ≡ y)
+      → differences_about here (Some (name y)) (changes_since changes o y) ≡ [] → o ≡ Some y
   found_same here old y None e told empty =
       let added : change.Added ∷ [] ≡ [] = about_told here (Some (name y)) (change.Added ∷ []) empty in cc added
   found_same here old y (Some x) e told empty =
-      let it = found_named old (name y) x e in
-      ap Some (told x it.0 it.1 (about_told here (Some (name y)) (changes_between (fields x) (fields y)) empty))
+      let it = found_named name old (name y) x e in
+      ap Some (told x it.0 it.1 (about_told here (Some (name y)) (changes x y) empty))
 
   pub things_told : (here : Region) (old new : List A) → AreNamedApart name old
-      → ((x y : A) → In x old → In y new → name x ≡ name y → changes_between (fields x) (fields y) ≡ [] → x ≡ y)
-      → thing_differences here name fields old new ≡ [] → old ≡ new
+      → ((x y : A) → In x old → In y new → name x ≡ name y → changes x y ≡ [] → x ≡ y)
+      → thing_differences here name changes old new ≡ [] → old ≡ new
   unfolding thing_differences
   things_told here old new apart told empty =
-      let first = both_empty (flat_map (shown_thing here name fields old) new) _ empty in
+      let first = both_empty (flat_map (shown_thing here name changes old) new) _ empty in
       let later = both_empty (flat_map (gone_thing here name new) old) _ first.1 in
       let found : (y : A) → In y new → thing_named name old (name y) ≡ Some y =
       λ y k. found_same here old y (thing_named name old (name y)) refl (λ x h. told x y h k)
-      (each_empty (shown_thing here name fields old) new first.0 y k) in
+      (each_empty (shown_thing here name changes old) new first.0 y k) in
       let has_new : (x : A) → In x old → has_name name new (name x) ≡ true =
       λ x h. holds_else (has_name name new (name x)) change.Removed
       (about_told here (Some (name x)) _ (each_empty (gone_thing here name new) old later.0 x h)) in
       let has_old : (y : A) → In y new → has_name name old (name y) ≡ true =
-      λ y k. has_itself old y (found_named old (name y) y (found y k)).0 in
+      λ y k. has_itself name old y (found_named name old (name y) y (found y k)).0 in
       let order : same_names (kept_names name old new) (kept_names name new old) ≡ true =
       holds_else _ change.Reordered (about_told here None _ later.1) in
       let names : map name old ≡ map name new =
       sym (all_names_kept old new has_new) ∙ (names_decide _ _).0 order ∙ all_names_kept new old has_old in
-      same_if_found old old new names (λ x h. found_self old apart x h (name x) refl) found
+      same_if_found old old new names (λ x h. found_self name old apart x h (name x) refl) found
 
-  pub things_same : (here : Region) (xs : List A) → AreNamedApart name xs
-      → thing_differences here name fields xs xs ≡ []
+  pub things_same : (here : Region) (xs : List A) → AreNamedApart name xs → ((x : A) → changes x x ≡ [])
+      → thing_differences here name changes xs xs ≡ []
   unfolding thing_differences
-  things_same here xs apart =
-      joined_empty (flat_map (shown_thing here name fields xs) xs) _
-      (flat_empty (shown_thing here name fields xs) xs
-      (λ x h. ap (λ o. differences_about here (Some (name x)) (changes_since fields o x))
-      (found_self xs apart x h (name x) refl)
-      ∙ about_empty here (Some (name x)) (changes_between (fields x) (fields x)) (list_same (fields x))))
+  things_same here xs apart same =
+      joined_empty (flat_map (shown_thing here name changes xs) xs) _
+      (flat_empty (shown_thing here name changes xs) xs
+      (λ x h. ap (λ o. differences_about here (Some (name x)) (changes_since changes o x))
+      (found_self name xs apart x h (name x) refl)
+      ∙ about_empty here (Some (name x)) (changes x x) (same x)))
       (joined_empty (flat_map (gone_thing here name xs) xs) _
       (flat_empty (gone_thing here name xs) xs
-      (λ x h. about_empty here (Some (name x)) _ (ap (λ b. change_if (not b) change.Removed) (has_itself xs x h))))
+      (λ x h. about_empty here (Some (name x)) _ (ap (λ b. change_if (not b) change.Removed) (has_itself name xs x h))))
       (about_empty here None _
       (ap (λ b. change_if (not b) change.Reordered) (itself same_names names_decide (kept_names name xs xs)))))
 
   -- ---- the other way round
 
   shown_swapped : (here : Region) (old new : List A) → AreNamedApart name new
-      → ((x y : A) → AreAligned (fields x) (fields y))
+      → ((x y : A) (c : Alteration) → In c (changes x y) → In (swapped_change c) (changes y x))
       → (y : A) → In y new → (o : Option A) → thing_named name old (name y) ≡ o → (d : Difference)
-      → In d (differences_about here (Some (name y)) (changes_since fields o y))
-      → In (swapped d) (thing_differences (swapped_place here) name fields new old)
+      → In d (differences_about here (Some (name y)) (changes_since changes o y))
+      → In (swapped d) (thing_differences (swapped_place here) name changes new old)
   unfolding thing_differences
-  shown_swapped here old new apart aligned y k None e d h =
+  shown_swapped here old new apart opposite_changes y k None e d h =
       let gone : In (swapped d) (gone_thing (swapped_place here) name old y) =
       about_swapped here (Some (name y)) (change.Added ∷ [])
       (change_if (not (has_name name old (name y))) change.Removed) d h
       (λ c t. to_if (not (has_name name old (name y))) change.Removed (swapped_change c)
       (ap not (none_found (λ a. bytes_eq (name a) (name y)) old e)) (ap swapped_change (in_alone c change.Added t))) in
-      in_right (flat_map (shown_thing (swapped_place here) name fields new) old) _ (swapped d)
+      in_right (flat_map (shown_thing (swapped_place here) name changes new) old) _ (swapped d)
       (in_left (flat_map (gone_thing (swapped_place here) name old) new) _ (swapped d)
       (in_flat (gone_thing (swapped_place here) name old) new y (swapped d) k gone))
-  shown_swapped here old new apart aligned y k (Some x) e d h =
-      let it = found_named old (name y) x e in
+  shown_swapped here old new apart opposite_changes y k (Some x) e d h =
+      let it = found_named name old (name y) x e in
       let opposite : In (swapped d) (differences_about (swapped_place here) (Some (name y))
-      (changes_between (fields y) (fields x))) =
-      about_swapped here (Some (name y)) (changes_between (fields x) (fields y))
-      (changes_between (fields y) (fields x)) d h (list_swapped (fields x) (fields y) (aligned x y)) in
+      (changes y x)) =
+      about_swapped here (Some (name y)) (changes x y)
+      (changes y x) d h (opposite_changes x y) in
       let named : In (swapped d) (differences_about (swapped_place here) (Some (name x))
-      (changes_between (fields y) (fields x))) =
+      (changes y x)) =
       subst (λ n. In (swapped d) (differences_about (swapped_place here) (Some n)
-      (changes_between (fields y) (fields x)))) (sym it.1) opposite in
-      let shown : In (swapped d) (shown_thing (swapped_place here) name fields new x) =
+      (changes y x))) (sym it.1) opposite in
+      let shown : In (swapped d) (shown_thing (swapped_place here) name changes new x) =
       subst (λ (o : Option A). In (swapped d) (differences_about (swapped_place here) (Some (name x))
-      (changes_since fields o x))) (sym (found_self new apart y k (name x) (sym it.1))) named in
-      in_left (flat_map (shown_thing (swapped_place here) name fields new) old) _ (swapped d)
-      (in_flat (shown_thing (swapped_place here) name fields new) old x (swapped d) it.0 shown)
+      (changes_since changes o x))) (sym (found_self name new apart y k (name x) (sym it.1))) named in
+      in_left (flat_map (shown_thing (swapped_place here) name changes new) old) _ (swapped d)
+      (in_flat (shown_thing (swapped_place here) name changes new) old x (swapped d) it.0 shown)
 
   gone_swapped : (here : Region) (old new : List A) → (x : A) → In x old → (d : Difference)
       → In d (gone_thing here name new x)
-      → In (swapped d) (thing_differences (swapped_place here) name fields new old)
+      → In (swapped d) (thing_differences (swapped_place here) name changes new old)
   unfolding thing_differences
   gone_swapped here old new x k d h =
-      let opposite : In (swapped d) (shown_thing (swapped_place here) name fields new x) =
+      let opposite : In (swapped d) (shown_thing (swapped_place here) name changes new x) =
       about_swapped here (Some (name x)) (change_if (not (has_name name new (name x))) change.Removed)
-      (changes_since fields (thing_named name new (name x)) x) d h
+      (changes_since changes (thing_named name new (name x)) x) d h
       (λ c t. let it = from_if (not (has_name name new (name x))) change.Removed c t in
       let none : thing_named name new (name x) ≡ None =
       find_none (λ a. bytes_eq (name a) (name x)) new (from_not (has_name name new (name x)) it.0) in
-      subst (λ (o : Option A). In (swapped_change c) (changes_since fields o x)) (sym none)
+      subst (λ (o : Option A). In (swapped_change c) (changes_since changes o x)) (sym none)
       (in_first (swapped_change c) change.Added [] (ap swapped_change it.1))) in
-      in_left (flat_map (shown_thing (swapped_place here) name fields new) old) _ (swapped d)
-      (in_flat (shown_thing (swapped_place here) name fields new) old x (swapped d) k opposite)
+      in_left (flat_map (shown_thing (swapped_place here) name changes new) old) _ (swapped d)
+      (in_flat (shown_thing (swapped_place here) name changes new) old x (swapped d) k opposite)
 
   order_swapped : (here : Region) (old new : List A) (d : Difference)
       → In d (differences_about here None (change_if (are_reordered name old new) change.Reordered))
-      → In (swapped d) (thing_differences (swapped_place here) name fields new old)
+      → In (swapped d) (thing_differences (swapped_place here) name changes new old)
   unfolding thing_differences
   order_swapped here old new d h =
-      in_right (flat_map (shown_thing (swapped_place here) name fields new) old) _ (swapped d)
+      in_right (flat_map (shown_thing (swapped_place here) name changes new) old) _ (swapped d)
       (in_right (flat_map (gone_thing (swapped_place here) name old) new) _ (swapped d)
       (about_swapped here None (change_if (are_reordered name old new) change.Reordered)
       (change_if (are_reordered name new old) change.Reordered) d h
@@ -225,14 +225,14 @@ module _ {A : Type 0} (name : A → List ℕ) (fields : A → List Valued) where
       (ap swapped_change it.1))))
 
   pub things_swapped : (here : Region) (old new : List A) → AreNamedApart name new
-      → ((x y : A) → AreAligned (fields x) (fields y)) → (d : Difference)
-      → In d (thing_differences here name fields old new)
-      → In (swapped d) (thing_differences (swapped_place here) name fields new old)
+      → ((x y : A) (c : Alteration) → In c (changes x y) → In (swapped_change c) (changes y x)) → (d : Difference)
+      → In d (thing_differences here name changes old new)
+      → In (swapped d) (thing_differences (swapped_place here) name changes new old)
   unfolding thing_differences
-  things_swapped here old new apart aligned d h =
-      elim (in_either (flat_map (shown_thing here name fields old) new) _ d h) [
-        | inl shown ↦ let it = from_flat (shown_thing here name fields old) new d shown in
-            shown_swapped here old new apart aligned it.0 it.1 (thing_named name old (name it.0)) refl d it.2
+  things_swapped here old new apart opposite_changes d h =
+      elim (in_either (flat_map (shown_thing here name changes old) new) _ d h) [
+        | inl shown ↦ let it = from_flat (shown_thing here name changes old) new d shown in
+            shown_swapped here old new apart opposite_changes it.0 it.1 (thing_named name old (name it.0)) refl d it.2
         | inr later ↦ elim (in_either (flat_map (gone_thing here name new) old) _ d later) [
           | inl gone ↦ let it = from_flat (gone_thing here name new) old d gone in
               gone_swapped here old new it.0 it.1 d it.2

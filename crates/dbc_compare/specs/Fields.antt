@@ -1,8 +1,9 @@
 -- The fields of a sheet and of its things, each with what it has, in the order in which they are shown.
-use Rattle.std.specs.Prelude.{ℕ, Bool, true, false, List, [], ◌∷◌, ◌++◌, Option, Some, None, codes, if◌then◌else◌}
+use Rattle.std.specs.Prelude.{ℕ, Bool, true, false, not, ◌||◌, List, [], ◌∷◌, ◌++◌, Option, Some, None, codes}
+use Rattle.std.specs.Prelude.{if◌then◌else◌}
 use Rattle.bitlayout.specs.Mux.{indicator_of}
-use Rattle.bitlayout.specs.declared.layout.Order.{Order}
 use Rattle.bitlayout.specs.Order.{order_word}
+use Rattle.bitlayout.specs.Weight.{same_bits}
 use Rattle.dbc_words.specs.declared.value_type.ValueType.{ValueType}
 use Rattle.dbc_words.specs.declared.value_type.ValueType.TheVariants.{Integer, Float, Double}
 use Rattle.dbc_sheet.specs.Messages.{number_of}
@@ -15,7 +16,7 @@ use Rattle.dbc_compare.specs.Value.{Value, Whole, Word, WholeOrNone, Dec, Names,
 use Rattle.dbc_compare.specs.declared.field.SheetField.{SheetField}
 use Rattle.dbc_compare.specs.declared.field.SheetField.TheVariants as field
 
--- ---- their words, and which of them a receiver goes by
+-- ---- their words
 
 abbrev pub field_word : SheetField → List ℕ
 field_word field.Version = codes "version"
@@ -39,19 +40,34 @@ field_word field.Unit = codes "unit"
 field_word field.Spn = codes "spn"
 field_word field.Receivers = codes "receivers"
 
--- a receiver that was built for the old value reads the new message wrong, or doesn't see it
-abbrev pub breaks_receivers : SheetField → Bool
-breaks_receivers field.Number = true
-breaks_receivers field.Length = true
-breaks_receivers field.Start = true
-breaks_receivers field.Size = true
-breaks_receivers field.Order = true
-breaks_receivers field.Signed = true
-breaks_receivers field.ValueType = true
-breaks_receivers field.Mux = true
-breaks_receivers field.Factor = true
-breaks_receivers field.Offset = true
-breaks_receivers f = false
+-- ---- which changes a receiver sees that was built for the old sheet
+
+-- of a sheet, a node and a value table
+abbrev pub none_breaks : SheetField → Bool
+none_breaks f = false
+
+-- of a message: the identifier and the length, by which it is taken
+abbrev pub message_breaks : SheetField → Bool
+message_breaks field.Number = true
+message_breaks field.Length = true
+message_breaks f = false
+
+abbrev pub is_integer : ValueType → Bool
+is_integer Integer = true
+is_integer t = false
+
+-- Of a signal: start, size and order where the bits are others; the sign of an integer, since a float has one of its
+-- own; its type, when it is there, and its scale.
+abbrev pub signal_breaks : Signal → Signal → SheetField → Bool
+signal_breaks old new field.Start = not (same_bits old.layout new.layout)
+signal_breaks old new field.Size = not (same_bits old.layout new.layout)
+signal_breaks old new field.Order = not (same_bits old.layout new.layout)
+signal_breaks old new field.Signed = is_integer old.value_type || is_integer new.value_type
+signal_breaks old new field.ValueType = true
+signal_breaks old new field.Mux = true
+signal_breaks old new field.Factor = true
+signal_breaks old new field.Offset = true
+signal_breaks old new f = false
 
 -- ---- words of a few choices
 

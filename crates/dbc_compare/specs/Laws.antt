@@ -28,7 +28,7 @@ abbrev pub swapped_change : Alteration → Alteration
 swapped_change change.Added = change.Removed
 swapped_change change.Removed = change.Added
 swapped_change change.Reordered = change.Reordered
-swapped_change (change.Changed f old new) = change.Changed f new old
+swapped_change (change.Changed f breaks old new) = change.Changed f breaks new old
 
 -- added for removed, old for new
 abbrev pub swapped : Difference → Difference

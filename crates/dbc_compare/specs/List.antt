@@ -7,7 +7,7 @@ use Rattle.dbc_sheet.specs.Pairs.{counts_of}
 use Rattle.dbc_sheet.specs.declared.counts.Counts.{Counts}
 use Rattle.dbc_sheet.specs.declared.sheet.Sheet.{Sheet}
 use Rattle.dbc_compare.specs.Differences.{differences}
-use Rattle.dbc_compare.specs.Fields.{breaks_receivers, field_word}
+use Rattle.dbc_compare.specs.Fields.{field_word}
 use Rattle.dbc_compare.specs.declared.difference.Alteration.{Alteration}
 use Rattle.dbc_compare.specs.declared.difference.Alteration.TheVariants as change
 use Rattle.dbc_compare.specs.declared.difference.Difference.{Difference}
@@ -45,17 +45,18 @@ abbrev pub change_word : Alteration → List ℕ
 change_word change.Added = codes "added"
 change_word change.Removed = codes "removed"
 change_word change.Reordered = codes "reordered"
-change_word (change.Changed f old new) = field_word f
+change_word (change.Changed f breaks old new) = field_word f
 
 -- the word, and of a field what it had and what it has
 abbrev pub change_fact : Alteration → Fact
-change_fact (change.Changed f old new) = of_change (field_word f) (Some (old, new))
+change_fact (change.Changed f breaks old new) = of_change (field_word f) (Some (old, new))
 change_fact c = of_change (change_word c) None
 
--- whether it breaks a receiver of what was there: a message or a signal that is gone, or a field that it goes by
+-- whether it breaks a receiver of what was there: a message or a signal is gone, or the change of a field is one that
+-- it sees
 abbrev pub is_breaking : Region → Alteration → Bool
 is_breaking (place.Message old new) change.Removed = true
-is_breaking here (change.Changed f old new) = breaks_receivers f
+is_breaking here (change.Changed f breaks old new) = breaks
 is_breaking here c = false
 
 abbrev pub breaks : Difference → Bool

@@ -1,4 +1,4 @@
-//! The changes of fields.
+//! The changes of fields, each of which breaks a receiver or doesn't.
 ghost use Rattle.std.specs.Prelude.{◌≡◌, ◌++◌, ◌∷◌, [], OnOk};
 ghost use Rattle.dbc_compare.specs.Differences.{field_changes};
 ghost use Rattle.dbc_compare.specs.Value.{Dec, Names, Texts, Whole, WholeOrNone, Word};
@@ -17,15 +17,21 @@ use std::alloc::{AllocError, Global};
 fn push_words(
     changes: &mut Vec<Alteration>,
     field: SheetField,
+    breaks: bool,
     old: Vec<u8>,
     new: Vec<u8>,
 ) -> Result<(), AllocError>
     ensures { OnOk result
-        (changes.new.items ≡ changes.old.items ++ Alteration.Changed field old.items new.items ∷ []) }
+        (changes.new.items ≡ changes.old.items ++ Alteration.Changed field breaks old.items new.items ∷ []) }
 {
     let old = Items::from_vec(old);
     let new = Items::from_vec(new);
-    changes.push(Alteration::Changed { field, old, new })?;
+    changes.push(Alteration::Changed {
+        field,
+        breaks,
+        old,
+        new,
+    })?;
     Ok(())
 }
 
@@ -35,18 +41,19 @@ pub(crate) fn push_whole(
     alloc: Global,
     changes: &mut Vec<Alteration>,
     field: SheetField,
+    breaks: bool,
     old: u64,
     new: u64,
 ) -> Result<(), AllocError>
     ensures { OnOk result (changes.new.items
-        ≡ changes.old.items ++ field_changes field (Whole old) (Whole new)) }
+        ≡ changes.old.items ++ field_changes field breaks (Whole old) (Whole new)) }
 {
     if old == new {
         return Ok(());
     }
     let old = digits(alloc, old)?;
     let new = digits(alloc, new)?;
-    push_words(changes, field, old, new)
+    push_words(changes, field, breaks, old, new)
 }
 
 /// Adds the change of a name or a text, if it has changed.
@@ -55,18 +62,19 @@ pub(crate) fn push_word(
     alloc: Global,
     changes: &mut Vec<Alteration>,
     field: SheetField,
+    breaks: bool,
     old: &[u8],
     new: &[u8],
 ) -> Result<(), AllocError>
     ensures { OnOk result (changes.new.items
-        ≡ changes.old.items ++ field_changes field (Word old.now) (Word new.now)) }
+        ≡ changes.old.items ++ field_changes field breaks (Word old.now) (Word new.now)) }
 {
     if old == new {
         return Ok(());
     }
     let old = word(alloc, old)?;
     let new = word(alloc, new)?;
-    push_words(changes, field, old, new)
+    push_words(changes, field, breaks, old, new)
 }
 
 /// Adds the change of a suspect parameter number, if it has changed.
@@ -75,18 +83,19 @@ pub(crate) fn push_spn(
     alloc: Global,
     changes: &mut Vec<Alteration>,
     field: SheetField,
+    breaks: bool,
     old: Spn,
     new: Spn,
 ) -> Result<(), AllocError>
     ensures { OnOk result (changes.new.items
-        ≡ changes.old.items ++ field_changes field (WholeOrNone old) (WholeOrNone new)) }
+        ≡ changes.old.items ++ field_changes field breaks (WholeOrNone old) (WholeOrNone new)) }
 {
     if old == new {
         return Ok(());
     }
     let old = spn_text(alloc, old)?;
     let new = spn_text(alloc, new)?;
-    push_words(changes, field, old, new)
+    push_words(changes, field, breaks, old, new)
 }
 
 /// Adds the change of a decimal, if it has changed.
@@ -95,18 +104,19 @@ pub(crate) fn push_decimal(
     alloc: Global,
     changes: &mut Vec<Alteration>,
     field: SheetField,
+    breaks: bool,
     old: &Decimal,
     new: &Decimal,
 ) -> Result<(), AllocError>
     ensures { OnOk result (changes.new.items
-        ≡ changes.old.items ++ field_changes field (Dec old.now) (Dec new.now)) }
+        ≡ changes.old.items ++ field_changes field breaks (Dec old.now) (Dec new.now)) }
 {
     if old == new {
         return Ok(());
     }
     let old = decimal_text(alloc, old)?;
     let new = decimal_text(alloc, new)?;
-    push_words(changes, field, old, new)
+    push_words(changes, field, breaks, old, new)
 }
 
 /// Adds the change of a list of names, if it has changed.
@@ -115,18 +125,19 @@ pub(crate) fn push_names(
     alloc: Global,
     changes: &mut Vec<Alteration>,
     field: SheetField,
+    breaks: bool,
     old: &[Name],
     new: &[Name],
 ) -> Result<(), AllocError>
     ensures { OnOk result (changes.new.items
-        ≡ changes.old.items ++ field_changes field (Names old.now) (Names new.now)) }
+        ≡ changes.old.items ++ field_changes field breaks (Names old.now) (Names new.now)) }
 {
     if old == new {
         return Ok(());
     }
     let old = words(alloc, old)?;
     let new = words(alloc, new)?;
-    push_words(changes, field, old, new)
+    push_words(changes, field, breaks, old, new)
 }
 
 /// Adds the change of texts for values, if they have changed.
@@ -135,16 +146,17 @@ pub(crate) fn push_texts(
     alloc: Global,
     changes: &mut Vec<Alteration>,
     field: SheetField,
+    breaks: bool,
     old: &[ValueText],
     new: &[ValueText],
 ) -> Result<(), AllocError>
     ensures { OnOk result (changes.new.items
-        ≡ changes.old.items ++ field_changes field (Texts old.now) (Texts new.now)) }
+        ≡ changes.old.items ++ field_changes field breaks (Texts old.now) (Texts new.now)) }
 {
     if old == new {
         return Ok(());
     }
     let old = entries_text(alloc, old)?;
     let new = entries_text(alloc, new)?;
-    push_words(changes, field, old, new)
+    push_words(changes, field, breaks, old, new)
 }

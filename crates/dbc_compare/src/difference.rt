@@ -20,6 +20,8 @@ pub enum Alteration {
     Changed {
         /// The field.
         field: SheetField,
+        /// Whether a receiver that was built for the old sheet reads otherwise now, or nothing.
+        breaks: bool,
         /// What it had, as a word.
         old: Items<u8>,
         /// What it has, as a word.
@@ -66,8 +68,14 @@ impl Copying for Alteration {
             Alteration::Added => Ok(Alteration::Added),
             Alteration::Removed => Ok(Alteration::Removed),
             Alteration::Reordered => Ok(Alteration::Reordered),
-            Alteration::Changed { field, old, new } => Ok(Alteration::Changed {
+            Alteration::Changed {
+                field,
+                breaks,
+                old,
+                new,
+            } => Ok(Alteration::Changed {
                 field: *field,
+                breaks: *breaks,
                 old: copied(alloc, old)?,
                 new: copied(alloc, new)?,
             }),

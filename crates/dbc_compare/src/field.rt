@@ -47,7 +47,7 @@ pub enum SheetField {
 }
 
 impl SheetField {
-    ghost use Rattle.dbc_compare.specs.Fields.{breaks_receivers, field_word};
+    ghost use Rattle.dbc_compare.specs.Fields.{field_word};
 
     /// The word of its change.
     pub fn word(self) -> &'static [u8]
@@ -75,24 +75,5 @@ impl SheetField {
             SheetField::Spn => b"spn",
             SheetField::Receivers => b"receivers",
         }
-    }
-
-    /// Whether a receiver that was built for the old value reads the new message wrong, or doesn't see it.
-    pub fn breaks_receivers(self) -> bool
-        ensures { result ≡ breaks_receivers self }
-    {
-        matches!(
-            self,
-            SheetField::Number
-                | SheetField::Length
-                | SheetField::Start
-                | SheetField::Size
-                | SheetField::Order
-                | SheetField::Signed
-                | SheetField::ValueType
-                | SheetField::Mux
-                | SheetField::Factor
-                | SheetField::Offset
-        )
     }
 }

@@ -86,7 +86,7 @@ fn change_cell(change: &Alteration) -> Cell<'_>
 {
     let word = change.word();
     match change {
-        Alteration::Changed { field: _, old, new } => {
+        Alteration::Changed { old, new, .. } => {
             Cell::Change(word, Some((old.as_slice(), new.as_slice())))
         }
         _ => Cell::Change(word, None),
@@ -99,13 +99,13 @@ fn is_breaking(place: &Region, change: &Alteration) -> bool
 {
     match change {
         Alteration::Removed => matches!(place, Region::Message { .. }),
-        Alteration::Changed { field, .. } => field.breaks_receivers(),
+        Alteration::Changed { breaks, .. } => *breaks,
         _ => false,
     }
 }
 
-/// Whether the difference breaks a receiver of what was there: a message or a signal is gone, or a field has changed by
-/// which a receiver finds it or reads it.
+/// Whether the difference breaks a receiver of what was there: a message or a signal is gone, or a field has changed so
+/// that a receiver reads otherwise, or nothing.
 pub fn breaks(difference: &Difference) -> bool
     ensures { result ≡ breaks difference.now }
 {

@@ -96,7 +96,7 @@ fn changes_since<T: Compared>(
     thing: &T,
 ) -> Result<Vec<Alteration>, AllocError>
     ensures { IfOk result (λ changes. changes.items
-        ≡ changes_since T.fields_of (option_copied found.entry) thing.now) }
+        ≡ changes_since T.changes_of (option_copied found.entry) thing.now) }
 {
     match found {
         Some(old) => thing.changes_from(alloc, old),
@@ -155,7 +155,7 @@ fn push_shown<T: Compared>(
     new: &[T],
 ) -> Result<(), AllocError>
     ensures { OnOk result (found.new.items ≡ found.old.items
-        ++ flat_map (shown_thing place.now T.name_of T.fields_of old.now) new.now) }
+        ++ flat_map (shown_thing place.now T.name_of T.changes_of old.now) new.now) }
 {
     for thing in new {
         let changes = changes_since(alloc, thing_named(old, thing.name()), thing)?;
@@ -209,7 +209,7 @@ pub(crate) fn push_things<T: Compared>(
     new: &[T],
 ) -> Result<(), AllocError>
     ensures { OnOk result (found.new.items ≡ found.old.items
-        ++ thing_differences place.now T.name_of T.fields_of old.now new.now) }
+        ++ thing_differences place.now T.name_of T.changes_of old.now new.now) }
 {
     push_shown(alloc, found, place, old, new)?;
     push_gone(alloc, found, place, old, new)?;

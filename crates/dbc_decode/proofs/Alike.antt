@@ -9,7 +9,8 @@ use Rattle.dbc_sheet.specs.Signals.{HaveOneMultiplexor}
 use Rattle.dbc_words.proofs.NamedThings.{some_same}
 use Rattle.dbc_compare.proofs.Members.{one_alone}
 use Rattle.bitlayout.specs.declared.place.Mux.{Mux}
-use Rattle.dbc_decode.specs.Decoding.{Coding, Reading, bits_number, by_weight, chosen, coding_of, is_there, pattern_in}
+use Rattle.bitlayout.specs.Weight.{by_weight}
+use Rattle.dbc_decode.specs.Decoding.{Coding, Reading, bits_number, chosen, coding_of, is_there, pattern_in}
 use Rattle.dbc_decode.specs.Decoding.{raw_by, read, reading}
 use Rattle.dbc_decode.specs.Marks.{ReadsAs}
 

@@ -7,7 +7,7 @@ use Rattle.dbc_sheet.specs.Messages.{message_at}
 use Rattle.can_id.specs.Ident.{dbc_number}
 use Rattle.dbc_compare.proofs.PartnersBack.{found_number, number_found}
 use Rattle.dbc_decode.specs.Decoding.{Decoded, Frame, Read, decode_as, read}
-use Rattle.dbc_decode.specs.Laws.{SaysAsMuch, Serves, UnmarkedFramesAreRead, UnmarkedIsRead}
+use Rattle.dbc_decode.specs.Laws.{IsTheSame, SaysAsMuch, Serves, UnmarkedFramesAreRead, UnmarkedIsRead}
 use Rattle.dbc_decode.proofs.Alike.{if_some}
 use Rattle.dbc_decode.proofs.Unmarked.{unmarked_read}
 
@@ -35,7 +35,8 @@ module _ (old new : Sheet) (is_old : IsSheet old) (is_new : IsSheet new) where
   by_message : UnmarkedIsRead old new → (f : Frame) (o : Option Message)
       → message_at old.messages (dbc_number f.ident) ≡ o
       → ((m : Message) → In m old.messages → IsClearMessage m)
-      → ((m : Message) → Contains old.messages m → (p : Message) × Contains new.messages p × Serves m p)
+      → ((m : Message) → Contains old.messages m
+      → (p : Message) × Contains new.messages p × Serves m p × IsTheSame old new m p)
       → (before : Decoded) → decode_as f o ≡ Some before
       → (after : Decoded) × (decode_as f (message_at new.messages (dbc_number f.ident)) ≡ Some after)
       × SaysAsMuch before after

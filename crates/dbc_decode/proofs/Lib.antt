@@ -4,7 +4,6 @@ pub mod Quiet
 pub mod Unmarked
 pub mod Frames
 pub mod Positions
-pub mod NamedPartners
 pub mod Seen
 pub mod Signed
 pub mod Sizes

@@ -9,7 +9,8 @@ use Rattle.std.proofs.lemmas.List.Elements.{All-replicate, All-set}
 use Rattle.std.proofs.lemmas.Nat.Bits.{bit_at-pow_other, bit_at-pow_same}
 use Rattle.std.specs.Int.{bit_at}
 use Rattle.bitlayout.specs.Bits.{IsInside}
-use Rattle.dbc_decode.specs.Decoding.{bits_number, by_weight, in_weight, payload_bit}
+use Rattle.bitlayout.specs.Weight.{by_weight, in_weight}
+use Rattle.dbc_decode.specs.Decoding.{bits_number, payload_bit}
 use Rattle.dbc_decode.specs.Laws.{IsPayload, LayoutsTellApart}
 
 -- ---- a payload of which one bit is set

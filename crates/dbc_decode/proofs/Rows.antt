@@ -6,14 +6,14 @@ use Rattle.std.proofs.Common.{codes}
 use Rattle.std.specs.Prelude.{negsuc}
 use Rattle.dbc_compare.specs.Differences.{differences_about, field_changes, pair_differences, thing_differences}
 use Rattle.bitlayout.specs.Bits.{walk}
+use Rattle.bitlayout.specs.Weight.{by_weight}
 use Rattle.can_id.specs.declared.ident.Ident.TheVariants.{Ext, Std}
 use Rattle.decimal.specs.Number.{Number}
 use Rattle.dbc_sheet.specs.Sheet.{empty_sheet}
+use Rattle.dbc_compare.specs.Fields.{signal_breaks}
 use Rattle.dbc_compare.specs.declared.field.SheetField.TheVariants as field
-use Rattle.dbc_decode.specs.ByName.{named_differences, named_partner}
-use Rattle.dbc_decode.specs.Marks.{is_seen}
-use Rattle.dbc_decode.specs.Decoding.{Decoded, Whole, bits_number, by_weight, decode, Signed, payload_bit, raw_by, read}
-use Rattle.dbc_decode.specs.Decoding.{reading, twos_complement}
+use Rattle.dbc_decode.specs.Decoding.{Decoded, Whole, bits_number, decode, Signed, payload_bit, raw_by, read, reading}
+use Rattle.dbc_decode.specs.Decoding.{twos_complement}
 
 abbrev whole : ℕ → Number
 whole n = record { mantissa = pos n; exponent = pos 0 }
@@ -141,7 +141,8 @@ too_long = refl
 other_form : decode one_message (record { ident = Ext 1; payload = 18 ∷ 52 ∷ [] }) ≡ None
 other_form = refl
 
--- ---- two like messages exchange their identifiers: nothing is marked, and a receiver gets the other wheel
+-- ---- two like messages exchange their identifiers: both are renumbered and marked, and a receiver gets the other
+-- wheel
 
 abbrev before : Sheet
 before = record empty_sheet { messages = wheel (codes "Left") 1 ∷ wheel (codes "Right") 2 ∷ [] }
@@ -149,9 +150,9 @@ before = record empty_sheet { messages = wheel (codes "Left") 1 ∷ wheel (codes
 abbrev after : Sheet
 after = record empty_sheet { messages = wheel (codes "Right") 1 ∷ wheel (codes "Left") 2 ∷ [] }
 
-nothing_marked : count_by breaks (differences before after) ≡ 0
+both_marked : count_by breaks (differences before after) ≡ 2
 unfolding differences_about field_changes pair_differences thing_differences
-nothing_marked = refl
+both_marked = refl
 
 abbrev message_said : Option Decoded → List ℕ
 message_said None = []
@@ -163,12 +164,7 @@ was_left = refl
 is_right : message_said (decode after (record { ident = Std 1; payload = 0 ∷ 0 ∷ [] })) ≡ codes "Right"
 is_right = refl
 
--- with partners by name both are renumbered, and marked
-exchange_marked : count_by breaks (named_differences before.messages after.messages) ≡ 2
-unfolding differences_about field_changes pair_differences thing_differences
-exchange_marked = refl
-
--- ---- what is seen of a signal
+-- ---- what is marked of a signal
 
 abbrev intel_byte : Signal
 intel_byte = record speed { layout = record { start = 8; size = 8; order = Intel } }
@@ -176,29 +172,15 @@ intel_byte = record speed { layout = record { start = 8; size = 8; order = Intel
 abbrev motorola_byte : Signal
 motorola_byte = record speed { layout = record { start = 15; size = 8; order = Motorola } }
 
-start_unseen : is_seen intel_byte motorola_byte field.Start ≡ false
+start_unmarked : signal_breaks intel_byte motorola_byte field.Start ≡ false
 unfolding walk
-start_unseen = refl
+start_unmarked = refl
 
-start_seen : is_seen speed (record speed { layout = record { start = 7; size = 16; order = Motorola } }) field.Order
+start_marked : signal_breaks speed (record speed { layout = record { start = 7; size = 16; order = Motorola } }) field.Order
     ≡ true
 unfolding walk
-start_seen = refl
+start_marked = refl
 
-sign_unseen : is_seen (record speed { value_type = Float }) (record speed { value_type = Float; signed = true })
+sign_unmarked : signal_breaks (record speed { value_type = Float }) (record speed { value_type = Float; signed = true })
     field.Signed ≡ false
-sign_unseen = refl
-
--- ---- partners by name
-
--- the one of the name, whatever its number
-by_the_name : named_partner after.messages before.messages (wheel (codes "Left") 1) ≡ Some (wheel (codes "Left") 2)
-by_the_name = refl
-
--- else the one of the number, if its name is new
-by_the_number : named_partner (wheel (codes "Rear") 1 ∷ []) before.messages (wheel (codes "Left") 1)
-    ≡ Some (wheel (codes "Rear") 1)
-by_the_number = refl
-
-of_neither : named_partner (wheel (codes "Right") 1 ∷ []) before.messages (wheel (codes "Left") 1) ≡ None
-of_neither = refl
+sign_unmarked = refl

@@ -1,4 +1,4 @@
--- Of signals that are read alike no change is seen.
+-- Of signals that are read alike no change is marked.
 use Rattle.dbc_decode.proofs.Common.{◌≡◌, ◌⊎◌, ◌∙◌, Bool, true, false, not, ℕ, List, [], ◌∷◌, inl, inr, refl, sym, ap}
 use Rattle.dbc_decode.proofs.Common.{subst, ◌≤◌, ◌++◌, length, pos, length-reverse, positions, Layout, Order, Intel}
 use Rattle.dbc_decode.proofs.Common.{Motorola, both_ways, cases_Bool, cond-false, cond-true, not-true, ValueType}
@@ -6,17 +6,21 @@ use Rattle.dbc_decode.proofs.Common.{Integer, Float, Double, Signal, changes_bet
 use Rattle.dbc_decode.proofs.Common.{same_value, value_text, Alteration, SheetField, In, in_from, value_decides, length-walk}
 use Rattle.std.proofs.lemmas.Bool.{false≢true}
 use Rattle.std.specs.Prelude.{ℤ}
-use Rattle.dbc_compare.specs.Differences.{field_changes}
-use Rattle.dbc_compare.specs.Fields.{meaning_fields, reading_fields, scale_fields, truth_word, type_word}
+use Rattle.std.proofs.Common.{◌||◌}
+use Rattle.bitlayout.specs.Weight.{by_weight, in_weight, same_bits}
+use Rattle.dbc_compare.specs.Differences.{field_changes, signal_changes}
+use Rattle.dbc_compare.specs.Fields.{is_integer, meaning_fields, reading_fields, scale_fields, signal_breaks}
+use Rattle.dbc_compare.specs.Fields.{truth_word, type_word}
 use Rattle.dbc_compare.specs.Value.{Word}
 use Rattle.dbc_compare.proofs.Members.{none_if_empty, in_alone, in_either}
 use Rattle.bitlayout.specs.Mux.{indicator_of}
 use Rattle.dbc_compare.specs.declared.difference.Alteration.TheVariants as change
 use Rattle.dbc_decode.specs.Decoding.{Coding, Reading, Signed, Single, Twofold, Unsigned, Whole, OfSingle, OfDouble}
-use Rattle.dbc_decode.specs.Decoding.{by_weight, coding_by, coding_of, in_weight, raw_by}
+use Rattle.dbc_decode.specs.Decoding.{coding_by, coding_of, raw_by}
 use Rattle.dbc_decode.specs.Laws.{IsPayload}
-use Rattle.dbc_decode.specs.Marks.{ReadIsUnseen, ReadsAs, SeenIsRead, is_integer, is_seen, same_bits, sees}
-use Rattle.dbc_decode.proofs.Seen.{SeenSame, bits_decide}
+use Rattle.dbc_decode.specs.Marks.{MarkedIsRead, ReadIsUnmarked, ReadsAs, is_marked}
+use Rattle.dbc_decode.proofs.Quiet.{MarkedSame, NoneTold, TellsMarks}
+use Rattle.dbc_decode.proofs.Seen.{bits_decide}
 use Rattle.dbc_decode.proofs.Signed.{SameSigned, mixed_told, signed_told}
 use Rattle.dbc_decode.proofs.Sizes.{AreApart, are_apart, sizes_told}
 use Rattle.dbc_decode.proofs.Positions.{AreBelow, are_below, its_payload, lists_told, one_bit}
@@ -52,58 +56,73 @@ sign_coded : (t u : ValueType) (x y : Bool) → coding_by t x ≡ coding_by u y 
 sign_coded t u x y e i =
     sym (its_sign t x i) ∙ ap sign_of e ∙ its_sign u y (ap is_integer (sym (type_coded t u x y e)) ∙ i)
 
--- ---- no change is seen
+-- ---- no change is marked
 
-module _ (a b : Signal) where
-  seen_only : (f : SheetField) (x y : Value) → (is_seen a b f ≡ true → x ≡ y) → (c : Alteration) → In c (field_changes f x y)
-      → sees a b c ≡ false
+-- of fields that are the same where their changes are marked, none is told
+module _ (tells : Alteration → Bool) (by_mark : TellsMarks tells) where
+  field_untold : (f : SheetField) (b : Bool) (x y : Value) → (b ≡ true → x ≡ y) → NoneTold tells (field_changes f b x y)
   unfolding field_changes
-  seen_only f x y same c h = by_test (cases_Bool (same_value x y))
+  field_untold f b x y same c h = by_test (cases_Bool (same_value x y))
     where
       told : Alteration
-      told = change.Changed f (value_text x) (value_text y)
+      told = change.Changed f b (value_text x) (value_text y)
 
-      by_seen : same_value x y ≡ false → (is_seen a b f ≡ true) ⊎ (is_seen a b f ≡ false) → is_seen a b f ≡ false
-      by_seen n (inl t) = absurd (both_ways (same_value x y) n ((value_decides x y).1 (same t)))
-      by_seen n (inr f) = f
+      unmarked : same_value x y ≡ false → (b ≡ true) ⊎ (b ≡ false) → b ≡ false
+      unmarked n (inl t) = absurd (both_ways (same_value x y) n ((value_decides x y).1 (same t)))
+      unmarked n (inr f) = f
 
-      by_test : (same_value x y ≡ true) ⊎ (same_value x y ≡ false) → sees a b c ≡ false
+      by_test : (same_value x y ≡ true) ⊎ (same_value x y ≡ false) → tells c ≡ false
       by_test (inl t) =
-          absurd (none_if_empty [] refl c
-          (subst (λ cs. In c cs) (cond-true (same_value x y) [] (told ∷ []) t) h))
+          absurd (none_if_empty [] refl c (subst (λ cs. In c cs) (cond-true (same_value x y) [] (told ∷ []) t) h))
       by_test (inr n) =
           let it : c ≡ told = in_alone c told
           (subst (λ cs. In c cs) (cond-false (same_value x y) [] (told ∷ []) n) h) in
-          ap (sees a b) it ∙ by_seen n (cases_Bool (is_seen a b f))
+          ap tells it ∙ by_mark f b (value_text x) (value_text y) ∙ unmarked n (cases_Bool b)
 
-  none_seen : (xs ys : List Valued) → SeenSame a b xs ys → (c : Alteration) → In c (changes_between xs ys)
-      → sees a b c ≡ false
-  none_seen [] ys same c h = absurd (none_if_empty [] refl c h)
-  none_seen (x ∷ xs) [] same c h = absurd (none_if_empty [] refl c h)
-  none_seen (x ∷ xs) (y ∷ ys) same c h =
-      by_place (in_either (field_changes x.0 x.1 y.1) (changes_between xs ys) c h) (none_seen xs ys same.1 c)
+  fields_untold : (marks : SheetField → Bool) (xs ys : List Valued) → MarkedSame marks xs ys
+      → NoneTold tells (changes_between marks xs ys)
+  fields_untold marks [] ys same c h = absurd (none_if_empty [] refl c h)
+  fields_untold marks (x ∷ xs) [] same c h = absurd (none_if_empty [] refl c h)
+  fields_untold marks (x ∷ xs) (y ∷ ys) same c h =
+      by_place (in_either (field_changes x.0 (marks x.0) x.1 y.1) (changes_between marks xs ys) c h)
+      (fields_untold marks xs ys same.1 c)
     where
-      by_place : In c (field_changes x.0 x.1 y.1) ⊎ In c (changes_between xs ys)
-          → (In c (changes_between xs ys) → sees a b c ≡ false) → sees a b c ≡ false
-      by_place (inl here) rest = seen_only x.0 x.1 y.1 same.0 c here
+      by_place : In c (field_changes x.0 (marks x.0) x.1 y.1) ⊎ In c (changes_between marks xs ys)
+          → (In c (changes_between marks xs ys) → tells c ≡ false) → tells c ≡ false
+      by_place (inl here) rest = field_untold x.0 (marks x.0) x.1 y.1 same.0 c here
       by_place (inr later) rest = rest later
 
+module _ (a b : Signal) where
   moved : {A : Type 0} → same_bits a.layout b.layout ≡ true → not (same_bits a.layout b.layout) ≡ true → A
   moved bits t = absurd (both_ways (same_bits a.layout b.layout) (not-true (same_bits a.layout b.layout) t) bits)
 
   never : {A : Type 0} → false ≡ true → A
   never e = absurd (false≢true e)
 
-  all_same : ReadsAs a b → SeenSame a b (signal_fields a) (signal_fields b)
+  -- the type of both is told by the coding
+  by_sign : ReadsAs a b → (is_integer a.value_type || is_integer b.value_type) ≡ true → a.signed ≡ b.signed
+  by_sign like t = by_type (cases_Bool (is_integer a.value_type))
+    where
+      types : a.value_type ≡ b.value_type
+      types = type_coded a.value_type b.value_type a.signed b.signed like.coding
+
+      by_type : (is_integer a.value_type ≡ true) ⊎ (is_integer a.value_type ≡ false) → a.signed ≡ b.signed
+      by_type (inl i) = sign_coded a.value_type b.value_type a.signed b.signed like.coding i
+      by_type (inr n) =
+          let other : is_integer b.value_type ≡ true =
+          sym (ap (λ i. i || is_integer b.value_type) n) ∙ t in
+          absurd (both_ways (is_integer a.value_type) n (ap is_integer types ∙ other))
+
+  all_same : ReadsAs a b → MarkedSame (signal_breaks a b) (signal_fields a) (signal_fields b)
   all_same like =
       let bits : same_bits a.layout b.layout ≡ true = (bits_decide a.layout b.layout).1 like.bits in
-      let meaning : SeenSame a b (meaning_fields a) (meaning_fields b) =
+      let meaning : MarkedSame (signal_breaks a b) (meaning_fields a) (meaning_fields b) =
       (never, (never, (never, (never, (never, tt))))) in
-      let scale : SeenSame a b (scale_fields a ++ meaning_fields a) (scale_fields b ++ meaning_fields b) =
+      let scale : MarkedSame (signal_breaks a b) (scale_fields a ++ meaning_fields a) (scale_fields b ++ meaning_fields b) =
       ((λ t. ap Dec like.factor), ((λ t. ap Dec like.offset), (never, (never, meaning)))) in
-      let taken : SeenSame a b (reading_fields a ++ (scale_fields a ++ meaning_fields a))
+      let taken : MarkedSame (signal_breaks a b) (reading_fields a ++ (scale_fields a ++ meaning_fields a))
       (reading_fields b ++ (scale_fields b ++ meaning_fields b)) = (
-        (λ t. ap (λ s. Word (truth_word s)) (sign_coded a.value_type b.value_type a.signed b.signed like.coding t)),
+        (λ t. ap (λ s. Word (truth_word s)) (by_sign like t)),
         (
           (λ t. ap (λ v. Word (type_word v)) (type_coded a.value_type b.value_type a.signed b.signed like.coding)),
           ((λ t. ap (λ m. Word (indicator_of m)) like.mux), scale),
@@ -111,10 +130,10 @@ module _ (a b : Signal) where
       ) in
       (moved bits, (moved bits, (moved bits, taken)))
 
-pub read_unseen : ReadIsUnseen
-read_unseen a b like c h =
-    none_seen a b (signal_fields a) (signal_fields b) (all_same a b like) c
-    (in_from (changes_between (signal_fields a) (signal_fields b)) c h)
+pub read_unmarked : ReadIsUnmarked
+read_unmarked a b like c h =
+    fields_untold is_marked (λ f b old new. refl) (signal_breaks a b) (signal_fields a) (signal_fields b)
+    (all_same a b like) c (in_from (signal_changes a b) c h)
 
 -- ---- what readings tell
 
@@ -164,15 +183,15 @@ raw_told bytes Unsigned Signed ps qs hp hq apart_p apart_q some_p some_q same =
 raw_told bytes c d ps qs hp hq apart_p apart_q some_p some_q same =
     let e = same (one_bit bytes 0) (its_payload bytes 0) in cc e
 
-pub seen_read : SeenIsRead
-seen_read a b bytes ha hb inside_a inside_b mux same =
+pub marked_read : MarkedIsRead
+marked_read a b bytes ha hb inside_a inside_b mux same =
     let some_a : 1 ≤ length (by_weight a.layout) = subst (λ n. 1 ≤ n) (sym (its_length a.layout)) ha.layout.least in
     let some_b : 1 ≤ length (by_weight b.layout) = subst (λ n. 1 ≤ n) (sym (its_length b.layout)) hb.layout.least in
     let told = raw_told bytes (coding_of a) (coding_of b) (by_weight a.layout) (by_weight b.layout)
     (are_below a.layout bytes inside_a) (are_below b.layout bytes inside_b) (are_apart a.layout) (are_apart b.layout)
     some_a some_b (λ payload is. ap (λ (r : Reading). r.raw) (same payload is)) in
     let once = same (one_bit bytes 0) (its_payload bytes 0) in
-    read_unseen a b (record {
+    read_unmarked a b (record {
       bits = told.bits;
       coding = told.coding;
       mux = mux;

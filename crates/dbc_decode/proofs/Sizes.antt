@@ -9,7 +9,8 @@ use Rattle.std.proofs.Math.Pow.{pow_mono}
 use Rattle.bitlayout.specs.Bits.{walk}
 use Rattle.bitlayout.proofs.Walks.{rank-walk}
 use Rattle.bitlayout.specs.Interval.{rank}
-use Rattle.dbc_decode.specs.Decoding.{bits_number, by_weight, in_weight, payload_bit, twos_complement}
+use Rattle.bitlayout.specs.Weight.{by_weight, in_weight}
+use Rattle.dbc_decode.specs.Decoding.{bits_number, payload_bit, twos_complement}
 use Rattle.dbc_decode.proofs.Positions.{AreBelow, bit_clear, bit_set, its_payload, one_bit}
 use Rattle.dbc_decode.proofs.Signed.{SameSigned, bit_small, last, last_in, less_told, number_small, one_less, top_set}
 

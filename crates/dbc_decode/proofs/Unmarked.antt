@@ -1,20 +1,23 @@
 -- Where no difference breaks a receiver, each message of the old sheet is served.
 use Rattle.dbc_decode.proofs.Common.{◌≡◌, ◌⊎◌, ◌∙◌, ℕ, List, [], Option, Some, None, inl, inr, refl, sym, ap, subst}
 use Rattle.dbc_decode.proofs.Common.{Contains, both_ways, true≢false, is_multiplexor, none_found, find, Multiplexor}
-use Rattle.dbc_decode.proofs.Common.{Under, IsSheet, IsSignal, AreMessages, IsClearMessage, signal_is_multiplexor}
-use Rattle.dbc_decode.proofs.Common.{Message, Sheet, Signal, changes_between, differences, message_fields}
-use Rattle.dbc_decode.proofs.Common.{signal_fields, Dec, Difference, mux_told, order_told, truth_told, type_told}
-use Rattle.dbc_decode.proofs.Common.{whole_is, word_is, In, all_in, from_map, in_first, in_from, in_map, in_to}
-use Rattle.dbc_decode.proofs.Common.{all_keep}
+use Rattle.dbc_decode.proofs.Common.{Under, IsSheet, IsSignal, IsClearMessage, signal_is_multiplexor}
+use Rattle.dbc_decode.proofs.Common.{Message, Sheet, Signal, differences, message_fields}
+use Rattle.dbc_decode.proofs.Common.{signal_fields, Difference}
+use Rattle.dbc_decode.proofs.Common.{whole_is, In, all_in, from_map, in_first, in_from, in_map, in_to}
+use Rattle.dbc_decode.proofs.Common.{all_keep, bytes_eq, found_named, has_name}
+use Rattle.dbc_sheet.specs.Messages.{message_name}
 use Rattle.std.specs.List.{list_any}
 use Rattle.dbc_sheet.specs.Form.{KeepsMessage}
 use Rattle.dbc_sheet.specs.Signals.{places_of, signal_name}
 use Rattle.dbc_compare.specs.Differences.{between, gone_message, shown_message, by_numbers, differences_about}
-use Rattle.dbc_compare.specs.Differences.{message_differences, pair_differences, sheet_differences, thing_differences}
-use Rattle.dbc_compare.specs.Fields.{node_fields, table_fields}
+use Rattle.dbc_compare.specs.Differences.{pair_differences, sheet_differences, thing_differences}
+use Rattle.dbc_compare.specs.Differences.{message_changes, node_changes, signal_changes, table_changes}
+use Rattle.dbc_compare.specs.Fields.{message_breaks, signal_breaks}
+use Rattle.dbc_compare.specs.List.{is_breaking}
 use Rattle.dbc_compare.proofs.FieldsTold.{ident_told}
 use Rattle.dbc_compare.proofs.Members.{any_in}
-use Rattle.dbc_compare.proofs.MessageLists.{to_gone, to_shown, AllKeep}
+use Rattle.dbc_compare.proofs.MessageLists.{to_gone, to_shown}
 use Rattle.bitlayout.specs.Clear.{IsClear}
 use Rattle.bitlayout.specs.declared.place.Place.{Place}
 use Rattle.dbc_sheet.specs.Signal.{place_of}
@@ -22,33 +25,14 @@ use Rattle.dbc_sheet.specs.Sheet.{node_name, table_name}
 use Rattle.dbc_sheet.specs.Pairs.{partner}
 use Rattle.dbc_compare.specs.declared.difference.Alteration.TheVariants as change
 use Rattle.dbc_compare.specs.declared.place.Region.TheVariants as place
-use Rattle.dbc_compare.proofs.PartnersBack.{partner_back, partner_in}
-use Rattle.dbc_decode.specs.Decoding.{Reading, by_weight, chosen, coding_by, pattern_in, read}
-use Rattle.dbc_decode.specs.Laws.{IsReadAs, Serves, UnmarkedIsRead}
+use Rattle.dbc_compare.proofs.PartnersBack.{partner_back, partner_in, which_way}
+use Rattle.dbc_decode.specs.Decoding.{Reading, chosen, pattern_in, read}
+use Rattle.dbc_decode.specs.Laws.{IsReadAs, IsTheSame, NoneBreaks, Serves, UnmarkedIsRead}
 use Rattle.dbc_decode.specs.Marks.{ReadsAs}
 use Rattle.dbc_decode.proofs.Alike.{both_there, chosen_alike, meant_alike, read_alike}
-use Rattle.dbc_decode.proofs.Quiet.{AllQuiet, MarksFields, Quiet, fields_quiet, quiet_about, quiet_left, quiet_right}
+use Rattle.dbc_decode.proofs.Quiet.{MarkedSame, Quiet, TellsMarks, fields_same, quiet_about, quiet_left, quiet_right}
 use Rattle.dbc_decode.proofs.Quiet.{things_quiet}
-
--- ---- signals
-
-signal_quiet : (a b : Signal) → IsSignal a → IsSignal b → AllQuiet (signal_fields a) (signal_fields b) → ReadsAs a b
-signal_quiet a b ha hb told =
-    let start : a.layout.start ≡ b.layout.start = whole_is _ _ (told.0 refl) in
-    let size : a.layout.size ≡ b.layout.size = whole_is _ _ (told.1.0 refl) in
-    let order : a.layout.order ≡ b.layout.order = order_told _ _ (word_is _ _ (told.1.1.0 refl)) in
-    let signed : a.signed ≡ b.signed = truth_told _ _ (word_is _ _ (told.1.1.1.0 refl)) in
-    let value_type : a.value_type ≡ b.value_type = type_told _ _ (word_is _ _ (told.1.1.1.1.0 refl)) in
-    let mux : a.mux ≡ b.mux = mux_told a.mux b.mux ha.mux hb.mux (word_is _ _ (told.1.1.1.1.1.0 refl)) in
-    let factors : Dec a.factor ≡ Dec b.factor = told.1.1.1.1.1.1.0 refl in
-    let offsets : Dec a.offset ≡ Dec b.offset = told.1.1.1.1.1.1.1.0 refl in
-    record {
-      bits = λ i. by_weight (record { start = start i; size = size i; order = order i });
-      coding = λ i. coding_by (value_type i) (signed i);
-      mux = mux;
-      factor = cc factors;
-      offset = cc offsets;
-    }
+use Rattle.dbc_decode.proofs.Seen.{signal_same}
 
 -- ---- messages
 
@@ -71,29 +55,29 @@ removed_there m = in_first _ _ [] refl
 
 module _ (m p : Message) (keep_m : KeepsMessage m) (keep_p : KeepsMessage p)
     (quiet : Quiet (pair_differences m p)) where
-  here_marks : MarksFields (between m p)
-  here_marks f a b = refl
+  here_marks : TellsMarks (is_breaking (between m p))
+  here_marks f b old new = refl
 
-  own_quiet : AllQuiet (message_fields m) (message_fields p)
+  own_quiet : MarkedSame message_breaks (message_fields m) (message_fields p)
   unfolding pair_differences
   own_quiet =
-      fields_quiet (between m p) here_marks (message_fields m) (message_fields p)
+      fields_same (is_breaking (between m p)) here_marks message_breaks (message_fields m) (message_fields p)
       (quiet_about (between m p) None _
-      (quiet_left (differences_about (between m p) None (changes_between (message_fields m) (message_fields p))) _
-      quiet))
+      (quiet_left (differences_about (between m p) None (message_changes m p)) _ quiet))
 
   each_like : (s : Signal) → In s m.signals → (t : Signal) × In t p.signals × (t.name ≡ s.name) × ReadsAs s t
   unfolding pair_differences
   each_like s h =
-      let it = things_quiet signal_name signal_fields (between m p) here_marks refl m.signals p.signals
+      let it = things_quiet signal_name signal_changes (between m p) refl m.signals p.signals
       keep_m.well_formed.signals.apart
-      (quiet_right (differences_about (between m p) None (changes_between (message_fields m) (message_fields p))) _
-      quiet) s h in (
+      (quiet_right (differences_about (between m p) None (message_changes m p)) _ quiet) s h in (
         it.0,
         it.1,
         it.2,
-        signal_quiet s it.0 (all_in IsSignal m.signals s keep_m.form.signals h)
-            (all_in IsSignal p.signals it.0 keep_p.form.signals it.1) it.3,
+        signal_same s it.0 (all_in IsSignal m.signals s keep_m.form.signals h)
+            (all_in IsSignal p.signals it.0 keep_p.form.signals it.1)
+            (fields_same (is_breaking (between m p)) here_marks (signal_breaks s it.0) (signal_fields s)
+            (signal_fields it.0) it.3),
       )
 
   multiplexor_alike : (payload : List ℕ)
@@ -139,38 +123,52 @@ module _ (m p : Message) (keep_m : KeepsMessage m) (keep_p : KeepsMessage p)
     signals = λ s h. signals_read s (in_from m.signals s h);
   }
 
--- ---- all messages, whichever are partners
+-- ---- all messages
 
-module _ (old new : List Message) (partner_of back_to : Message → Option Message) (keep_old : AllKeep old)
-    (keep_new : AllKeep new) (there : (m p : Message) → partner_of m ≡ Some p → In p new)
-    (back : (m p : Message) → In m old → partner_of m ≡ Some p → back_to p ≡ Some m)
-    (quiet : Quiet (by_numbers (λ m. gone_message (partner_of m) m) (λ m. shown_message (back_to m) m) old new)) where
-  pub by_partner : (m : Message) → In m old → (o : Option Message) → partner_of m ≡ o
-      → (p : Message) × (partner_of m ≡ Some p) × In p new × Serves m p
+module _ (old new : Sheet) (is_old : IsSheet old) (is_new : IsSheet new) (none : NoneBreaks old new) where
+  gone : Message → List Difference
+  gone m = gone_message (partner new.messages old.messages m) m
+
+  shown : Message → List Difference
+  shown m = shown_message (partner old.messages new.messages m) m
+
+  quiet_messages : Quiet (by_numbers gone shown old.messages new.messages)
+  unfolding gone shown
+  quiet_messages =
+      quiet_right (thing_differences place.Tables table_name table_changes old.tables new.tables) _
+      (quiet_right (thing_differences place.Nodes node_name node_changes old.nodes new.nodes) _
+      (quiet_right (sheet_differences old new) _ (λ d k. none d (in_to (differences old new) d k))))
+
+  by_partner : (m : Message) → In m old.messages → (o : Option Message) → partner new.messages old.messages m ≡ o
+      → (p : Message) × (partner new.messages old.messages m ≡ Some p) × In p new.messages × Serves m p
+  unfolding gone shown
   by_partner m h None e =
       let removed : Difference = record { place = between m m; name = None; change = change.Removed } in
-      let gone : In removed (gone_message (partner_of m) m) =
-      subst (λ o. In removed (gone_message o m)) (sym e) (removed_there m) in
-      absurd (true≢false (quiet removed
-      (to_gone (λ q. gone_message (partner_of q) q) (λ q. shown_message (back_to q) q) old new m removed h gone)))
+      let lost : In removed (gone m) = subst (λ o. In removed (gone_message o m)) (sym e) (removed_there m) in
+      absurd (true≢false (quiet_messages removed (to_gone gone shown old.messages new.messages m removed h lost)))
   by_partner m h (Some p) e =
+      let there : In p new.messages = partner_in new.messages old.messages m p e in
+      let back : partner old.messages new.messages p ≡ Some m =
+      partner_back new.messages old.messages is_new.well_formed.together is_old.well_formed.together m p h e in
       let pair : Quiet (pair_differences m p) =
-      λ d k. quiet d
-      (to_shown (λ q. gone_message (partner_of q) q) (λ q. shown_message (back_to q) q) old new p d (there m p e)
-      (subst (λ o. In d (shown_message o p)) (sym (back m p h e)) k)) in
-      (p, e, there m p e, pair_serves m p (keep_old m h) (keep_new p (there m p e)) pair)
+      λ d k. quiet_messages d
+      (to_shown gone shown old.messages new.messages p d there (subst (λ o. In d (shown_message o p)) (sym back) k)) in
+      (p, e, there, pair_serves m p (all_keep old is_old m h) (all_keep new is_new p there) pair)
+
+-- who it is
+the_same : (old new : Sheet) (m p : Message) → partner new.messages old.messages m ≡ Some p → IsTheSame old new m p
+the_same old new m p e = elim (which_way new.messages old.messages m p e) [
+  | inl n ↦ let named : p.name ≡ m.name = (found_named message_name new.messages m.name p n).1 in
+      record { renamed = λ h. named; new_name = λ h. named }
+  | inr r ↦ record {
+    renamed = λ h. absurd (both_ways (has_name message_name new.messages m.name)
+        (none_found (λ q. bytes_eq (message_name q) m.name) new.messages r.0) h);
+    new_name = λ h. absurd (both_ways (has_name message_name old.messages p.name) r.2 h);
+  }
+]
 
 pub unmarked_read : (old new : Sheet) → IsSheet old → IsSheet new → UnmarkedIsRead old new
 unmarked_read old new is_old is_new none m h =
-    let all : Quiet (differences old new) = λ d k. none d (in_to (differences old new) d k) in
-    let later : Quiet (message_differences old.messages new.messages) =
-    quiet_right (thing_differences place.Tables table_name table_fields old.tables new.tables) _
-    (quiet_right (thing_differences place.Nodes node_name node_fields old.nodes new.nodes) _
-    (quiet_right (sheet_differences old new) _ all)) in
-    let are_old : AreMessages old.messages = is_old.well_formed.together in
-    let are_new : AreMessages new.messages = is_new.well_formed.together in
-    let it = by_partner old.messages new.messages (partner new.messages old.messages)
-    (partner old.messages new.messages) (all_keep old is_old) (all_keep new is_new)
-    (partner_in new.messages old.messages) (partner_back new.messages old.messages are_new are_old) later m
-    (in_from old.messages m h) (partner new.messages old.messages m) refl in
-    (it.0, in_to new.messages it.0 it.2, it.3)
+    let it = by_partner old new is_old is_new none m (in_from old.messages m h) (partner new.messages old.messages m)
+    refl in
+    (it.0, in_to new.messages it.0 it.2, it.3, the_same old new m it.0 it.1)

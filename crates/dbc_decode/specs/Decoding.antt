@@ -1,12 +1,9 @@
 -- What a receiver that was built for a sheet reads from a frame on the bus (Vector's DBC File Format Documentation:
 -- start, size, byte order, sign, extended value type and multiplexer indicator of a signal).
 use Rattle.std.specs.Prelude.{ℕ, ◌+◌, ◌*◌, ◌/◌, ◌%◌, ◌^◌, ◌==◌, nat_lt, Bool, true, false, List, [], ◌∷◌, length, map}
-use Rattle.std.specs.Prelude.{find, get_or, reverse, Option, Some, None, ℤ, pos, ◌-ℤ◌, if◌then◌else◌}
+use Rattle.std.specs.Prelude.{find, get_or, Option, Some, None, ℤ, pos, ◌-ℤ◌, if◌then◌else◌}
 use Rattle.std.specs.Int.{bit_at}
-use Rattle.bitlayout.specs.Bits.{positions}
-use Rattle.bitlayout.specs.declared.layout.Layout.{Layout}
-use Rattle.bitlayout.specs.declared.layout.Order.{Order}
-use Rattle.bitlayout.specs.declared.layout.Order.TheVariants.{Intel, Motorola}
+use Rattle.bitlayout.specs.Weight.{by_weight}
 use Rattle.bitlayout.specs.declared.place.Mux.{Mux}
 use Rattle.bitlayout.specs.declared.place.Mux.TheVariants.{Under}
 use Rattle.can_id.specs.Ident.{dbc_number}
@@ -30,14 +27,6 @@ pub record Frame : Type 0 where
 -- the bit at a position, 0 or 1; past the payload there is none, and it is read as 0
 unfoldable pub payload_bit : List ℕ → ℕ → ℕ
 payload_bit payload p = bit_at (get_or payload (p / 8) 0) (p % 8)
-
--- the positions of a signal's bits, the least significant first
-abbrev pub in_weight : Order → List ℕ → List ℕ
-in_weight Intel ps = ps
-in_weight Motorola ps = reverse ps
-
-abbrev pub by_weight : Layout → List ℕ
-by_weight layout = in_weight layout.order (positions layout)
 
 -- the number that the bits at the positions write, the least significant first
 unfoldable pub bits_number : List ℕ → List ℕ → ℕ

@@ -1,16 +1,18 @@
 -- What the marks of a comparison say of receivers.
-use Rattle.std.specs.Prelude.{◌≡◌, ◌<◌, ◌↔◌, ℕ, false, List, length, count_by, All, Contains, Some}
+use Rattle.std.specs.Prelude.{◌≡◌, ◌<◌, ◌↔◌, ℕ, true, false, List, length, count_by, All, Contains, Some}
 use Rattle.bitlayout.specs.Bits.{IsInside}
+use Rattle.bitlayout.specs.Weight.{by_weight}
 use Rattle.bitlayout.specs.declared.layout.Layout.{Layout}
 use Rattle.dbc_compare.specs.Differences.{differences}
 use Rattle.dbc_compare.specs.List.{breaks}
 use Rattle.dbc_compare.specs.declared.difference.Difference.{Difference}
-use Rattle.dbc_sheet.specs.Messages.{IsClearMessage}
+use Rattle.dbc_words.specs.Named.{has_name}
+use Rattle.dbc_sheet.specs.Messages.{IsClearMessage, message_name}
 use Rattle.dbc_sheet.specs.declared.message.Message.{Message}
 use Rattle.dbc_sheet.specs.declared.sheet.Sheet.{Sheet}
 use Rattle.dbc_sheet.specs.declared.signal.Signal.{Signal}
 use Rattle.dbc_sheet.specs.Sheet.{IsClearSheet}
-use Rattle.dbc_decode.specs.Decoding.{Decoded, Frame, Read, Reading, bits_number, by_weight, decode, read}
+use Rattle.dbc_decode.specs.Decoding.{Decoded, Frame, Read, Reading, bits_number, decode, read}
 
 -- no line is marked
 abbrev pub NoneBreaks : Sheet → Sheet → Type 0
@@ -35,10 +37,15 @@ pub record Serves (old new : Message) : Type 0 where
   pub length : new.length ≡ old.length
   pub signals : (s : Signal) → Contains old.signals s → (t : Signal) × Contains new.signals t × IsReadAs old new s t
 
--- Where no line is marked, each message of the old sheet is served.
+-- The new message is the old one: it has its name, or the old name is gone and the new one is new.
+pub record IsTheSame (old new : Sheet) (m p : Message) : Type 0 where
+  pub renamed : (has_name message_name new.messages m.name ≡ true) → p.name ≡ m.name
+  pub new_name : (has_name message_name old.messages p.name ≡ true) → p.name ≡ m.name
+
+-- Where no line is marked, each message of the old sheet is served by the one that is its own.
 abbrev pub UnmarkedIsRead : Sheet → Sheet → Type 0
-UnmarkedIsRead old new =
-    NoneBreaks old new → (m : Message) → Contains old.messages m → (p : Message) × Contains new.messages p × Serves m p
+UnmarkedIsRead old new = NoneBreaks old new → (m : Message) → Contains old.messages m
+    → (p : Message) × Contains new.messages p × Serves m p × IsTheSame old new m p
 
 -- The same of frames: what the old sheet's receiver reads from a frame is what the new sheet says of it. Each signal of
 -- the message, by its name, has the same value, or is absent in both; the new sheet may say more.

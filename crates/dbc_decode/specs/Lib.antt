@@ -1,4 +1,3 @@
 pub mod Decoding
 pub mod Laws
-pub mod ByName
 pub mod Marks

@@ -1,12 +1,12 @@
 //! The laws of what a receiver reads.
-ghost use Rattle.dbc_decode.specs.ByName.{UnmarkedIsReadByName};
 ghost use Rattle.dbc_decode.specs.Laws.{BreakingNone, LayoutsTellApart, UnmarkedFramesAreRead, UnmarkedIsRead};
-ghost use Rattle.dbc_decode.specs.Marks.{ReadIsUnseen, SeenIsRead, UnseenIsRead};
+ghost use Rattle.dbc_decode.specs.Marks.{MarkedIsRead, ReadIsUnmarked, UnmarkedSignalIsRead};
 
 use dbc_sheet::{Sheet, sheets_are_well_formed};
 
 /// Where no difference breaks a receiver, whoever was built for the old sheet takes each of its messages from what is
-/// sent by the new one, and reads each of its signals as the new sheet means it. The function does nothing.
+/// sent by the new one, from the message that is its own, and reads each of its signals as the new sheet means it. The
+/// function does nothing.
 pub fn unmarked_sheets_are_read(old: &Sheet, new: &Sheet)
     ensures printed { BreakingNone old.now new.now }
     ensures messages { UnmarkedIsRead old.now new.now }
@@ -22,19 +22,10 @@ pub fn layouts_tell_apart()
     ensures { LayoutsTellApart }
 {}
 
-/// With messages paired by their names first, each message of the old sheet is read from the one that is its own. The
+/// Signals of which no change is marked are read alike, and of signals that are read alike no change is marked. The
 /// function does nothing.
-pub fn unmarked_sheets_are_read_by_name(old: &Sheet, new: &Sheet)
-    ensures { UnmarkedIsReadByName old.now new.now }
-{
-    sheets_are_well_formed(old);
-    sheets_are_well_formed(new);
-}
-
-/// Signals of which no change is seen are read alike, and of signals that are read alike no change is seen. The
-/// function does nothing.
-pub fn seen_changes_are_read()
-    ensures unseen { UnseenIsRead }
-    ensures same { ReadIsUnseen }
-    ensures seen { SeenIsRead }
+pub fn marked_changes_are_read()
+    ensures unmarked { UnmarkedSignalIsRead }
+    ensures same { ReadIsUnmarked }
+    ensures marked { MarkedIsRead }
 {}

@@ -2,14 +2,10 @@
 //!
 //! `specs/Decoding.antt` defines what a receiver that was built for a sheet reads: the message of the frame's
 //! identifier, which of its signals are there, and of each its raw value, its factor and its offset. `Laws.antt` there
-//! has the laws of the marks of `dbc_compare`, `ByName.antt` the law with messages that are paired by their names
-//! first, and `Marks.antt` which changes of a signal a receiver sees. They are the contracts of functions that do
-//! nothing.
+//! has the laws of the marks of `dbc_compare`, of whole sheets and of frames, and `Marks.antt` those of one signal.
+//! They are the contracts of functions that do nothing.
 #![tactic(auto)]
 
 mod laws;
 
-pub use laws::{
-    layouts_tell_apart, seen_changes_are_read, unmarked_sheets_are_read,
-    unmarked_sheets_are_read_by_name,
-};
+pub use laws::{layouts_tell_apart, marked_changes_are_read, unmarked_sheets_are_read};

@@ -35,8 +35,8 @@ fn visible(byte: u8) -> u8
     }
 }
 
-/// The bytes, as they are shown.
-fn all_shown(alloc: Global, bytes: &[u8]) -> Result<Vec<u8>, AllocError>
+/// The bytes as one line shows them: a question mark for each that isn't printable ASCII. The error is out of memory.
+pub fn visible_bytes(alloc: Global, bytes: &[u8]) -> Result<Vec<u8>, AllocError>
     ensures { IfOk result (λ text. text.items ≡ map visible bytes.now) }
 {
     bytes.iter().map(|byte| visible(*byte)).collect(alloc)
@@ -48,10 +48,10 @@ fn shown(alloc: Global, bytes: &[u8]) -> Result<Vec<u8>, AllocError>
 {
     if bytes.len() > SHOWN {
         let (first, _) = bytes.split_at(SHOWN);
-        let text = all_shown(alloc, first)?;
+        let text = visible_bytes(alloc, first)?;
         concat(alloc, &[&text, b".."])
     } else {
-        all_shown(alloc, bytes)
+        visible_bytes(alloc, bytes)
     }
 }
 

@@ -30,7 +30,7 @@ pub use clashes::{CLASHES_REPORTED, clash_sentences};
 pub use explaining::explained;
 pub use findings::{BYTES_READ_AGAIN, FAULTS_REPORTED};
 pub use first::{Stated, first_stated};
-pub use found::quoted;
+pub use found::{quoted, visible_bytes};
 pub use leaving::{CITATIONS_REPORTED, left_out};
 pub use notes::Source;
 pub use paths::shown_path;

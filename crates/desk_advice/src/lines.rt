@@ -11,8 +11,10 @@ use crate::pieces::{Told, as_line, text_of, told};
 use crate::reasons::{is_reported, refused_text};
 use crate::refused::{refused_of, status_of};
 use crate::senders::{key_wrong, team_wrong};
+use crate::values::malformed;
 use desk_call::{Exchange, OfficeRead};
 use desk_head::{Demand, Posting, Routes, first_parameter};
+use office_fields::FieldKind;
 use office_types::NetName;
 use std::alloc::{AllocError, Global};
 
@@ -23,10 +25,7 @@ fn net_wrong(alloc: Global, posting: Posting, target: &[u8]) -> Told {
     }
     match NetName::of(alloc, first_parameter(target))? {
         Some(_net) => Ok(None),
-        None => told(text_of(
-            alloc,
-            "the network is malformed: 1 to 32 bytes of a to z, 0 to 9 and -",
-        )),
+        None => told(malformed(alloc, "network", FieldKind::NetName)),
     }
 }
 

@@ -1,9 +1,11 @@
 //! Why a target shows nothing.
 
 use crate::pieces::{shown, text_in, text_of};
+use crate::values::malformed;
 use base::whole_number;
 use dbc_words::is_name;
 use desk_head::{Showing, first_parameter, second_parameter, third_parameter};
+use office_fields::FieldKind;
 use office_types::{NetName, RELEASE_LIMIT, Sought};
 use std::alloc::{AllocError, Global};
 
@@ -72,20 +74,22 @@ fn has_form(alloc: Global, second: Second, target: &[u8]) -> Result<bool, AllocE
     }
 }
 
-/// Which form it is.
-fn form_text(second: Second) -> &'static str {
-    match second {
+/// That it hasn't its form.
+fn form_wrong(alloc: Global, second: Second) -> Result<String, AllocError> {
+    let text = match second {
+        Second::Team => return malformed(alloc, "team", FieldKind::Team),
         Second::Nothing => "the target is malformed",
-        Second::Team => "the team is malformed: 1 to 32 bytes of a to z, 0 to 9 and -",
         Second::Releases => "the releases are malformed: two whole numbers, 0 for the live sheet",
         Second::Release => "the release is malformed: a whole number from 1 to 65535",
-        Second::Message =>
-            "the message is malformed: a C identifier of 1 to 128 bytes, no DBC keyword",
+        Second::Message => {
+            "the message is malformed: a C identifier of 1 to 128 bytes, no DBC keyword"
+        }
         Second::Node => "the node is malformed: a C identifier of 1 to 128 bytes, no DBC keyword",
         Second::Word => {
             "the word is malformed: a name, a number, 0x and hexadecimal digits, pgn=N or spn=N"
         }
-    }
+    };
+    text_of(alloc, text)
 }
 
 /// What isn't there, of a network that is there.
@@ -126,7 +130,7 @@ fn requests_wrong(alloc: Global, target: &[u8]) -> Result<String, AllocError> {
     if is_plain(alloc, first_parameter(target))? {
         text_of(alloc, "nothing is there")
     } else {
-        text_of(alloc, form_text(Second::Team))
+        form_wrong(alloc, Second::Team)
     }
 }
 
@@ -140,14 +144,11 @@ fn net_wrong(
     let net = first_parameter(target);
     let part = second_parameter(target);
     if !is_plain(alloc, net)? {
-        return text_of(
-            alloc,
-            "the network is malformed: 1 to 32 bytes of a to z, 0 to 9 and -",
-        );
+        return malformed(alloc, "network", FieldKind::NetName);
     }
     let second = second_of(showing);
     if !has_form(alloc, second, target)? {
-        return text_of(alloc, form_text(second));
+        return form_wrong(alloc, second);
     }
     let net = shown(alloc, net)?;
     let part = shown(alloc, part)?;

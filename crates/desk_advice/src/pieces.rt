@@ -1,10 +1,10 @@
 //! What lines are made of.
-ghost use Rattle.std.specs.Prelude.{◌≡◌, ◌++◌, IfOk, OnOk, map};
-ghost use Rattle.dbc_advice.specs.Sentence.{visible};
+ghost use Rattle.std.specs.Prelude.{◌≡◌, ◌++◌, IfOk, OnOk};
 ghost use Rattle.desk_advice.specs.Front.{all_shown, escape, is_plain, shown, shown_byte};
 ghost use Rattle.desk_advice.specs.Line.{line_text};
 
 use columns::{concat, filled};
+use dbc_advice::visible_bytes;
 use std::alloc::{AllocError, Global};
 use std::str::from_utf8;
 
@@ -96,24 +96,6 @@ pub(crate) fn may_be_shown(name: &str) -> bool {
             .as_bytes()
             .iter()
             .all(|byte| byte.is_ascii_alphanumeric() || *byte == b'_')
-}
-
-/// A byte as a line has it: a question mark for one that isn't printable ASCII.
-fn visible(byte: u8) -> u8
-    ensures { result ≡ visible byte }
-{
-    if (32..=126).contains(&byte) {
-        byte
-    } else {
-        b'?'
-    }
-}
-
-/// The bytes as a line has them.
-fn visible_bytes(alloc: Global, text: &[u8]) -> Result<Vec<u8>, AllocError>
-    ensures { IfOk result (λ bytes. bytes.items ≡ map visible text.now) }
-{
-    text.iter().map(|byte| visible(*byte)).collect(alloc)
 }
 
 /// The text as one line.

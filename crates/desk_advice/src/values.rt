@@ -46,6 +46,12 @@ pub(crate) fn phrase_in(alloc: Global, kind: FieldKind) -> Result<String, AllocE
     }
 }
 
+/// That a part of a target isn't a value of the kind.
+pub(crate) fn malformed(alloc: Global, part: &str, kind: FieldKind) -> Result<String, AllocError> {
+    let phrase = phrase_in(alloc, kind)?;
+    format!(in alloc; "the {part} is malformed: {phrase}")
+}
+
 /// What is found in a list of two texts that isn't one, if one of its items is no text.
 fn found_in_pair(value: &Value) -> Option<&'static str> {
     let items = value.as_array()?;

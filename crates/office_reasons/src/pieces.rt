@@ -5,6 +5,7 @@ ghost use Rattle.office_types.specs.Block.{is_spn};
 ghost use Rattle.office_reasons.specs.Pieces.{IsSentence, ident_text, range_text, shown};
 
 use can_id::{Ident, IdentForm};
+use dbc_advice::visible_bytes;
 use office_types::{Block, BlockForm, NetKind};
 use std::alloc::{AllocError, Global};
 use std::str::from_utf8;
@@ -19,33 +20,12 @@ pub(crate) fn shown(bytes: &[u8]) -> &str
     }
 }
 
-/// A byte as it is shown: a question mark for one that isn't printable ASCII.
-fn visible(byte: u8) -> u8
-    ensures { result ≡ visible byte }
-{
-    if (32..=126).contains(&byte) {
-        byte
-    } else {
-        b'?'
-    }
-}
-
-/// The bytes of a text as they are shown.
-fn visible_bytes(alloc: Global, text: &str) -> Result<Vec<u8>, AllocError>
-    ensures { IfOk result (λ bytes. bytes.items ≡ map visible text.now) }
-{
-    text.as_bytes()
-        .iter()
-        .map(|byte| visible(*byte))
-        .collect(alloc)
-}
-
 /// The text as a sentence, which has one line.
 pub(crate) fn sentence_of(alloc: Global, text: &str) -> Result<Vec<u8>, AllocError>
     ensures shown { IfOk result (λ sentence. sentence.items ≡ map visible text.now) }
     ensures sentence { IfOk result (λ sentence. IsSentence sentence.items) }
 {
-    visible_bytes(alloc, text)
+    visible_bytes(alloc, text.as_bytes())
 }
 
 /// `256`, or `256 to 258`.

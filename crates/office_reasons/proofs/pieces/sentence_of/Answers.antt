@@ -6,4 +6,4 @@ use Rattle.office_reasons.proofs.pieces.sentence_of.Goals as goal
 
 pub returns-clause-sentence : goal.returns-clause-sentence
 returns-clause-sentence c = IfOk-weaker c.visible_bytes.result _ _
-    (λ sentence is. subst IsSentence (sym is) (visible_sentence c.args.text.now)) c.visible_bytes.ensures
+    (λ sentence is. subst IsSentence (sym is) (visible_sentence c.as_bytes.result.now)) c.visible_bytes.ensures

@@ -138,12 +138,12 @@ fn runaway_before(text: &[u8], fault: ReadFault) -> Option<Runaway>
 }
 
 /// Whether the lines from `start` up to the line of the offset `at` read by themselves, and nothing of that line comes
-/// before it.
+/// before it, unless the text ends there: then the line is one that was cut off.
 fn begins_anew(alloc: Global, text: &[u8], start: usize, at: usize) -> Result<bool, AllocError>
     requires { at ≤ length text.now }
 {
     let line = line_start(text, at);
-    if start >= line || !is_gap(&text[line..at]) {
+    if start >= line || at < text.len() && !is_gap(&text[line..at]) {
         return Ok(false);
     }
     reads(alloc, &alone(alloc, &text[start..line])?)
@@ -176,7 +176,7 @@ fn token_end(text: &[u8], at: usize) -> usize
 }
 
 /// Whether the statement that begins at `start` could go on after the token at the offset `at`, if it came after
-/// another one.
+/// another one. At the end of the text it couldn't, unless it is finished: else it is the one that was cut off.
 fn fits_elsewhere(
     alloc: Global,
     text: &[u8],
@@ -188,8 +188,12 @@ fn fits_elsewhere(
 {
     match fault.code {
         ReadCode::Unexpected | ReadCode::Name => {
-            let piece = &text[start..token_end(text, fault.at)];
-            goes_on(alloc, &alone(alloc, piece)?)
+            let piece = alone(alloc, &text[start..token_end(text, fault.at)])?;
+            if fault.at < text.len() {
+                goes_on(alloc, &piece)
+            } else {
+                reads(alloc, &piece)
+            }
         }
         _ => Ok(false),
     }

@@ -8,12 +8,13 @@ prints the lines of two files with canonical texts, and answers 1 where they dif
 import sys
 from collections import namedtuple as record
 
-from looks_model import NO_IDENT, Reader, TEXT, counts, ident_columns, mark, partners, sheet_read, word, words
+from looks_model import NO_IDENT, Reader, TEXT, counts, ident_columns, mark, partners, positions, sheet_read, word, words
 
 Sheet = record("Sheet", "version comment nodes tables messages")
 NO_SHEET = Sheet(b"", b"", [], [], [])
 
-# The fields in the order of their lines; a receiver of the old message goes by those that begin with `!`.
+# The fields in the order of their lines; a receiver of the old message goes by those that begin with `!`, but for what is
+# `unseen` of a signal.
 SHEET_FIELDS = ["version", "comment"]
 NODE_FIELDS = ["comment"]
 TABLE_FIELDS = ["values"]
@@ -59,19 +60,33 @@ def signal_words(it):
         entries(it.values), word(it.comment)]
 
 
+# ---- what a receiver doesn't see
+
+def bits(signal):
+    """The positions of its bits, the least significant first."""
+    return positions(signal)[::-1 if signal.motorola else 1]
+
+
+def unseen(old, new):
+    """The fields of a signal whose change alters nothing that is read: where the bits are the same from the least significant
+    on, and of a float, which has a sign of its own."""
+    return ["!start", "!size", "!order"] * (bits(old) == bits(new)) + ["!signed"] * bool(old.kind and new.kind)
+
+
 # ---- differences: whether one breaks a receiver, the name that its line has, and what has become of it
 
-def changes(fields, old, new):
-    return [(field.startswith("!"), f"{field.strip('!')} {before} -> {now}")
+def changes(fields, old, new, without=()):
+    return [(field.startswith("!") and field not in without, f"{field.strip('!')} {before} -> {now}")
             for field, before, now in zip(fields, old, new, strict=True) if before != now]
 
 
-def roster(fields, old, new, removal_breaks=False):
+def roster(fields, old, new, removal_breaks=False, without=None):
     """The differences of things, which are dictionaries from names to the words of their fields; the one of their order has
-    no name."""
+    no name. `without` has the fields by name that break nothing of those that have the name."""
     found = []
     for name, now in new.items():
-        found += [(name, *it) for it in (changes(fields, old[name], now) if name in old else [(False, "added")])]
+        parts = changes(fields, old[name], now, without[name] if without else ()) if name in old else [(False, "added")]
+        found += [(name, *it) for it in parts]
     found += [(name, removal_breaks, "removed") for name in old if name not in new]
     if [it for it in old if it in new] != [it for it in new if it in old]:
         found.append((None, False, "reordered"))
@@ -82,18 +97,18 @@ def pair(old, new):
     """The differences of a message and its partner, each with the kind of its line."""
     found = [("message", None, *it) for it in changes(MESSAGE_FIELDS, message_words(old), message_words(new))]
     signals = [{it.name: signal_words(it) for it in message.signals} for message in (old, new)]
-    return found + [("signal" if it[0] else "message", *it) for it in roster(SIGNAL_FIELDS, *signals, removal_breaks=True)]
+    before = {it.name: it for it in old.signals}
+    without = {it.name: unseen(before[it.name], it) for it in new.signals if it.name in before}
+    return found + [("signal" if it[0] else "message", *it) for it in roster(SIGNAL_FIELDS, *signals, True, without)]
 
 
 def message_differences(old, new):
-    """Lists of the differences of a message, by number, with the message whose number and name their lines have."""
-    pairs, found = partners(old, new), {}
-    for it, partner in zip(new, pairs):
-        found[it.number] = it, pair(partner, it) if partner else [("message", None, False, "added")]
-    for it, partner in zip(old, partners(new, old)):
-        if not partner:
-            found[it.number] = it, [("message", None, True, "removed")]
-    return [found[number] for number in sorted(found)]
+    """The messages whose number and name lines have, each with its differences, by number; of two of one number the one of
+    the new sheet is first."""
+    found = [(it, pair(partner, it) if partner else [("message", None, False, "added")])
+             for it, partner in zip(new, partners(old, new))]
+    found += [(it, [("message", None, True, "removed")]) for it, partner in zip(old, partners(new, old)) if not partner]
+    return sorted(found, key=lambda it: it[0].number)
 
 
 # ---- lines

@@ -81,12 +81,16 @@ class Drawn:
         return it._replace(**{field: getattr(self.message(it.number, it.name), field)})
 
     def other_numbers(self, messages):
-        """The messages with other numbers, or other names."""
+        """The messages with other numbers, or with the names of others, or one with another name."""
         numbers = sorted(self.drawn.sample(NUMBERS, len(messages)))
         names = [it.name for it in messages]
-        if self.drawn.random() < 0.5:
+        what, free = self.drawn.randrange(3), [name for name in NAMES if name not in names]
+        if what == 0:
             return [it._replace(number=number) for it, number in zip(messages, numbers)]
-        return [it._replace(name=name) for it, name in zip(messages, names[1:] + names[:1])]
+        if what == 1 or not messages:
+            return [it._replace(name=name) for it, name in zip(messages, names[1:] + names[:1])]
+        at = self.drawn.randrange(len(messages))
+        return [*messages[:at], messages[at]._replace(name=self.drawn.choice(free)), *messages[at + 1:]]
 
     def edited(self, sheet):
         what = self.drawn.randrange(7)

@@ -254,10 +254,10 @@ def fact(key, value):
 # ---- releases
 
 def partners(before, now):
-    """For each message its partner among those before: the one of its number; else of its name, where neither number is there."""
-    by_number, numbers = {it.number: it for it in before}, {it.number for it in now}
-    by_name = {it.name: it for it in before if it.number not in numbers}
-    return [by_number.get(it.number) or by_name.get(it.name) for it in now]
+    """For each message its partner among those before: the one of its name; else of its number, where neither name is there."""
+    by_name, names = {it.name: it for it in before}, {it.name for it in now}
+    by_number = {it.number: it for it in before if it.name not in names}
+    return [by_name.get(it.name) or by_number.get(it.number) for it in now]
 
 
 def counts(before, now):

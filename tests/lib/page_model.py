@@ -436,11 +436,11 @@ def goes(m):
 # ---------------------------------------------------------------- what differs
 
 def partners(a, b):
-    """(older, newer) of the newer sheet's messages that have a partner: that of the number, else that of the name if neither number is in the other"""
-    by_number, by_name, there = {m.number: m for m in a.messages}, {m.name: m for m in a.messages}, {m.number for m in b.messages}
+    """(older, newer) of the newer sheet's messages that have a partner: that of the name, else that of the number if neither name is in the other"""
+    by_name, by_number, there = {m.name: m for m in a.messages}, {m.number: m for m in a.messages}, {m.name for m in b.messages}
     out = {}
     for m in b.messages:
-        o = by_number.get(m.number) or (by_name.get(m.name) if m.name in by_name and by_name[m.name].number not in there else None)
+        o = by_name.get(m.name) or (by_number[m.number] if m.number in by_number and by_number[m.number].name not in there else None)
         if o:
             out[m.number] = (o, m)
     return out
@@ -450,21 +450,26 @@ class Changes:
     def __init__(self, a, b, lines):
         self.a, self.b, self.lines, self.pairs, self.of = a, b, lines, partners(a, b), {}
         for l in lines:
-            if l.number or l.what in ('message', 'signal'):
-                self.of.setdefault(l.number, []).append(l)
+            if l.what in ('message', 'signal'):
+                self.of.setdefault(message_of(l), []).append(l)
         old = {o.number for o, _ in self.pairs.values()}
         self.added = [m for m in b.messages if m.number not in self.pairs]
         self.removed = [m for m in a.messages if m.number not in old]
-        self.changed = sorted([self.pairs[m.number] for m in b.messages if m.number in self.pairs and m.number in self.of], key=lambda om: (-self.breaks(om[1]), om[1].number))
+        self.changed = sorted([self.pairs[m.number] for m in b.messages if m.number in self.pairs and of_line(m) in self.of], key=lambda om: (-self.breaks(om[1]), om[1].number))
         self.frame = [l for l in lines if l.what not in ('message', 'signal')]
         self.breaking = sum(l.breaks for l in lines)
     def breaks(self, m):
-        return sum(l.breaks for l in self.of.get(m.number, []))
+        return sum(l.breaks for l in self.of.get(of_line(m), []))
     def older(self, l):
-        if l.number in self.pairs:
-            return self.pairs[l.number][0]
-        return [m for m in self.a.messages if m.number == l.number][0]
+        """the message of a line as it was: the partner, or what is gone"""
+        older = [o for o, m in self.pairs.values() if of_line(m) == message_of(l)]
+        return (older or [m for m in self.a.messages if of_line(m) == message_of(l)])[0]
 
+def of_line(m):
+    """what the lines of a message have; one that is gone can have the number of another"""
+    return m.number, m.name
+def message_of(l):
+    return l.number, l.name.split('.', 1)[0]
 def signal_name(l):
     return l.name.split('.', 1)[1] if l.what == 'signal' else ''
 def field_of(l):
@@ -477,7 +482,7 @@ def must_act(c):
             m = c.older(l)
             nodes = receivers_of(m) if l.what == 'message' else [r for s in m.signals if s.name == signal_name(l) for r in s.receivers]
             for n in nodes or ['']:
-                out.setdefault(n, {}).setdefault((l.number, m.name if l.number not in c.pairs else c.pairs[l.number][1].name, signal_name(l)), []).append(field_of(l))
+                out.setdefault(n, {}).setdefault((*message_of(l), signal_name(l)), []).append(field_of(l))
     return [(n, out[n]) for n in sorted(out)]
 ACT = 'nodes that receive what breaks, as %s has it'
 def act_table(c, link):
@@ -681,7 +686,7 @@ def net_page(p, name):
             rel.setdefault(m.number, []).append(k)
     state = {**{m.number: tag('em', 'new') for m in c.added}, **{m.number: p.compare(name, o.last, 0, breaking(c.breaks(m)) if c.breaks(m) else 'changed', '#m-%d' % m.number) for _, m in c.changed}} if c else {}
     plain = {**{m.number: 'new' for m in c.added}, **{m.number: 'changed' for _, m in c.changed}} if c else {}
-    changed = {m.number: {signal_name(l) for l in c.of[m.number]} for _, m in c.changed} if c else {}
+    changed = {m.number: {signal_name(l) for l in c.of[of_line(m)]} for _, m in c.changed} if c else {}
     each = one or len(live.messages) <= EACH
     clashes, remarks, passed = (*remarks_of('-', export(name, 0))[:2], [])
     by_name = {m.name: m for m in live.messages}
@@ -694,7 +699,7 @@ def net_page(p, name):
     head = [tag('p', phase_words(p, net, o.waiting)), tag('p', since_words(p, o), ' ', DOT, ' ', remarks_line(clashes, remarks)), tag('p', bdi(live.comment)) if live.comment else None,
             tag('ul', [tag('li', tag('b', n), ' ', w if n == 1 else w + 's') for n, w in nums], cls='big')]
     to = lambda i, m: p.compare(name, o.last, 0, m, '#m-%d' % i)
-    lists = tag('ul', [tag('li', tag('b', sign, cls='cell ' + k), ' ', to(m.number, m.name), ' ', breaking(c.breaks(m)) if m and c.breaks(m) and k == 'u' else None, ' ', q(', '.join(dict.fromkeys([signal_name(l) or field_of(l) for l in c.of[m.number]])) if k == 'u' else None))
+    lists = tag('ul', [tag('li', tag('b', sign, cls='cell ' + k), ' ', to(m.number, m.name), ' ', breaking(c.breaks(m)) if m and c.breaks(m) and k == 'u' else None, ' ', q(', '.join(dict.fromkeys([signal_name(l) or field_of(l) for l in c.of[of_line(m)]])) if k == 'u' else None))
         for k, sign, ms in (('u', DIFFERS, [m for _, m in c.changed]), ('y', MINUS, c.removed), ('p', '+', c.added)) for m in ms[:200]], cls='rows') if c and c.lines else None
     since = part('since', 'Since release %d' % o.last, 'who must act: ' + ACT % ('release %d' % o.last), act_table(c, to), lists, tag('p', q(count(len(c.frame), 'difference') + ' of nodes, tables and the sheet')) if c.frame else None) if c and c.lines else None
     held = part('held', 'Held for good', None, wide('Held', table('nums', ['Number', 'DBC number'] + ['PGN'] * o.j + ['Last name', 'Releases', 'In the block of'],

@@ -419,7 +419,7 @@ COMMANDS = {
     "chart_wrong": Printing(["chart", "2", "Big=7|x"], {}, Answer(b"", b"bad word Big=7|x\n", 2)),
     "help": Printing(["--help"]),
     "help_apply": Printing(["apply", "--help"]),
-    "version": Printing(["--version"], {}, Answer(b"canoffice 0.6.0\n")),
+    "version": Printing(["--version"], {}, Answer(b"canoffice 0.7.0\n")),
     "usage": Printing(["fly"]),
     "apply": Applying(FREED_AND_HELD),
     "apply_lines": Applying(UNDER_LINES),

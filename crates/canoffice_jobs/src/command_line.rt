@@ -10,7 +10,7 @@ use clap::Command;
 use std::alloc::{AllocError, Global};
 
 /// The program's version, which `--version` prints. A crate has no manifest here, so it is kept in this line.
-const VERSION: &str = "0.6.0";
+const VERSION: &str = "0.7.0";
 
 /// The program's command line before its subcommands, one of which is required, unless the version is requested.
 fn bare_command<'a>(alloc: Global) -> Command<'a>

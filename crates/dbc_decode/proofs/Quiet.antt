@@ -22,9 +22,9 @@ use Rattle.dbc_decode.specs.Laws.{BreakingNone}
 abbrev pub Quiet : List Difference → Type 0
 Quiet ds = (d : Difference) → In d ds → breaks d ≡ false
 
--- of changes none is told
-abbrev pub NoneTold : (Alteration → Bool) → List Alteration → Type 0
-NoneTold tells cs = (c : Alteration) → In c cs → tells c ≡ false
+-- no change passes the test
+abbrev pub NonePasses : (Alteration → Bool) → List Alteration → Type 0
+NonePasses test cs = (c : Alteration) → In c cs → test c ≡ false
 
 pub quiet_left : (xs ys : List Difference) → Quiet (xs ++ ys) → Quiet xs
 quiet_left xs ys quiet d h = quiet d (in_left xs ys d h)
@@ -38,7 +38,7 @@ quiet_each f xs quiet x h d k = quiet d (in_flat f xs x d h k)
 
 pub quiet_about : (here : Region) (name : Option (List ℕ)) (cs : List Alteration)
     → Quiet (differences_about here name cs)
-    → NoneTold (is_breaking here) cs
+    → NonePasses (is_breaking here) cs
 unfolding differences_about
 quiet_about here name cs quiet c h =
     quiet (record { place = here; name = name; change = c })
@@ -61,10 +61,10 @@ breaking_none old new e d h =
 
 -- ---- fields
 
--- the change of a field is told by its mark
-abbrev pub TellsMarks : (Alteration → Bool) → Type 0
-TellsMarks tells =
-    (f : SheetField) (b : Bool) (old new : List ℕ) → tells (change.Changed f b old new) ≡ b
+-- of the change of a field the test says what its mark says
+abbrev pub IsByMark : (Alteration → Bool) → Type 0
+IsByMark test =
+    (f : SheetField) (b : Bool) (old new : List ℕ) → test (change.Changed f b old new) ≡ b
 
 -- those whose changes are marked are the same
 abbrev pub MarkedSame : (SheetField → Bool) → List Valued → List Valued → Type 0
@@ -72,8 +72,8 @@ MarkedSame marks [] ys = Unit {0}
 MarkedSame marks (x ∷ xs) [] = Unit {0}
 MarkedSame marks (x ∷ xs) (y ∷ ys) = (marks x.0 ≡ true → x.1 ≡ y.1) × MarkedSame marks xs ys
 
-module _ (tells : Alteration → Bool) (by_mark : TellsMarks tells) where
-  field_same : (f : SheetField) (b : Bool) (x y : Value) → NoneTold tells (field_changes f b x y) → b ≡ true → x ≡ y
+module _ (test : Alteration → Bool) (by_mark : IsByMark test) where
+  field_same : (f : SheetField) (b : Bool) (x y : Value) → NonePasses test (field_changes f b x y) → b ≡ true → x ≡ y
   unfolding field_changes
   field_same f b x y none marked = by_test (cases_Bool (same_value x y))
     where
@@ -87,7 +87,7 @@ module _ (tells : Alteration → Bool) (by_mark : TellsMarks tells) where
           subst (λ cs. In told cs) (sym (cond-false (same_value x y) [] (told ∷ []) n)) (in_first told told [] refl) in
           absurd (both_ways b (sym (by_mark f b (value_text x) (value_text y)) ∙ none told there) marked)
 
-  pub fields_same : (marks : SheetField → Bool) (xs ys : List Valued) → NoneTold tells (changes_between marks xs ys)
+  pub fields_same : (marks : SheetField → Bool) (xs ys : List Valued) → NonePasses test (changes_between marks xs ys)
       → MarkedSame marks xs ys
   fields_same marks [] ys none = tt
   fields_same marks (x ∷ xs) [] none = tt
@@ -107,7 +107,7 @@ found_if_any name xs n has None e =
 found_if_any name xs n has (Some x) e = (x, e)
 
 not_gone : (here : Region) (b : Bool) → is_breaking here change.Removed ≡ true
-    → NoneTold (is_breaking here) (change_if (not b) change.Removed) → b ≡ true
+    → NonePasses (is_breaking here) (change_if (not b) change.Removed) → b ≡ true
 not_gone here true removed quiet = refl
 not_gone here false removed quiet =
     absurd (both_ways (is_breaking here change.Removed)
@@ -118,10 +118,10 @@ module _ {A : Type 0} (name : A → List ℕ) (changes : A → A → List Altera
   pub things_quiet : (here : Region) → is_breaking here change.Removed ≡ true → (old new : List A)
       → AreNamedApart name old
       → Quiet (thing_differences here name changes old new) → (x : A) → In x old
-      → (y : A) × In y new × (name y ≡ name x) × NoneTold (is_breaking here) (changes x y)
+      → (y : A) × In y new × (name y ≡ name x) × NonePasses (is_breaking here) (changes x y)
   unfolding thing_differences
   things_quiet here removed old new apart quiet x h =
-      let gone : NoneTold (is_breaking here) (change_if (not (has_name name new (name x))) change.Removed) =
+      let gone : NonePasses (is_breaking here) (change_if (not (has_name name new (name x))) change.Removed) =
       quiet_about here (Some (name x)) _
       (quiet_each (gone_thing here name new) old
       (quiet_left (flat_map (gone_thing here name new) old) _
@@ -130,13 +130,13 @@ module _ {A : Type 0} (name : A → List ℕ) (changes : A → A → List Altera
       let found = found_if_any name new (name x) has (thing_named name new (name x)) refl in
       let y : A = found.0 in
       let it = found_named name new (name x) y found.1 in
-      let shown : NoneTold (is_breaking here) (changes_since changes (thing_named name old (name y)) y) =
+      let shown : NonePasses (is_breaking here) (changes_since changes (thing_named name old (name y)) y) =
       quiet_about here (Some (name y)) _
       (quiet_each (shown_thing here name changes old) new
       (quiet_left (flat_map (shown_thing here name changes old) new) _ quiet) y it.0) in (
         y,
         it.0,
         it.1,
-        subst (λ (o : Option A). NoneTold (is_breaking here) (changes_since changes o y))
+        subst (λ (o : Option A). NonePasses (is_breaking here) (changes_since changes o y))
             (found_self name old apart x h (name y) (sym it.1)) shown,
       )

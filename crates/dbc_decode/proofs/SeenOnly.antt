@@ -19,7 +19,7 @@ use Rattle.dbc_decode.specs.Decoding.{Coding, Reading, Signed, Single, Twofold, 
 use Rattle.dbc_decode.specs.Decoding.{coding_by, coding_of, raw_by}
 use Rattle.dbc_decode.specs.Laws.{IsPayload}
 use Rattle.dbc_decode.specs.Marks.{MarkedIsRead, ReadIsUnmarked, ReadsAs, is_marked}
-use Rattle.dbc_decode.proofs.Quiet.{MarkedSame, NoneTold, TellsMarks}
+use Rattle.dbc_decode.proofs.Quiet.{MarkedSame, NonePasses, IsByMark}
 use Rattle.dbc_decode.proofs.Seen.{bits_decide}
 use Rattle.dbc_decode.proofs.Signed.{SameSigned, mixed_told, signed_told}
 use Rattle.dbc_decode.proofs.Sizes.{AreApart, are_apart, sizes_told}
@@ -58,11 +58,11 @@ sign_coded t u x y e i =
 
 -- ---- no change is marked
 
--- of fields that are the same where their changes are marked, none is told
-module _ (tells : Alteration → Bool) (by_mark : TellsMarks tells) where
-  field_untold : (f : SheetField) (b : Bool) (x y : Value) → (b ≡ true → x ≡ y) → NoneTold tells (field_changes f b x y)
+-- where the fields are the same whose changes are marked, no change passes the test
+module _ (test : Alteration → Bool) (by_mark : IsByMark test) where
+  field_unmarked : (f : SheetField) (b : Bool) (x y : Value) → (b ≡ true → x ≡ y) → NonePasses test (field_changes f b x y)
   unfolding field_changes
-  field_untold f b x y same c h = by_test (cases_Bool (same_value x y))
+  field_unmarked f b x y same c h = by_test (cases_Bool (same_value x y))
     where
       told : Alteration
       told = change.Changed f b (value_text x) (value_text y)
@@ -71,25 +71,25 @@ module _ (tells : Alteration → Bool) (by_mark : TellsMarks tells) where
       unmarked n (inl t) = absurd (both_ways (same_value x y) n ((value_decides x y).1 (same t)))
       unmarked n (inr f) = f
 
-      by_test : (same_value x y ≡ true) ⊎ (same_value x y ≡ false) → tells c ≡ false
+      by_test : (same_value x y ≡ true) ⊎ (same_value x y ≡ false) → test c ≡ false
       by_test (inl t) =
           absurd (none_if_empty [] refl c (subst (λ cs. In c cs) (cond-true (same_value x y) [] (told ∷ []) t) h))
       by_test (inr n) =
           let it : c ≡ told = in_alone c told
           (subst (λ cs. In c cs) (cond-false (same_value x y) [] (told ∷ []) n) h) in
-          ap tells it ∙ by_mark f b (value_text x) (value_text y) ∙ unmarked n (cases_Bool b)
+          ap test it ∙ by_mark f b (value_text x) (value_text y) ∙ unmarked n (cases_Bool b)
 
-  fields_untold : (marks : SheetField → Bool) (xs ys : List Valued) → MarkedSame marks xs ys
-      → NoneTold tells (changes_between marks xs ys)
-  fields_untold marks [] ys same c h = absurd (none_if_empty [] refl c h)
-  fields_untold marks (x ∷ xs) [] same c h = absurd (none_if_empty [] refl c h)
-  fields_untold marks (x ∷ xs) (y ∷ ys) same c h =
+  fields_unmarked : (marks : SheetField → Bool) (xs ys : List Valued) → MarkedSame marks xs ys
+      → NonePasses test (changes_between marks xs ys)
+  fields_unmarked marks [] ys same c h = absurd (none_if_empty [] refl c h)
+  fields_unmarked marks (x ∷ xs) [] same c h = absurd (none_if_empty [] refl c h)
+  fields_unmarked marks (x ∷ xs) (y ∷ ys) same c h =
       by_place (in_either (field_changes x.0 (marks x.0) x.1 y.1) (changes_between marks xs ys) c h)
-      (fields_untold marks xs ys same.1 c)
+      (fields_unmarked marks xs ys same.1 c)
     where
       by_place : In c (field_changes x.0 (marks x.0) x.1 y.1) ⊎ In c (changes_between marks xs ys)
-          → (In c (changes_between marks xs ys) → tells c ≡ false) → tells c ≡ false
-      by_place (inl here) rest = field_untold x.0 (marks x.0) x.1 y.1 same.0 c here
+          → (In c (changes_between marks xs ys) → test c ≡ false) → test c ≡ false
+      by_place (inl here) rest = field_unmarked x.0 (marks x.0) x.1 y.1 same.0 c here
       by_place (inr later) rest = rest later
 
 module _ (a b : Signal) where
@@ -99,7 +99,7 @@ module _ (a b : Signal) where
   never : {A : Type 0} → false ≡ true → A
   never e = absurd (false≢true e)
 
-  -- the type of both is told by the coding
+  -- one coding has one type, so the sign counts in both or in neither
   by_sign : ReadsAs a b → (is_integer a.value_type || is_integer b.value_type) ≡ true → a.signed ≡ b.signed
   by_sign like t = by_type (cases_Bool (is_integer a.value_type))
     where
@@ -132,7 +132,7 @@ module _ (a b : Signal) where
 
 pub read_unmarked : ReadIsUnmarked
 read_unmarked a b like c h =
-    fields_untold is_marked (λ f b old new. refl) (signal_breaks a b) (signal_fields a) (signal_fields b)
+    fields_unmarked is_marked (λ f b old new. refl) (signal_breaks a b) (signal_fields a) (signal_fields b)
     (all_same a b like) c (in_from (signal_changes a b) c h)
 
 -- ---- what readings tell

@@ -30,7 +30,7 @@ use Rattle.dbc_decode.specs.Decoding.{Reading, chosen, pattern_in, read}
 use Rattle.dbc_decode.specs.Laws.{IsReadAs, IsTheSame, NoneBreaks, Serves, UnmarkedIsRead}
 use Rattle.dbc_decode.specs.Marks.{ReadsAs}
 use Rattle.dbc_decode.proofs.Alike.{both_there, chosen_alike, meant_alike, read_alike}
-use Rattle.dbc_decode.proofs.Quiet.{MarkedSame, Quiet, TellsMarks, fields_same, quiet_about, quiet_left, quiet_right}
+use Rattle.dbc_decode.proofs.Quiet.{MarkedSame, Quiet, IsByMark, fields_same, quiet_about, quiet_left, quiet_right}
 use Rattle.dbc_decode.proofs.Quiet.{things_quiet}
 use Rattle.dbc_decode.proofs.Seen.{signal_same}
 
@@ -55,7 +55,7 @@ removed_there m = in_first _ _ [] refl
 
 module _ (m p : Message) (keep_m : KeepsMessage m) (keep_p : KeepsMessage p)
     (quiet : Quiet (pair_differences m p)) where
-  here_marks : TellsMarks (is_breaking (between m p))
+  here_marks : IsByMark (is_breaking (between m p))
   here_marks f b old new = refl
 
   own_quiet : MarkedSame message_breaks (message_fields m) (message_fields p)

@@ -24,7 +24,7 @@ pub record Frame : Type 0 where
 
 -- ---- bits
 
--- the bit at a position, 0 or 1; past the payload there is none, and it is read as 0
+-- the bit at a position: 0 or 1, and 0 at a position past the payload
 unfoldable pub payload_bit : List ℕ → ℕ → ℕ
 payload_bit payload p = bit_at (get_or payload (p / 8) 0) (p % 8)
 
